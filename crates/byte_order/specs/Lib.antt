@@ -1,0 +1,2 @@
+-- The meaning of the order of byte strings.
+pub mod Order

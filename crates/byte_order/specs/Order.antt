@@ -1,0 +1,60 @@
+-- The order of byte strings: unsigned bytes are compared one after the other, and a proper beginning comes first.
+use Prim.Native.Nat.{ℕ, suc, _<_, compare, Ordering, Ordering·lt, Ordering·eq, Ordering·gt}
+use mathlib.Core.Bool.{Bool, true, false, not, _&&_, cond}
+use mathlib.Core.List.{List, [], _∷_}
+use lib.Dec.{eqb}
+use lib.IntN.{ℤ, pos, negsuc}
+
+-- every element is a byte
+unfoldable pub AreBytes : List ℕ → Type 0
+AreBytes [] = Unit {0}
+AreBytes (b ∷ s) = (b < 256) × AreBytes s
+
+-- the first comparison decides; where it finds no difference, the second does
+unfoldable pub orElse : Ordering → Ordering → Ordering
+orElse Ordering·lt next = Ordering·lt
+orElse Ordering·eq next = next
+orElse Ordering·gt next = Ordering·gt
+
+-- how x compares with y
+unfoldable pub order : List ℕ → List ℕ → Ordering
+order [] [] = Ordering·eq
+order [] (y ∷ ys) = Ordering·lt
+order (x ∷ xs) [] = Ordering·gt
+order (x ∷ xs) (y ∷ ys) = orElse (compare x y) (order xs ys)
+
+-- the paper's answer: minus one, zero or plus one
+unfoldable pub signed : Ordering → ℤ
+signed Ordering·lt = negsuc 0
+signed Ordering·eq = pos 0
+signed Ordering·gt = pos 1
+
+unfoldable pub isLess : Ordering → Bool
+isLess Ordering·lt = true
+isLess Ordering·eq = false
+isLess Ordering·gt = false
+
+unfoldable pub isMore : Ordering → Bool
+isMore Ordering·lt = false
+isMore Ordering·eq = false
+isMore Ordering·gt = true
+
+-- x comes before y
+unfoldable pub less : List ℕ → List ℕ → Bool
+less x y = isLess (order x y)
+
+-- x comes before y or is y
+unfoldable pub atMost : List ℕ → List ℕ → Bool
+atMost x y = not (isMore (order x y))
+
+-- x begins with p
+unfoldable pub begins : List ℕ → List ℕ → Bool
+begins [] x = true
+begins (p ∷ ps) [] = false
+begins (p ∷ ps) (x ∷ xs) = eqb p x && begins ps xs
+
+-- how many leading bytes of x and y agree
+unfoldable pub agreeing : List ℕ → List ℕ → ℕ
+agreeing [] y = 0
+agreeing (x ∷ xs) [] = 0
+agreeing (x ∷ xs) (y ∷ ys) = cond (eqb x y) (suc (agreeing xs ys)) 0

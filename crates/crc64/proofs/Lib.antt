@@ -1,0 +1,2 @@
+-- Laws of the CRC-64 checksum.
+pub mod Crc64Laws

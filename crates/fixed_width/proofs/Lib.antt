@@ -1,0 +1,2 @@
+-- Laws of numbers of a fixed width.
+pub mod FixedWidthLaws

@@ -1,0 +1,2 @@
+-- The meaning of numbers of a fixed width.
+pub mod FixedWidth

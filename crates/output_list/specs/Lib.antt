@@ -1,0 +1,2 @@
+-- The meaning of a lent list of answers.
+pub mod OutputList

@@ -1,0 +1,2 @@
+-- The proofs of what specs/ claims.
+pub mod Examples

@@ -1,0 +1,2 @@
+-- The meaning of a number of the format.
+pub mod Number
