@@ -1,8 +1,10 @@
 -- A lent list of 64-bit numbers (the paper's opened, result and work lists): the numbers put, in order, at its front, and
 -- zeros behind them.
-use Prim.Native.Nat.{ℕ, _-_}
+use Prim.Native.Nat.{ℕ, _+_, _-_, _*_}
+use mathlib.Core.Bool.{Bool, cond}
 use mathlib.Core.List.{List, [], _++_}
-use lib.ListN.{length, replicate}
+use lib.Dec.{leb}
+use lib.ListN.{length, set, replicate}
 
 -- a list of `room` places that holds these numbers at the front and zeros behind
 unfoldable pub padded : ℕ → List ℕ → List ℕ
@@ -11,3 +13,11 @@ padded room numbers = numbers ++ replicate (room - length numbers) 0
 -- a list of `room` places that holds nothing but zeros
 unfoldable pub zeros : ℕ → List ℕ
 zeros room = padded room []
+
+-- there is room for a pair behind `count` pairs
+unfoldable pub hasRoom : List ℕ → ℕ → Bool
+hasRoom list count = leb (2 * count + 2) (length list)
+
+-- the list with a pair stored behind `count` pairs, where there is room, or as it is
+unfoldable pub withPair : List ℕ → (count first second : ℕ) → List ℕ
+withPair list count first second = cond (hasRoom list count) (set (set list (2 * count) first) (2 * count + 1) second) list

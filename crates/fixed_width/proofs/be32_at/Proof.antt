@@ -32,7 +32,7 @@ big-requires : tie.Need-big-requires
 big-requires c κs = search needs
 
 whole : (c : tie.After-big)
-    → c .big .result ≡ bigEndian (take 4 (drop (c .before .before .before .before .before .args .at) (c .before .before .before .before .before .args .s .now)))
+    → (let a = c .before .before .before .before .before .args in c .big .result ≡ bigEndian (take 4 (drop (a .at) (a .s .now))))
 whole c = let a = c .before .before .before .before .before .args in c .big .ensures ∙ ap bigEndian (part-whole (a .s .now) (a .at) 4)
 
 cast-result : tie.Need-cast-result
@@ -56,7 +56,7 @@ big-requires-2 : tie.Need-big-requires-2
 big-requires-2 c κs = search needs
 
 rest : (c : tie.After-big2)
-    → c .big2 .result ≡ bigEndian (take 4 (drop (c .before .before .before .before .before .args .at) (c .before .before .before .before .before .args .s .now)))
+    → (let a = c .before .before .before .before .before .args in c .big2 .result ≡ bigEndian (take 4 (drop (a .at) (a .s .now))))
 rest c = let a = c .before .before .before .before .before .args in c .big2 .ensures ∙ ap bigEndian (part-rest (a .s .now) (a .at) 4 (omega arith))
 
 cast-result-2 : tie.Need-cast-result-2

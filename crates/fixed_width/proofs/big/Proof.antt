@@ -1,12 +1,12 @@
 -- The loop's invariant: the value is the number of the bytes before `i`. It stays below 256 ^ i, so one byte more fits.
-use Prim.Native.Nat.{ℕ, _≤_, _<_, _-_, _^_}
 use mathlib.Core.Path.{_≡_, ap, _∙_}
+use Prim.Native.Nat.{_≤_, _<_, _-_, _^_}
 use native.Mathlib.Omega.{arith}
 use borrow.Author.Needs.{needs}
 use lib.ListN.{length, take}
 use lib.Seq.{take-all}
 use Rattle.fixed_width.specs.FixedWidth.{littleEndian, bigEndian}
-use Rattle.fixed_width.proofs.FixedWidthLaws.{bigEndian-take-lt, bigEndian-take-more}
+use Rattle.fixed_width.proofs.FixedWidthLaws.{Bytes, bigEndian-take-lt, bigEndian-take-more}
 use Rattle.fixed_width.proofs.big.Statement.{statement}
 use Rattle.fixed_width.proofs.big.Tie as tie
 
@@ -24,7 +24,8 @@ loop-holds c = search needs
 room : (c : tie.In-loop Inv-loop μ-loop) → c .before .loop .value < 256 ^ 7
 room c =
     let part = c .before .before .before .args .part .now in
-    rw (c .before .loop .inv .1) (bigEndian-take-lt 7 part (λ (k : ℕ) _. c .before .before .shared-slice-known .given k .fits) (c .before .loop .i) (omega arith))
+    let bytes : Bytes part = λ k _. c .before .before .shared-slice-known .given k .fits in
+    rw (c .before .loop .inv .1) (bigEndian-take-lt 7 part bytes (c .before .loop .i) (omega arith))
 
 mul-value : tie.Need-mul-value Inv-loop μ-loop
 mul-value c = omega (arith, room c)

@@ -1,13 +1,13 @@
 -- The loop's invariant: the value is the number of the bytes from `i` on. Fewer than 8 of them leave room for one more.
-use Prim.Native.Nat.{ℕ, _≤_, _<_, _-_, _^_}
 use mathlib.Core.Path.{_≡_, ap, _∙_}
+use Prim.Native.Nat.{ℕ, _≤_, _<_, _-_, _^_}
 use native.Mathlib.Omega.{arith}
 use native.Mathlib.Nat.{le-refl}
 use borrow.Author.Needs.{needs}
 use lib.Arith.{le-zero}
 use lib.ListN.{length, drop, drop-of-length-le}
 use Rattle.fixed_width.specs.FixedWidth.{littleEndian}
-use Rattle.fixed_width.proofs.FixedWidthLaws.{littleEndian-drop-lt, littleEndian-drop-less}
+use Rattle.fixed_width.proofs.FixedWidthLaws.{Bytes, littleEndian-drop-lt, littleEndian-drop-less}
 use Rattle.fixed_width.proofs.little.Statement.{statement}
 use Rattle.fixed_width.proofs.little.Tie as tie
 
@@ -30,7 +30,8 @@ sub-i c = search needs
 room : (c : tie.In-loop Inv-loop μ-loop) → c .before .loop .value < 256 ^ 7
 room c =
     let part = c .before .before .before .args .part .now in
-    rw (c .before .loop .inv .1) (littleEndian-drop-lt 7 part (λ (k : ℕ) _. c .before .before .shared-slice-known .given k .fits) (c .before .loop .i) (omega arith))
+    let bytes : Bytes part = λ k _. c .before .before .shared-slice-known .given k .fits in
+    rw (c .before .loop .inv .1) (littleEndian-drop-lt 7 part bytes (c .before .loop .i) (omega arith))
 
 mul-value : tie.Need-mul-value Inv-loop μ-loop
 mul-value c = omega (arith, room c)
