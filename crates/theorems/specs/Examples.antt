@@ -2,24 +2,32 @@
 use Prim.Native.Nat.{ℕ, _-_, _^_}
 use mathlib.Core.List.{List, [], _∷_, map}
 use mathlib.Core.Path.{_≡_}
+use mathlib.Core.Bool.{Bool, true, false}
+use mathlib.Core.Option.{Option, none, some}
 use lib.IntN.{ℤ, pos, negsuc}
 use Rattle.uleb128.specs.Number.{Reading, number, refused, reading}
 use Rattle.byte_order.specs.Order.{order, signed}
+use Rattle.query.specs.Query.{Query}
+use Rattle.query.specs.Opening.{mayMatch}
 
 pub data Question : Type 0 where
   -- the number at the front of these bytes
   numberOf : List ℕ → Question
   -- the first byte string against the second
   comparisonOf : List ℕ → List ℕ → Question
+  -- whether a block with this lower bound and this upper bound, or none, is opened for a query
+  openingOf : List ℕ → Option (List ℕ) → Query → Question
 
 pub data Answer : Type 0 where
   isNumber : Reading → Answer
   isComparison : ℤ → Answer
+  isOpened : Bool → Answer
 
 -- what the definitions answer
 unfoldable pub answered : Question → Answer
 answered (numberOf s) = isNumber (reading s)
 answered (comparisonOf x y) = isComparison (signed (order x y))
+answered (openingOf lower upper q) = isOpened (mayMatch lower upper q)
 
 pub record Example : Type 0 where
   pub question : Question
@@ -43,6 +51,11 @@ table =
     ∷ (comparisonOf [] (0x00 ∷ []) gives isComparison (negsuc 0))
     ∷ (comparisonOf (0x61 ∷ []) (0x61 ∷ 0x00 ∷ []) gives isComparison (negsuc 0))
     ∷ (comparisonOf (0x80 ∷ []) (0x7f ∷ []) gives isComparison (pos 1))
+    -- P11 to P14: opening
+    ∷ (openingOf (0x61 ∷ []) (some (0x62 ∷ [])) (record { start = 0x62 ∷ []; stop = none; prefix = [] }) gives isOpened true)
+    ∷ (openingOf (0x63 ∷ []) none (record { start = []; stop = some (0x63 ∷ []); prefix = [] }) gives isOpened false)
+    ∷ (openingOf (0x61 ∷ []) (some (0x63 ∷ [])) (record { start = []; stop = none; prefix = 0x62 ∷ [] }) gives isOpened true)
+    ∷ (openingOf (0xff ∷ []) none (record { start = []; stop = none; prefix = 0xff ∷ 0xff ∷ [] }) gives isOpened true)
     ∷ []
 
 -- the definitions answer every question of the table as the paper does

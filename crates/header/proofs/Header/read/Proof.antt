@@ -1,0 +1,118 @@
+-- `Header::read` meets its contract: each return is one refusal of the definition, with the tests before it passed.
+-- Assumes nothing.
+use mathlib.Core.Path.{_≡_, sym, _∙_}
+use mathlib.Core.Bool.{true}
+use borrow.Author.Needs.{needs}
+use borrow.Author.Tests.{not-true, not-false}
+use Rattle.header.specs.Header.{magic, unfinishedMagic, holdsHeader, headerCrcRight, holdsMetadata, meaning}
+use Rattle.header.proofs.RuleLaws.{header-long, header-unfinished, header-magic, Opened, header-cut, header-crc, header-room, header-fields}
+use Rattle.header.proofs.Header.read.Statement.{statement}
+use Rattle.header.proofs.Header.read.Tie as tie
+
+returns : tie.Need-returns
+unfolding meaning
+returns c = sym (header-long _ (c .if1 .taken))
+
+slice-aggregate-begins-with : tie.Need-slice-aggregate-begins-with
+slice-aggregate-begins-with c = search needs
+
+begins-with-requires : tie.Need-begins-with-requires
+begins-with-requires c κs = search needs
+
+returns-2 : tie.Need-returns-2
+unfolding meaning unfinishedMagic
+returns-2 c = sym (header-unfinished _ (c .before .before .before .if1 .left) (sym (c .before .begins-with .ensures) ∙ c .if2 .taken))
+
+slice-aggregate-begins-with-2 : tie.Need-slice-aggregate-begins-with-2
+slice-aggregate-begins-with-2 c = search needs
+
+begins-with-requires-2 : tie.Need-begins-with-requires-2
+begins-with-requires-2 c κs = search needs
+
+returns-3 : tie.Need-returns-3
+unfolding meaning unfinishedMagic magic
+returns-3 c =
+    let b = c .before .before .before in
+    sym
+    (header-magic _ (b .before .before .before .if1 .left) (sym (b .before .begins-with .ensures) ∙ b .if2 .left)
+    (sym (c .before .begins-with2 .ensures) ∙ not-true _ (c .if3 .taken)))
+
+-- the refusals 1 to 3 are past
+opened : (c : tie.Else3) → Opened (c .before .before .before .before .before .before .before .before .args .file .now)
+unfolding unfinishedMagic magic
+opened c =
+    let b = c .before .before .before in
+    record {
+      small = b .before .before .before .if1 .left;
+      finished = sym (b .before .begins-with .ensures) ∙ b .if2 .left;
+      opens = sym (c .before .begins-with2 .ensures) ∙ not-false _ (c .if3 .left);
+    }
+
+holds-header-requires : tie.Need-holds-header-requires
+holds-header-requires c κs = search needs
+
+returns-4 : tie.Need-returns-4
+unfolding meaning
+returns-4 c = sym (header-cut _ (opened (c .before .before)) (sym (c .before .holds-header .ensures) ∙ not-true _ (c .if4 .taken)))
+
+-- the header data lie within the file
+held : (c : tie.Else4) → holdsHeader (c .before .before .before .before .before .before .before .before .before .before .args .file .now) ≡ true
+held c = sym (c .before .holds-header .ensures) ∙ not-false _ (c .if4 .left)
+
+crc-right-requires : tie.Need-crc-right-requires
+crc-right-requires c κs = held c
+
+returns-5 : tie.Need-returns-5
+unfolding meaning
+returns-5 c =
+    sym
+    (header-crc _ (opened (c .before .before .before .before)) (held (c .before .before))
+    (sym (c .before .crc-right .ensures) ∙ not-true _ (c .if5 .taken)))
+
+-- their CRC is right
+right : (c : tie.Else5) → headerCrcRight (c .before .before .before .before .before .before .before .before .before .before .before .before .args .file .now) ≡ true
+right c = sym (c .before .crc-right .ensures) ∙ not-false _ (c .if5 .left)
+
+holds-metadata-requires : tie.Need-holds-metadata-requires
+holds-metadata-requires c κs = search needs
+
+returns-6 : tie.Need-returns-6
+unfolding meaning
+returns-6 c =
+    let b = c .before .before in
+    sym
+    (header-room _ (opened (b .before .before .before .before)) (held (b .before .before)) (right b)
+    (sym (c .before .holds-metadata .ensures) ∙ not-true _ (c .if6 .taken)))
+
+-- they hold the fields and the metadata
+room : (c : tie.Else6) → holdsMetadata (c .before .before .before .before .before .before .before .before .before .before .before .before .before .before .args .file .now) ≡ true
+room c = sym (c .before .holds-metadata .ensures) ∙ not-false _ (c .if6 .left)
+
+fields-requires : tie.Need-fields-requires
+fields-requires c κs = (held (c .before .before .before .before), room c)
+
+returns-7 : tie.Need-returns-7
+returns-7 c =
+    let b = c .before .before .before in
+    c .fields .ensures ∙
+    sym (header-fields _ (opened (b .before .before .before .before)) (held (b .before .before)) (right b) (room (c .before)))
+
+pub read-spec : {M : Type 1} → statement M
+read-spec =
+    tie.close
+    (tie.spec
+    returns
+    slice-aggregate-begins-with
+    begins-with-requires
+    returns-2
+    slice-aggregate-begins-with-2
+    begins-with-requires-2
+    returns-3
+    holds-header-requires
+    returns-4
+    crc-right-requires
+    returns-5
+    holds-metadata-requires
+    returns-6
+    fields-requires
+    returns-7)

@@ -1,0 +1,215 @@
+-- Laws of the header for its callers: what an accepted header says, that it depends on nothing behind it, and which
+-- refusals there are.
+-- Assumes nothing.
+use mathlib.Core.Path.{_≡_, refl, sym, ap, _∙_}
+use mathlib.Core.Bool.{Bool, true, false, _&&_}
+use mathlib.Core.List.{List, [], _∷_}
+use Prim.Native.Nat.{ℕ, zero, suc, _+_, _-_, _^_, _≤_}
+use native.Mathlib.Nat.{le-of-suc-le-suc, not-suc-le-zero}
+use native.Mathlib.Omega.{arith}
+use lib.Dec.{eqb, lit≤}
+use lib.ListN.{length, take, drop}
+use borrow.Author.Tests.{leb-true, eqb-true, not-true}
+use Rattle.byte_order.specs.Order.{begins}
+use Rattle.fixed_width.specs.FixedWidth.{littleEndian}
+use Rattle.outcome.specs.Outcome.{Outcome, answer, refused, _>>_, must}
+use Rattle.outcome.specs.Items.{part}
+use Rattle.outcome.proofs.OutcomeLaws.{kept, broken, kept⁻¹, answer-injective, answer-not-refused}
+use Rattle.outcome.proofs.PartLaws.{drop-take, part-take}
+use Rattle.header.specs.declared.Header.{Header}
+use Rattle.header.specs.declared.HeaderOutcome.the-variants.{Good, Bad}
+use Rattle.header.specs.Header.{magic, unfinishedMagic, codecNone, numberAt, isMetadata, H, M, headerCrcRight, fieldsOf, headerOf, blocksFrom, meaning}
+use Rattle.header.proofs.RuleLaws.{holdsHeader⁻¹, holdsHeader-of, holdsMetadata⁻¹, holdsMetadata-of, numbersOf, fields-good, header-fields}
+
+-- ---- what an answer of `Header::read` says
+
+pub good-header : (file : List ℕ) (h : Header) → meaning (Good h) ≡ headerOf file → headerOf file ≡ answer h
+unfolding meaning
+good-header file h e = sym e
+
+pub bad-header : (file : List ℕ) (number : ℕ) → meaning (Bad number) ≡ headerOf file → headerOf file ≡ refused number 0
+unfolding meaning
+bad-header file number e = sym e
+
+-- ---- an accepted header
+
+-- what an accepted header says of the file, and its numbers
+pub record IsHeader (file : List ℕ) (h : Header) : Type 0 where
+  pub small : length file ≤ 2 ^ 30
+  pub finished : begins unfinishedMagic file ≡ false
+  pub opens : begins magic file ≡ true
+  pub long : 16 ≤ length file
+  pub whole : 24 + H file ≤ length file
+  pub crc : headerCrcRight file ≡ true
+  pub fields : 80 ≤ H file
+  pub room : M file ≤ H file - 80
+  pub codec : begins codecNone (drop 72 file) ≡ true
+  pub total : numberAt file 32 ≡ length file
+  pub metadata-rule : isMetadata (part file 96 (M file)) ≡ true
+  pub is-extent : h .extent ≡ H file
+  pub is-root : h .root ≡ numberAt file 16
+  pub is-rootsize : h .rootsize ≡ numberAt file 24
+  pub is-metadata : h .metadata ≡ M file
+
+-- a header is its four numbers
+same-numbers : (file : List ℕ) (h : Header) → h .extent ≡ H file → h .root ≡ numberAt file 16 → h .rootsize ≡ numberAt file 24 → h .metadata ≡ M file
+    → numbersOf file ≡ h
+unfolding numbersOf
+same-numbers file h e r s m = rw (← e, ← r, ← s, ← m)
+
+-- an accepted header taken apart
+pub is-header : (file : List ℕ) (h : Header) → headerOf file ≡ answer h → IsHeader file h
+unfolding headerOf fieldsOf
+is-header file h e =
+    let a = kept⁻¹ _ _ _ _ h e in
+    let b = kept⁻¹ _ _ _ _ h (a .1) in
+    let c = kept⁻¹ _ _ _ _ h (b .1) in
+    let d = kept⁻¹ _ _ _ _ h (c .1) in
+    let f = kept⁻¹ _ _ _ _ h (d .1) in
+    let g = kept⁻¹ _ _ _ _ h (f .1) in
+    let i = kept⁻¹ _ _ _ _ h (g .1) in
+    let j = kept⁻¹ _ _ _ _ h (i .1) in
+    let k = kept⁻¹ _ _ _ _ h (j .1) in
+    let n = answer-injective _ h (k .1) in
+    let held = holdsHeader⁻¹ file (d .0) in
+    let room = holdsMetadata⁻¹ file (g .0) in
+    record {
+      small = leb-true (length file) (2 ^ 30) (a .0);
+      finished = not-true (begins unfinishedMagic file) (b .0);
+      opens = c .0;
+      long = held .0;
+      whole = held .1;
+      crc = f .0;
+      fields = room .0;
+      room = room .1;
+      codec = i .0;
+      total = eqb-true (numberAt file 32) (length file) (j .0);
+      metadata-rule = k .0;
+      is-extent = sym (ap (λ (x : Header). x .extent) n);
+      is-root = sym (ap (λ (x : Header). x .root) n);
+      is-rootsize = sym (ap (λ (x : Header). x .rootsize) n);
+      is-metadata = sym (ap (λ (x : Header). x .metadata) n);
+    }
+
+-- and the other way round
+pub header-is : (file : List ℕ) (h : Header) → IsHeader file h → headerOf file ≡ answer h
+header-is file h i =
+    header-fields file (record { small = i .small; finished = i .finished; opens = i .opens })
+    (holdsHeader-of file (i .long) (i .whole)) (i .crc) (holdsMetadata-of file (i .fields) (i .room)) ∙
+    fields-good file (i .codec) (i .total) (i .metadata-rule) ∙
+    ap answer (same-numbers file h (i .is-extent) (i .is-root) (i .is-rootsize) (i .is-metadata))
+
+-- ---- the blocks begin behind the header data and their CRC, within the file
+
+pub blocks-from : (file : List ℕ) (h : Header) → headerOf file ≡ answer h → blocksFrom h ≡ 24 + H file
+unfolding blocksFrom
+blocks-from file h e = ap (_+_ 24) (is-header file h e .is-extent)
+
+pub blocks-within : (file : List ℕ) (h : Header) → headerOf file ≡ answer h → blocksFrom h ≤ length file
+blocks-within file h e = rw (blocks-from file h e) (is-header file h e .whole)
+
+-- ---- the header depends on nothing behind it
+
+-- whether a list begins with p is seen in a front that is as long as p
+pub begins-front : (p s : List ℕ) (n : ℕ) → length p ≤ n → begins p (take n s) ≡ begins p s
+unfolding begins
+begins-front [] s n h = refl
+begins-front (a ∷ p) s zero h = absurd (not-suc-le-zero h)
+begins-front (a ∷ p) [] (suc n) h = refl
+begins-front (a ∷ p) (b ∷ s) (suc n) h = ap (_&&_ (eqb a b)) (begins-front p s n (le-of-suc-le-suc h))
+
+-- two files with the same bytes up to an end: what lies in front of it is the same
+module _ (file t : List ℕ) (end : ℕ) (same : take end t ≡ take end file) where
+  pub part-same : (at n : ℕ) → at + n ≤ end → part t at n ≡ part file at n
+  part-same at n h = sym (part-take t end at n h) ∙ ap (λ (l : List ℕ). part l at n) same ∙ part-take file end at n h
+
+  pub begins-same : (p : List ℕ) (at : ℕ) → at + length p ≤ end → begins p (drop at t) ≡ begins p (drop at file)
+  begins-same p at h = front t ∙ ap (begins p) cut ∙ sym (front file)
+    where
+      front : (l : List ℕ) → begins p (drop at l) ≡ begins p (take (end - at) (drop at l))
+      front l = sym (begins-front p (drop at l) (end - at) (omega arith))
+
+      cut : take (end - at) (drop at t) ≡ take (end - at) (drop at file)
+      cut = sym (drop-take at end t) ∙ ap (drop at) same ∙ drop-take at end file
+
+  pub numberAt-same : (at : ℕ) → at + 8 ≤ end → numberAt t at ≡ numberAt file at
+  unfolding numberAt
+  numberAt-same at h = ap littleEndian (part-same at 8 h)
+
+  pub H-same : 16 ≤ end → H t ≡ H file
+  unfolding H
+  H-same h = numberAt-same 8 h
+
+  pub M-same : 96 ≤ end → M t ≡ M file
+  unfolding M
+  M-same h = numberAt-same 88 h
+
+  pub headerCrcRight-same : 24 + H file ≤ end → headerCrcRight t ≡ headerCrcRight file
+  unfolding headerCrcRight
+  headerCrcRight-same h =
+      rw (H-same (omega arith), numberAt-same (16 + H file) (omega arith), part-same 16 (H file) (omega arith))
+
+  pub isMetadata-same : 96 + M file ≤ end → isMetadata (part t 96 (M t)) ≡ isMetadata (part file 96 (M file))
+  isMetadata-same h = ap isMetadata (ap (part t 96) (M-same (omega arith)) ∙ part-same 96 (M file) h)
+
+-- a file of the same length with the same bytes up to the first block has the same header
+pub header-local : (file t : List ℕ) (h : Header) → headerOf file ≡ answer h → length t ≡ length file
+    → take (24 + H file) t ≡ take (24 + H file) file → headerOf t ≡ answer h
+unfolding magic unfinishedMagic codecNone
+header-local file t h e long same = header-is t h (moved (is-header file h e))
+  where
+    moved : IsHeader file h → IsHeader t h
+    moved i =
+        let end = 24 + H file in
+        let enough = i .fields in
+        let extent = H-same file t end same (omega arith) in
+        let metadata = M-same file t end same (omega arith) in
+        record {
+          small = rw long (i .small);
+          finished = begins-same file t end same unfinishedMagic 0 (omega arith) ∙ i .finished;
+          opens = begins-same file t end same magic 0 (omega arith) ∙ i .opens;
+          long = rw long (i .long);
+          whole = rw (long, extent) (i .whole);
+          crc = headerCrcRight-same file t end same (omega arith) ∙ i .crc;
+          fields = rw extent (i .fields);
+          room = rw (extent, metadata) (i .room);
+          codec = begins-same file t end same codecNone 72 (omega arith) ∙ i .codec;
+          total = numberAt-same file t end same 32 (omega arith) ∙ i .total ∙ sym long;
+          metadata-rule = isMetadata-same file t end same (let r = i .room in omega arith) ∙ i .metadata-rule;
+          is-extent = i .is-extent ∙ sym extent;
+          is-root = i .is-root ∙ sym (numberAt-same file t end same 16 (omega arith));
+          is-rootsize = i .is-rootsize ∙ sym (numberAt-same file t end same 24 (omega arith));
+          is-metadata = i .is-metadata ∙ sym metadata;
+        }
+
+-- ---- refusals
+
+-- every refusal of an outcome has place 0 and a number from 1 to 9
+abbrev Numbered : {A : Type 0} → Outcome A → Type 0
+Numbered o = (n p : ℕ) → o ≡ refused n p → (p ≡ 0) × (1 ≤ n) × (n ≤ 9)
+
+numbered-answer : {A : Type 0} (a : A) → Numbered (answer a)
+numbered-answer a n p e = absurd (answer-not-refused a n p e)
+
+numbered-rule : {A : Type 0} (b : Bool) (number : ℕ) (o : Outcome A) → 1 ≤ number → number ≤ 9 → Numbered o → Numbered (must b number 0 >> o)
+numbered-rule true number o low high rest n p e = rest n p (sym (kept true number 0 o refl) ∙ e)
+numbered-rule false number o low high rest n p e =
+    let r = sym (broken false number 0 o refl) ∙ e in
+    let same : n ≡ number = cc in
+    let none : p ≡ 0 = cc in
+    (none, omega arith, omega arith)
+
+-- every refusal of the header has place 0 and a number from 1 to 9
+pub header-refused : (file : List ℕ) (n p : ℕ) → headerOf file ≡ refused n p → (p ≡ 0) × (1 ≤ n) × (n ≤ 9)
+unfolding headerOf fieldsOf
+header-refused file =
+    numbered-rule _ 1 _ (lit≤ tt) (lit≤ tt)
+    (numbered-rule _ 2 _ (lit≤ tt) (lit≤ tt)
+    (numbered-rule _ 3 _ (lit≤ tt) (lit≤ tt)
+    (numbered-rule _ 4 _ (lit≤ tt) (lit≤ tt)
+    (numbered-rule _ 5 _ (lit≤ tt) (lit≤ tt)
+    (numbered-rule _ 6 _ (lit≤ tt) (lit≤ tt)
+    (numbered-rule _ 7 _ (lit≤ tt) (lit≤ tt)
+    (numbered-rule _ 8 _ (lit≤ tt) (lit≤ tt)
+    (numbered-rule _ 9 _ (lit≤ tt) (lit≤ tt)
+    (numbered-answer _)))))))))

@@ -1,0 +1,3 @@
+-- The laws of the header.
+pub mod RuleLaws
+pub mod HeaderLaws

@@ -1,0 +1,134 @@
+-- `header::fields` meets its contract: each return is one case of the definition, over parts that are lent.
+-- What it requires bounds the sums and the ends of the parts.
+-- Assumes nothing.
+use mathlib.Core.Path.{_≡_, sym, _∙_}
+use mathlib.Core.Bool.{true}
+use Prim.Native.Nat.{_+_, _≤_}
+use native.Mathlib.Omega.{arith}
+use lib.ListN.{length, drop}
+use borrow.Author.Needs.{needs}
+use borrow.Author.Tests.{not-true, not-false}
+use Rattle.byte_order.specs.Order.{begins}
+use Rattle.outcome.specs.Items.{part}
+use Rattle.header.specs.Header.{H, M, codecNone, numberAt, isMetadata, meaning}
+use Rattle.header.proofs.RuleLaws.{metadata-within, codec-lent, metadata-lent, fields-codec, fields-total, fields-metadata, fields-good, numbersOf}
+use Rattle.header.proofs.fields.Statement.{statement}
+use Rattle.header.proofs.fields.Tie as tie
+
+-- where the metadata end, from what is required
+within : (c : tie.Start) → let file = c .args .file .now in 104 + M file ≤ length file
+within c = metadata-within _ (c .pre .0) (c .pre .1)
+
+slice-aggregate-begins-with : tie.Need-slice-aggregate-begins-with
+slice-aggregate-begins-with c = search needs
+
+sub-begins-with : tie.Need-sub-begins-with
+sub-begins-with c = omega (arith, within (c .before .before))
+
+part-begins-with-start : tie.Need-part-begins-with-start
+part-begins-with-start c = omega (arith, within (c .before .before))
+
+part-begins-with-end : tie.Need-part-begins-with-end
+part-begins-with-end c = search needs
+
+begins-with-requires : tie.Need-begins-with-requires
+begins-with-requires c κs = search needs
+
+-- the test of the codec, over the rest that is lent
+codec : (c : tie.After-begins-with) → c .begins-with .result ≡ begins codecNone (drop 72 (c .before .before .before .before .args .file .now))
+unfolding codecNone
+codec c = c .begins-with .ensures ∙ codec-lent (c .before .before .before .before .args .file .now)
+
+returns : tie.Need-returns
+unfolding meaning
+returns c = sym (fields-codec _ (sym (codec (c .before)) ∙ not-true _ (c .if1 .taken)))
+
+le64-at-requires : tie.Need-le64-at-requires
+le64-at-requires c κs = search needs
+
+-- the codec is `none`
+codec-none : (c : tie.Else1) → begins codecNone (drop 72 (c .before .before .before .before .before .args .file .now)) ≡ true
+codec-none c = sym (codec (c .before)) ∙ not-false _ (c .if1 .left)
+
+returns-2 : tie.Need-returns-2
+unfolding meaning numberAt part
+returns-2 c = sym (fields-total _ (codec-none (c .before .before)) (λ same. c .if2 .taken (c .before .le64-at .ensures ∙ same)))
+
+le64-at-requires-2 : tie.Need-le64-at-requires-2
+le64-at-requires-2 c κs = search needs
+
+add-end : tie.Need-add-end
+unfolding H M numberAt part
+add-end c = omega (arith, within (c .before .before .before .before .before .before .before .before))
+
+sub-is-metadata : tie.Need-sub-is-metadata
+sub-is-metadata c = search needs
+
+part-is-metadata-start : tie.Need-part-is-metadata-start
+part-is-metadata-start c = search needs
+
+part-is-metadata-end : tie.Need-part-is-metadata-end
+unfolding H M numberAt part
+part-is-metadata-end c = omega (arith, within (c .before .before .before .before .before .before .before .before))
+
+is-metadata-requires : tie.Need-is-metadata-requires
+is-metadata-requires c κs = search needs
+
+-- the total length is the file's
+total : (c : tie.Else2) → let file = c .before .before .before .before .before .before .before .args .file .now in numberAt file 32 ≡ length file
+unfolding numberAt part
+total c = sym (c .before .le64-at .ensures) ∙ c .if2 .left
+
+-- the test of the metadata, over the part that is lent
+metadata : (c : tie.After-is-metadata) → let file = c .before .before .before .before .before .before .before .before .before .before .args .file .now in c .is-metadata .result ≡ isMetadata (part file 96 (M file))
+unfolding M numberAt part
+metadata c = c .is-metadata .ensures ∙ metadata-lent (c .before .before .before .before .before .before .before .before .before .before .args .file .now) _ (c .before .before .le64-at2 .ensures)
+
+returns-3 : tie.Need-returns-3
+unfolding meaning
+returns-3 c =
+    sym
+    (fields-metadata _ (codec-none (c .before .before .before .before .before .before)) (total (c .before .before .before .before))
+    (sym (metadata (c .before)) ∙ not-true _ (c .if3 .taken)))
+
+le64-at-requires-3 : tie.Need-le64-at-requires-3
+le64-at-requires-3 c κs = search needs
+
+le64-at-requires-4 : tie.Need-le64-at-requires-4
+le64-at-requires-4 c κs = search needs
+
+le64-at-requires-5 : tie.Need-le64-at-requires-5
+le64-at-requires-5 c κs = search needs
+
+returns-4 : tie.Need-returns-4
+unfolding meaning H M numberAt part numbersOf
+returns-4 c =
+    let b = c .before .before .before in
+    rw (c .le64-at5 .ensures, c .before .le64-at4 .ensures, c .before .before .le64-at3 .ensures, b .before .before .before .le64-at2 .ensures)
+    (sym
+    (fields-good _ (codec-none (b .before .before .before .before .before .before)) (total (b .before .before .before .before))
+    (sym (metadata (b .before)) ∙ not-false _ (b .if3 .left))))
+
+pub fields-spec : {M : Type 1} → statement M
+fields-spec =
+    tie.close
+    (tie.spec
+    slice-aggregate-begins-with
+    sub-begins-with
+    part-begins-with-start
+    part-begins-with-end
+    begins-with-requires
+    returns
+    le64-at-requires
+    returns-2
+    le64-at-requires-2
+    add-end
+    sub-is-metadata
+    part-is-metadata-start
+    part-is-metadata-end
+    is-metadata-requires
+    returns-3
+    le64-at-requires-3
+    le64-at-requires-4
+    le64-at-requires-5
+    returns-4)

@@ -1,0 +1,79 @@
+-- The header of a file: its fields, and the refusals 1 to 9 in their order. Sums are on unbounded numbers.
+use Prim.Native.Nat.{ℕ, _+_, _-_, _^_}
+use mathlib.Core.Bool.{Bool, not, _&&_}
+use mathlib.Core.List.{List, [], _∷_}
+use lib.Dec.{leb, eqb}
+use lib.ListN.{length, drop, getD, replicate}
+use Rattle.byte_order.specs.Order.{begins}
+use Rattle.fixed_width.specs.FixedWidth.{littleEndian}
+use Rattle.crc64.specs.Crc64.{crc64}
+use Rattle.outcome.specs.Outcome.{Outcome, answer, refused, _>>_, must}
+use Rattle.outcome.specs.Items.{part}
+use Rattle.header.specs.declared.Header.{Header}
+use Rattle.header.specs.declared.HeaderOutcome.{HeaderOutcome}
+use Rattle.header.specs.declared.HeaderOutcome.the-variants.{Good, Bad}
+
+-- the magic of a finished file, and of an unfinished one
+unfoldable pub magic : List ℕ
+magic = 0xab ∷ 0x5a ∷ 0x53 ∷ 0x66 ∷ 0x69 ∷ 0x4c ∷ 0x65 ∷ 0x01 ∷ []
+
+unfoldable pub unfinishedMagic : List ℕ
+unfinishedMagic = 0xab ∷ 0x5a ∷ 0x53 ∷ 0x74 ∷ 0x6f ∷ 0x42 ∷ 0x65 ∷ 0x01 ∷ []
+
+-- the codec `none`, 16 bytes
+unfoldable pub codecNone : List ℕ
+codecNone = 0x6e ∷ 0x6f ∷ 0x6e ∷ 0x65 ∷ replicate 12 0
+
+-- the header number of 8 bytes at a place
+unfoldable pub numberAt : List ℕ → ℕ → ℕ
+numberAt file at = littleEndian (part file at 8)
+
+-- the metadata rule: at least two bytes, the first `{`, the last `}`
+unfoldable pub isMetadata : List ℕ → Bool
+isMetadata m = leb 2 (length m) && (eqb (getD m 0 0) 0x7b && eqb (getD m (length m - 1) 0) 0x7d)
+
+-- H, the length of the header data, and M, the length of the metadata
+unfoldable pub H : List ℕ → ℕ
+H file = numberAt file 8
+
+unfoldable pub M : List ℕ → ℕ
+M file = numberAt file 88
+
+-- the header data and their CRC lie within the file
+unfoldable pub holdsHeader : List ℕ → Bool
+holdsHeader file = leb 16 (length file) && leb (24 + H file) (length file)
+
+unfoldable pub headerCrcRight : List ℕ → Bool
+headerCrcRight file = eqb (numberAt file (16 + H file)) (crc64 (part file 16 (H file)))
+
+-- the header data hold every field and the metadata
+unfoldable pub holdsMetadata : List ℕ → Bool
+holdsMetadata file = leb 80 (H file) && leb (M file) (H file - 80)
+
+-- the header, or the first of the refusals 7 to 9
+unfoldable pub fieldsOf : List ℕ → Outcome Header
+fieldsOf file = do
+  must (begins codecNone (drop 72 file)) 7 0
+  must (eqb (numberAt file 32) (length file)) 8 0
+  must (isMetadata (part file 96 (M file))) 9 0
+  answer (record { extent = H file; root = numberAt file 16; rootsize = numberAt file 24; metadata = M file })
+
+-- the header, or the first of the refusals 1 to 9
+unfoldable pub headerOf : List ℕ → Outcome Header
+headerOf file = do
+  must (leb (length file) (2 ^ 30)) 1 0
+  must (not (begins unfinishedMagic file)) 2 0
+  must (begins magic file) 3 0
+  must (holdsHeader file) 4 0
+  must (headerCrcRight file) 5 0
+  must (holdsMetadata file) 6 0
+  fieldsOf file
+
+-- where the blocks begin: 24 + H
+unfoldable pub blocksFrom : Header → ℕ
+blocksFrom h = 24 + h .extent
+
+-- what an answer of `Header::read` says
+unfoldable pub meaning : HeaderOutcome → Outcome Header
+meaning (Good h) = answer h
+meaning (Bad number) = refused number 0

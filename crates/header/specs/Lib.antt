@@ -1,0 +1,2 @@
+-- The meaning of the header.
+pub mod Header

@@ -1,0 +1,141 @@
+// The header of a file: its numbers, its layout and its rules (refusals 1 to 9).
+ghost use mathlib.Core.Path.{_≡_};
+ghost use mathlib.Core.Bool.{true};
+ghost use Rattle.header.specs.Header as header;
+
+// The numbers of a header. The hash, the codec and the metadata are read at their offsets.
+pub struct Header {
+    // The length of the header data (the paper's H).
+    pub extent: u64,
+    // The offset of the root block.
+    pub root: u64,
+    // The full size of the root block.
+    pub rootsize: u64,
+    // The length of the metadata (the paper's M).
+    pub metadata: u64,
+}
+
+pub enum HeaderOutcome {
+    Good(Header),
+    // The number of a refusal; its place is 0.
+    Bad(u64),
+}
+
+impl Header {
+    // The longest file, in bytes.
+    pub const MAX_FILE: usize = 1073741824;
+    // Offsets of the fields.
+    pub const EXTENT_AT: usize = 8;
+
+    pub const DATA_AT: usize = 16;
+
+    pub const ROOT_AT: usize = 16;
+
+    pub const ROOT_SIZE_AT: usize = 24;
+
+    pub const TOTAL_AT: usize = 32;
+
+    pub const HASH_AT: usize = 40;
+
+    pub const CODEC_AT: usize = 72;
+
+    pub const METADATA_LENGTH_AT: usize = 88;
+
+    pub const METADATA_AT: usize = 96;
+    // The least length of the header data: the fields from 16 to 96.
+    pub const LEAST_EXTENT: u64 = 80;
+    // What a file has beside its header data before the first block: magic, length and CRC.
+    pub const AROUND: usize = 24;
+
+    // The header of a file, or the first of the refusals 1 to 9.
+    pub fn read(file: &[u8]) -> HeaderOutcome
+        ensures { λ r. ⌜ header.meaning r ≡ header.headerOf (now (file .entry)) ⌝ }
+    {
+        if Header::MAX_FILE < file.len() {
+            return HeaderOutcome::Bad(1);
+        }
+        if byte_order::begins_with(b"\xabZStoBe\x01", file) {
+            return HeaderOutcome::Bad(2);
+        }
+        if !byte_order::begins_with(b"\xabZSfiLe\x01", file) {
+            return HeaderOutcome::Bad(3);
+        }
+        if !holds_header(file) {
+            return HeaderOutcome::Bad(4);
+        }
+        if !crc_right(file) {
+            return HeaderOutcome::Bad(5);
+        }
+        if !holds_metadata(file) {
+            return HeaderOutcome::Bad(6);
+        }
+        fields(file)
+    }
+}
+
+// Whether the header data and their CRC lie within the file.
+fn holds_header(file: &[u8]) -> bool
+    ensures { λ r. ⌜ r ≡ header.holdsHeader (now (file .entry)) ⌝ }
+{
+    if file.len() < Header::AROUND {
+        return false;
+    }
+    fixed_width::le64_at(file, Header::EXTENT_AT) <= (file.len() - Header::AROUND) as u64
+}
+
+// Whether the CRC behind the header data is theirs.
+fn crc_right(file: &[u8]) -> bool
+    requires { ⌜ header.holdsHeader (now file) ≡ true ⌝ }
+    ensures { λ r. ⌜ r ≡ header.headerCrcRight (now (file .entry)) ⌝ }
+{
+    let end = Header::DATA_AT + fixed_width::le64_at(file, Header::EXTENT_AT) as usize;
+    fixed_width::le64_at(file, end) == crc64::checksum(&file[Header::DATA_AT..end])
+}
+
+// Whether the header data hold every field and the metadata.
+fn holds_metadata(file: &[u8]) -> bool
+    ensures { λ r. ⌜ r ≡ header.holdsMetadata (now (file .entry)) ⌝ }
+{
+    let extent = fixed_width::le64_at(file, Header::EXTENT_AT);
+    if extent < Header::LEAST_EXTENT {
+        return false;
+    }
+    fixed_width::le64_at(file, Header::METADATA_LENGTH_AT) <= extent - Header::LEAST_EXTENT
+}
+
+// The metadata rule: at least two bytes, the first `{`, the last `}`.
+pub fn is_metadata(bytes: &[u8]) -> bool
+    ensures { λ r. ⌜ r ≡ header.isMetadata (now (bytes .entry)) ⌝ }
+{
+    if bytes.len() < 2 {
+        return false;
+    }
+    if bytes[0] != b'{' {
+        return false;
+    }
+    bytes[bytes.len() - 1] == b'}'
+}
+
+// The header, or the first of the refusals 7 to 9.
+fn fields(file: &[u8]) -> HeaderOutcome
+    requires { ⌜ (header.holdsHeader (now file) ≡ true) × (header.holdsMetadata (now file) ≡ true) ⌝ }
+    ensures { λ r. ⌜ header.meaning r ≡ header.fieldsOf (now (file .entry)) ⌝ }
+{
+    if !byte_order::begins_with(b"none\0\0\0\0\0\0\0\0\0\0\0\0", &file[Header::CODEC_AT..]) {
+        return HeaderOutcome::Bad(7);
+    }
+    if fixed_width::le64_at(file, Header::TOTAL_AT) != file.len() as u64 {
+        return HeaderOutcome::Bad(8);
+    }
+    let metadata = fixed_width::le64_at(file, Header::METADATA_LENGTH_AT);
+    let end = Header::METADATA_AT + metadata as usize;
+    if !is_metadata(&file[Header::METADATA_AT..end]) {
+        return HeaderOutcome::Bad(9);
+    }
+    HeaderOutcome::Good(Header {
+        extent: fixed_width::le64_at(file, Header::EXTENT_AT),
+        root: fixed_width::le64_at(file, Header::ROOT_AT),
+        rootsize: fixed_width::le64_at(file, Header::ROOT_SIZE_AT),
+        metadata,
+    })
+}

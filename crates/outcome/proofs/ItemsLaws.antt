@@ -1,0 +1,137 @@
+-- Laws of items that follow one another, and of a loop that goes through them.
+-- Assumes nothing.
+use mathlib.Core.Path.{_≡_, refl, sym, ap, _∙_, subst}
+use mathlib.Core.Bool.{Bool, true, false}
+use mathlib.Core.List.{List, [], _∷_, _++_, append-nil}
+use Prim.Native.Nat.{ℕ, zero, suc, _-_, _≤_, _<_}
+use native.Mathlib.Omega.{arith}
+use lib.Dec.{leb}
+use lib.ListN.{length}
+use lib.Seq.{append-snoc}
+use borrow.Author.Tests.{le-leb, lt-leb, leb-true, leb-false}
+use Rattle.outcome.specs.Outcome.{Outcome, answer, refused, _>>=_}
+use Rattle.outcome.specs.Items.{Step, itemsFrom, soundFrom, whereAnswered}
+use Rattle.outcome.proofs.OutcomeLaws.{bind⁻¹, bind-assoc, bind-right, answer-injective, refused-not-answer}
+
+module _ {A : Type 0} (step : ℕ → Outcome (Step A)) (end : ℕ) where
+  -- ---- one item at a time
+
+  pub items-end : (fuel at : ℕ) → end ≤ at → itemsFrom step end fuel at ≡ answer []
+  unfolding itemsFrom
+  items-end zero at h = refl
+  items-end (suc fuel) at h = rw (le-leb end at h)
+
+  pub items-step : (fuel at : ℕ) (s : Step A) → at < end → step at ≡ answer s
+      → itemsFrom step end (suc fuel) at ≡ (itemsFrom step end fuel (s .next) >>= λ more. answer (s .item ∷ more))
+  unfolding itemsFrom _>>=_
+  items-step fuel at s h e = rw (lt-leb end at h, e)
+
+  pub items-refused : (fuel at number place : ℕ) → at < end → step at ≡ refused number place → itemsFrom step end (suc fuel) at ≡ refused number place
+  unfolding itemsFrom _>>=_
+  items-refused fuel at number place h e = rw (lt-leb end at h, e)
+
+  pub sound-end : (fuel at : ℕ) → end ≤ at → soundFrom step end fuel at ≡ []
+  unfolding soundFrom
+  sound-end zero at h = refl
+  sound-end (suc fuel) at h = rw (le-leb end at h)
+
+  pub sound-step : (fuel at : ℕ) (s : Step A) → at < end → step at ≡ answer s → soundFrom step end (suc fuel) at ≡ s .item ∷ soundFrom step end fuel (s .next)
+  unfolding soundFrom whereAnswered
+  sound-step fuel at s h e = rw (lt-leb end at h, e)
+
+  pub sound-refused : (fuel at number place : ℕ) → at < end → step at ≡ refused number place → soundFrom step end (suc fuel) at ≡ []
+  unfolding soundFrom whereAnswered
+  sound-refused fuel at number place h e = rw (lt-leb end at h, e)
+
+  -- ---- taking apart
+
+  -- how items that were all read begin
+  pub data Read (fuel at : ℕ) : List A → Type 0 where
+    at-end : end ≤ at → Read fuel at []
+    one-more : (s : Step A) (more : List A) → at < end → step at ≡ answer s → itemsFrom step end fuel (s .next) ≡ answer more → Read fuel at (s .item ∷ more)
+
+  pub items⁻¹ : (fuel at : ℕ) (xs : List A) → itemsFrom step end (suc fuel) at ≡ answer xs → Read fuel at xs
+  items⁻¹ fuel at xs e = by-end (leb end at) refl
+    where
+      read : (ys : List A) → Read fuel at ys → ys ≡ xs → Read fuel at xs
+      read ys r same = subst (Read fuel at) same r
+
+      stepped : (o : Outcome (Step A)) → step at ≡ o → at < end → Read fuel at xs
+      stepped (answer s) p h =
+          let all = bind⁻¹ (itemsFrom step end fuel (s .next)) (λ more. answer (s .item ∷ more)) xs (sym (items-step fuel at s h p) ∙ e) in
+          read (s .item ∷ all .0) (one-more s (all .0) h p (all .1)) (answer-injective (s .item ∷ all .0) xs (all .2))
+      stepped (refused number place) p h = absurd (refused-not-answer xs number place (sym (items-refused fuel at number place h p) ∙ e))
+
+      by-end : (b : Bool) → leb end at ≡ b → Read fuel at xs
+      by-end true p =
+          let h = leb-true end at p in
+          read [] (at-end h) (answer-injective [] xs (sym (items-end (suc fuel) at h) ∙ e))
+      by-end false p = stepped (step at) refl (leb-false end at p)
+
+  -- the items that are all read are those in front of the first refusal
+  pub items⇒sound : (fuel at : ℕ) (xs : List A) → itemsFrom step end fuel at ≡ answer xs → soundFrom step end fuel at ≡ xs
+  unfolding itemsFrom soundFrom
+  items⇒sound zero at xs e = answer-injective [] xs e
+  items⇒sound (suc fuel) at xs e = go xs (items⁻¹ fuel at xs e) (λ (s : Step A) (more : List A). items⇒sound fuel (s .next) more)
+    where
+      go : (ys : List A) → Read fuel at ys → ((s : Step A) (more : List A) → itemsFrom step end fuel (s .next) ≡ answer more → soundFrom step end fuel (s .next) ≡ more) → soundFrom step end (suc fuel) at ≡ ys
+      go ys (at-end h) rest = sound-end (suc fuel) at h
+      go ys (one-more s more h p q) rest = sound-step fuel at s h p ∙ ap (λ (l : List A). s .item ∷ l) (rest s more q)
+
+  -- ---- a loop that goes through the items
+
+  -- Going on at `at` with the items seen so far gives what going through all items from `from` gives.
+  pub record Progress (from at : ℕ) (seen : List A) : Type 0 where
+    pub fuel : ℕ
+    pub enough : end - at ≤ fuel
+    pub leads : itemsFrom step end (end - from) from ≡ (itemsFrom step end fuel at >>= λ more. answer (seen ++ more))
+
+  pub progress-start : (from : ℕ) → Progress from from []
+  unfolding _>>=_
+  progress-start from = record { fuel = end - from; enough = omega arith; leads = same (itemsFrom step end (end - from) from) }
+    where
+      same : (o : Outcome (List A)) → o ≡ (o >>= λ more. answer ([] ++ more))
+      same (answer xs) = refl
+      same (refused number place) = refl
+
+  joined : (seen : List A) (x : A) (more : List A) → _≡_ {A = Outcome (List A)} (answer (x ∷ more) >>= λ rest. answer (seen ++ rest)) (answer (seen ++ (x ∷ []) ++ more))
+  unfolding _>>=_
+  joined seen x more = ap answer (sym (append-snoc seen x more))
+
+  pub progress-more : (from at : ℕ) (seen : List A) (s : Step A) → Progress from at seen → at < end → step at ≡ answer s → at < s .next → Progress from (s .next) (seen ++ (s .item ∷ []))
+  progress-more from at seen s p h e forward = more (p .fuel) (p .enough) (p .leads)
+    where
+      more : (fuel : ℕ) → end - at ≤ fuel → itemsFrom step end (end - from) from ≡ (itemsFrom step end fuel at >>= λ more. answer (seen ++ more)) → Progress from (s .next) (seen ++ (s .item ∷ []))
+      more zero enough leads = absurd (omega arith)
+      more (suc fuel) enough leads =
+          record {
+            fuel = fuel;
+            enough = omega arith;
+            leads =
+                leads
+                ∙ ap (λ (o : Outcome (List A)). o >>= λ more. answer (seen ++ more)) (items-step fuel at s h e)
+                ∙ bind-assoc (itemsFrom step end fuel (s .next)) (λ more. answer (s .item ∷ more)) (λ more. answer (seen ++ more))
+                ∙ bind-right (itemsFrom step end fuel (s .next)) _ _ (joined seen (s .item));
+          }
+
+  pub progress-end : (from at : ℕ) (seen : List A) → Progress from at seen → end ≤ at → itemsFrom step end (end - from) from ≡ answer seen
+  unfolding _>>=_
+  progress-end from at seen p h = p .leads ∙ ap (λ (o : Outcome (List A)). o >>= λ more. answer (seen ++ more)) (items-end (p .fuel) at h) ∙ ap answer (append-nil seen)
+
+  pub progress-refused : (from at number place : ℕ) (seen : List A) → Progress from at seen → at < end → step at ≡ refused number place → itemsFrom step end (end - from) from ≡ refused number place
+  unfolding _>>=_
+  progress-refused from at number place seen p h e = go (p .fuel) (p .enough) (p .leads)
+    where
+      go : (fuel : ℕ) → end - at ≤ fuel → itemsFrom step end (end - from) from ≡ (itemsFrom step end fuel at >>= λ more. answer (seen ++ more)) → itemsFrom step end (end - from) from ≡ refused number place
+      go zero enough leads = absurd (omega arith)
+      go (suc fuel) enough leads = leads ∙ ap (λ (o : Outcome (List A)). o >>= λ more. answer (seen ++ more)) (items-refused fuel at number place h e)
+
+  -- there are at most as many items as the fuel
+  pub items-length : (fuel at : ℕ) (xs : List A) → itemsFrom step end fuel at ≡ answer xs → length xs ≤ fuel
+  unfolding itemsFrom
+  items-length zero at xs e = subst (λ (l : List A). length l ≤ 0) (answer-injective [] xs e) (omega arith)
+  items-length (suc fuel) at xs e = go xs (items⁻¹ fuel at xs e) (λ (s : Step A) (more : List A). items-length fuel (s .next) more)
+    where
+      go : (ys : List A) → Read fuel at ys → ((s : Step A) (more : List A) → itemsFrom step end fuel (s .next) ≡ answer more → length more ≤ fuel) → length ys ≤ suc fuel
+      go ys (at-end h) rest = omega arith
+      go ys (one-more s more h p q) rest = let few = rest s more q in omega arith

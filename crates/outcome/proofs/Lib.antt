@@ -1,0 +1,5 @@
+-- Laws of outcomes and of items that follow one another.
+pub mod OutcomeLaws
+pub mod PartLaws
+pub mod ItemsLaws
+pub mod ListsLaws

@@ -1,0 +1,83 @@
+-- Laws of outcomes: when a chain of rules is answered, and with what it is refused.
+-- Assumes nothing.
+use mathlib.Core.Path.{_≡_, refl}
+use mathlib.Core.Bool.{Bool, true, false}
+use Prim.Native.Nat.{ℕ}
+use native.Mathlib.Omega.{arith}
+use Rattle.outcome.specs.Outcome.{Outcome, answer, refused, _>>=_, _>>_, must}
+
+-- ---- constructors
+
+pub answer-injective : {A : Type 0} (a b : A) → answer a ≡ answer b → a ≡ b
+answer-injective a b e = cc
+
+pub answer-not-refused : {A : Type 0} (a : A) (number place : ℕ) → answer a ≡ refused number place → ⊥
+answer-not-refused a number place e = let z : _≡_ {A = ℕ} 0 1 = cc in omega arith
+
+pub refused-not-answer : {A : Type 0} (a : A) (number place : ℕ) → refused number place ≡ answer a → ⊥
+refused-not-answer a number place e = let z : _≡_ {A = ℕ} 0 1 = cc in omega arith
+
+-- ---- one rule
+
+pub must-kept : (b : Bool) (number place : ℕ) → b ≡ true → must b number place ≡ answer tt
+unfolding must
+must-kept b number place e = rw e
+
+pub must-broken : (b : Bool) (number place : ℕ) → b ≡ false → must b number place ≡ refused number place
+unfolding must
+must-broken b number place e = rw e
+
+-- a rule that is kept is passed over; one that is broken decides
+pub kept : {A : Type 0} (b : Bool) (number place : ℕ) (o : Outcome A) → b ≡ true → (must b number place >> o) ≡ o
+unfolding must _>>_
+kept b number place o e = rw e
+
+pub broken : {A : Type 0} (b : Bool) (number place : ℕ) (o : Outcome A) → b ≡ false → (must b number place >> o) ≡ refused number place
+unfolding must _>>_
+broken b number place o e = rw e
+
+-- an answer behind a rule says that the rule is kept
+pub kept⁻¹ : {A : Type 0} (b : Bool) (number place : ℕ) (o : Outcome A) (a : A) → (must b number place >> o) ≡ answer a → (b ≡ true) × (o ≡ answer a)
+unfolding must _>>_
+kept⁻¹ true number place o a e = (refl, e)
+kept⁻¹ false number place o a e = absurd (refused-not-answer a number place e)
+
+-- ---- going on
+
+pub bind-answer : {A B : Type 0} (o : Outcome A) (next : A → Outcome B) (a : A) → o ≡ answer a → (o >>= next) ≡ next a
+unfolding _>>=_
+bind-answer o next a e = rw e
+
+pub bind-refused : {A B : Type 0} (o : Outcome A) (next : A → Outcome B) (number place : ℕ) → o ≡ refused number place → (o >>= next) ≡ refused number place
+unfolding _>>=_
+bind-refused o next number place e = rw e
+
+pub after-answer : {A B : Type 0} (o : Outcome A) (next : Outcome B) (a : A) → o ≡ answer a → (o >> next) ≡ next
+unfolding _>>_
+after-answer o next a e = rw e
+
+pub after-refused : {A B : Type 0} (o : Outcome A) (next : Outcome B) (number place : ℕ) → o ≡ refused number place → (o >> next) ≡ refused number place
+unfolding _>>_
+after-refused o next number place e = rw e
+
+-- an answer in the end says that there was one before
+pub bind⁻¹ : {A B : Type 0} (o : Outcome A) (next : A → Outcome B) (b : B) → (o >>= next) ≡ answer b → (a : A) × (o ≡ answer a) × (next a ≡ answer b)
+unfolding _>>=_
+bind⁻¹ (answer a) next b e = (a, refl, e)
+bind⁻¹ (refused number place) next b e = absurd (refused-not-answer b number place e)
+
+pub bind-assoc : {A B C : Type 0} (o : Outcome A) (f : A → Outcome B) (g : B → Outcome C) → (o >>= f >>= g) ≡ (o >>= λ a. f a >>= g)
+unfolding _>>=_
+bind-assoc (answer a) f g = refl
+bind-assoc (refused number place) f g = refl
+
+pub bind-right : {A B : Type 0} (o : Outcome A) (f g : A → Outcome B) → ((a : A) → f a ≡ g a) → (o >>= f) ≡ (o >>= g)
+unfolding _>>=_
+bind-right (answer a) f g h = h a
+bind-right (refused number place) f g h = refl
+
+-- a refusal in the end, where only the answer is changed, is a refusal before
+pub map-refused⁻¹ : {A B : Type 0} (o : Outcome A) (f : A → B) (number place : ℕ) → (o >>= λ a. answer (f a)) ≡ refused number place → o ≡ refused number place
+unfolding _>>=_
+map-refused⁻¹ (answer a) f number place e = absurd (answer-not-refused (f a) number place e)
+map-refused⁻¹ (refused n p) f number place e = cc

@@ -1,0 +1,64 @@
+-- Laws of a part of a byte string.
+-- Assumes nothing.
+use mathlib.Core.Path.{_≡_, refl, sym, ap, _∙_}
+use mathlib.Core.List.{List, [], _∷_, _++_}
+use Prim.Native.Nat.{ℕ, zero, suc, _+_, _-_, _≤_, _<_}
+use native.Mathlib.Nat.{sub-zero, zero-sub, suc-sub-suc}
+use native.Mathlib.Omega.{arith}
+use lib.ListN.{length, take, drop, getD, length-take, length-drop}
+use lib.Seq.{drop-drop, take-take, getD-take, getD-drop, take-all, take-add, take-nil}
+use Rattle.outcome.specs.Items.{part}
+
+-- a part has the length that is asked where it lies within
+pub length-part : (s : List ℕ) (at n : ℕ) → at + n ≤ length s → length (part s at n) ≡ n
+unfolding part
+length-part s at n h = simp (length-take, length-drop) (omega arith)
+
+pub part-empty : (s : List ℕ) (at : ℕ) → part s at 0 ≡ []
+unfolding part
+part-empty s at = refl
+
+-- the element at an index of a part
+pub getD-part : (s : List ℕ) (at n i : ℕ) → i < n → getD (part s at n) i 0 ≡ getD s (at + i) 0
+unfolding part
+getD-part s at n i h = getD-take n (drop at s) i 0 h ∙ getD-drop at s i 0
+
+-- dropping from what comes before an end
+pub drop-take : (a e : ℕ) (l : List ℕ) → drop a (take e l) ≡ take (e - a) (drop a l)
+drop-take zero e l = rw (sub-zero e)
+drop-take (suc a) zero l = rw (zero-sub (suc a))
+drop-take (suc a) (suc e) [] = sym (take-nil (suc e - suc a))
+drop-take (suc a) (suc e) (x ∷ l) = rw (suc-sub-suc e a) (drop-take a e l)
+
+-- a part of what comes before an end
+pub part-take : (s : List ℕ) (end at n : ℕ) → at + n ≤ end → part (take end s) at n ≡ part s at n
+unfolding part
+part-take s end at n h = ap (take n) (drop-take at end s) ∙ take-take n (end - at) (drop at s) (omega arith)
+
+-- a part that runs to the end is what is left
+pub part-rest : (s : List ℕ) (at n : ℕ) → length s ≤ at + n → part s at n ≡ drop at s
+unfolding part
+part-rest s at n h = take-all n (drop at s) (simp length-drop (omega arith))
+
+-- a part of a part
+pub part-part : (s : List ℕ) (at n i m : ℕ) → i + m ≤ n → part (part s at n) i m ≡ part s (at + i) m
+unfolding part
+part-part s at n i m h = ap (take m) (drop-take i n (drop at s)) ∙ take-take m (n - i) (drop i (drop at s)) (omega arith) ∙ ap (take m) (drop-drop i at s)
+
+-- two parts side by side
+pub part-add : (s : List ℕ) (at n m : ℕ) → part s at (n + m) ≡ part s at n ++ part s (at + n) m
+unfolding part
+part-add s at n m = take-add n m (drop at s) ∙ ap (λ (l : List ℕ). take n (drop at s) ++ take m l) (drop-drop n at s)
+
+-- byte strings that agree on a part agree on the parts within it
+pub part-within : (s t : List ℕ) (at n i m : ℕ) → i + m ≤ n → part s at n ≡ part t at n → part s (at + i) m ≡ part t (at + i) m
+part-within s t at n i m h e = sym (part-part s at n i m h) ∙ ap (λ (l : List ℕ). part l i m) e ∙ part-part t at n i m h
+
+-- and on each byte of it
+pub getD-within : (s t : List ℕ) (at n i : ℕ) → i < n → part s at n ≡ part t at n → getD s (at + i) 0 ≡ getD t (at + i) 0
+getD-within s t at n i h e = sym (getD-part s at n i h) ∙ ap (λ (l : List ℕ). getD l i 0) e ∙ getD-part t at n i h
+
+-- the whole
+pub part-whole : (s : List ℕ) → part s 0 (length s) ≡ s
+unfolding part
+part-whole s = take-all (length s) s (omega arith)

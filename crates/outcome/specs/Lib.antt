@@ -1,0 +1,4 @@
+-- Notions that every layer shares.
+pub mod Outcome
+pub mod Items
+pub mod Lists

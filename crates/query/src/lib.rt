@@ -1,0 +1,78 @@
+// Queries: whether a record matches, and whether a block between two bounds may hold a match.
+//
+// A stop or an upper bound that isn't given is passed as `false` and any slice; the bytes of that slice have no influence.
+ghost use mathlib.Core.Path.{_≡_};
+ghost use Rattle.query.specs.Query.{queryOf, given, before, matches};
+ghost use Rattle.query.specs.Opening.{mayMatch, reaches, admitsPrefix};
+
+// Whether x is less than the stop, where there is one.
+fn before_stop(x: &[u8], stop_given: bool, stop: &[u8]) -> bool
+    ensures { λ r. ⌜ r ≡ before (now (x .entry)) (given «stop_given» (now (stop .entry))) ⌝ }
+{
+    if stop_given {
+        return byte_order::less(x, stop);
+    }
+    true
+}
+
+// Whether a byte string matches.
+pub fn matches(x: &[u8], start: &[u8], stop_given: bool, stop: &[u8], prefix: &[u8]) -> bool
+    ensures { λ r. ⌜ r ≡ matches (queryOf (now (start .entry)) «stop_given» (now (stop .entry)) (now (prefix .entry))) (now (x .entry)) ⌝ }
+{
+    if !byte_order::at_most(start, x) {
+        return false;
+    }
+    if !before_stop(x, stop_given, stop) {
+        return false;
+    }
+    byte_order::begins_with(prefix, x)
+}
+
+// Whether x is neither past the upper bound nor at or past the stop.
+fn reaches(x: &[u8], upper_given: bool, upper: &[u8], stop_given: bool, stop: &[u8]) -> bool
+    ensures { λ r. ⌜ r ≡ reaches (now (x .entry)) (given «upper_given» (now (upper .entry))) (given «stop_given» (now (stop .entry))) ⌝ }
+{
+    if upper_given {
+        if !byte_order::at_most(x, upper) {
+            return false;
+        }
+    }
+    before_stop(x, stop_given, stop)
+}
+
+// Whether some byte string from `from` on begins with the prefix.
+fn admits_prefix(from: &[u8], prefix: &[u8]) -> bool
+    ensures { λ r. ⌜ r ≡ admitsPrefix (now (from .entry)) (now (prefix .entry)) ⌝ }
+{
+    if byte_order::at_most(from, prefix) {
+        return true;
+    }
+    byte_order::begins_with(prefix, from)
+}
+
+// The opening test: whether any byte string from `lower` to `upper`, both included, matches.
+pub fn may_match(
+    lower: &[u8],
+    upper_given: bool,
+    upper: &[u8],
+    start: &[u8],
+    stop_given: bool,
+    stop: &[u8],
+    prefix: &[u8],
+) -> bool
+    ensures { λ r. ⌜ r ≡ mayMatch (now (lower .entry)) (given «upper_given» (now (upper .entry))) (queryOf (now (start .entry)) «stop_given» (now (stop .entry)) (now (prefix .entry))) ⌝ }
+{
+    if !reaches(lower, upper_given, upper, stop_given, stop) {
+        return false;
+    }
+    if !reaches(start, upper_given, upper, stop_given, stop) {
+        return false;
+    }
+    if !reaches(prefix, upper_given, upper, stop_given, stop) {
+        return false;
+    }
+    if !admits_prefix(lower, prefix) {
+        return false;
+    }
+    admits_prefix(start, prefix)
+}
