@@ -1,8 +1,9 @@
 -- Laws of items that follow one another, and of a loop that goes through them.
 -- Assumes nothing.
 use mathlib.Core.Path.{_≡_, refl, sym, ap, _∙_, subst}
-use mathlib.Core.Bool.{Bool, true, false}
-use mathlib.Core.List.{List, [], _∷_, _++_, append-nil}
+use mathlib.Core.Bool.{Bool, true, false, cond}
+use mathlib.Core.Logic.{_⊎_, inl, inr}
+use mathlib.Core.List.{List, [], _∷_, _++_, append-nil, List·Memᴰ, List·Memᴰ·not-nil, List·Memᴰ·cases-cons}
 use Prim.Native.Nat.{ℕ, zero, suc, _-_, _≤_, _<_}
 use native.Mathlib.Omega.{arith}
 use lib.Dec.{leb}
@@ -11,7 +12,7 @@ use lib.Seq.{append-snoc}
 use borrow.Author.Tests.{le-leb, lt-leb, leb-true, leb-false}
 use Rattle.outcome.specs.Outcome.{Outcome, answer, refused, _>>=_}
 use Rattle.outcome.specs.Items.{Step, itemsFrom, soundFrom, whereAnswered}
-use Rattle.outcome.proofs.OutcomeLaws.{bind⁻¹, bind-assoc, bind-right, answer-injective, refused-not-answer}
+use Rattle.outcome.proofs.OutcomeLaws.{bind⁻¹, bind-answer, bind-same, bind-assoc, bind-right, answer-injective, refused-not-answer}
 
 module _ {A : Type 0} (step : ℕ → Outcome (Step A)) (end : ℕ) where
   -- ---- one item at a time
@@ -135,3 +136,106 @@ module _ {A : Type 0} (step : ℕ → Outcome (Step A)) (end : ℕ) where
       go : (ys : List A) → Read fuel at ys → ((s : Step A) (more : List A) → itemsFrom step end fuel (s .next) ≡ answer more → length more ≤ fuel) → length ys ≤ suc fuel
       go ys (at-end h) rest = omega arith
       go ys (one-more s more h p q) rest = let few = rest s more q in omega arith
+
+  -- ---- items in a row
+
+  -- items from `at` to the end, each read where the one before it ends
+  pub data Row : ℕ → List A → Type 0 where
+    row-end : {at : ℕ} → end ≤ at → Row at []
+    row-more : {at : ℕ} (s : Step A) (more : List A) → at < end → step at ≡ answer s → Row (s .next) more → Row at (s .item ∷ more)
+
+  -- a row of items that begins before the end has an item
+  pub row-some : (at : ℕ) (xs : List A) → Row at xs → at < end → 0 < length xs
+  row-some at xs (row-end h) before = absurd (omega arith)
+  row-some at xs (row-more s more h e r) before = omega arith
+
+  -- where an item of a row was read
+  pub record ReadFrom (from : ℕ) (x : A) : Type 0 where
+    pub read-at : ℕ
+    pub read : Step A
+    pub after : from ≤ read-at
+    pub before : read-at < end
+    pub stepped : step read-at ≡ answer read
+    pub is-item : read .item ≡ x
+
+  module _ (forward : (at : ℕ) (s : Step A) → step at ≡ answer s → at < s .next) where
+    -- with enough fuel the items that are all read are the row
+    pub items⇒row : (fuel at : ℕ) (xs : List A) → end - at ≤ fuel → itemsFrom step end fuel at ≡ answer xs → Row at xs
+    unfolding itemsFrom
+    items⇒row zero at xs enough e = subst (Row at) (answer-injective [] xs e) (row-end (omega arith))
+    items⇒row (suc fuel) at xs enough e = go xs (items⁻¹ fuel at xs e) (λ (s : Step A) (more : List A). items⇒row fuel (s .next) more)
+      where
+        go : (ys : List A) → Read fuel at ys → ((s : Step A) (more : List A) → end - s .next ≤ fuel → itemsFrom step end fuel (s .next) ≡ answer more → Row (s .next) more) → Row at ys
+        go ys (at-end h) rest = row-end h
+        go ys (one-more s more h p q) rest = let f = forward at s p in row-more s more h p (rest s more (omega arith) q)
+
+    pub row⇒items : (at : ℕ) (xs : List A) → Row at xs → (fuel : ℕ) → end - at ≤ fuel → itemsFrom step end fuel at ≡ answer xs
+    row⇒items at xs (row-end h) fuel enough = items-end fuel at h
+    row⇒items at xs (row-more s more h e r) zero enough = absurd (omega arith)
+    row⇒items at xs (row-more s more h e r) (suc fuel) enough =
+        let f = forward at s e in
+        items-step fuel at s h e ∙ bind-answer (itemsFrom step end fuel (s .next)) _ more (row⇒items (s .next) more r fuel (omega arith))
+
+    pub row-member : (at : ℕ) (xs : List A) → Row at xs → (x : A) → List·Memᴰ x xs → ReadFrom at x
+    row-member at xs (row-end h) x m = absurd (List·Memᴰ·not-nil m)
+    row-member at xs (row-more s more h e r) x m = go (List·Memᴰ·cases-cons m) (λ (i : List·Memᴰ x more). row-member (s .next) more r x i)
+      where
+        later : ReadFrom (s .next) x → ReadFrom at x
+        later q =
+            let f = forward at s e in
+            record {
+              read-at = q .read-at;
+              read = q .read;
+              after = omega arith;
+              before = q .before;
+              stepped = q .stepped;
+              is-item = q .is-item;
+            }
+
+        go : (x ≡ s .item) ⊎ List·Memᴰ x more → (List·Memᴰ x more → ReadFrom (s .next) x) → ReadFrom at x
+        go (inl same) rest =
+            record {
+              read-at = at;
+              read = s;
+              after = omega arith;
+              before = h;
+              stepped = e;
+              is-item = sym same;
+            }
+        go (inr inside) rest = later (rest inside)
+
+-- ---- two ways to read
+
+-- where one way answers what the other answers, it reads the same row
+pub row-change : {A : Type 0} (step other : ℕ → Outcome (Step A)) (end : ℕ) → ((at : ℕ) (s : Step A) → step at ≡ answer s → other at ≡ answer s)
+    → (at : ℕ) (xs : List A) → Row step end at xs → Row other end at xs
+row-change step other end same at xs (row-end h) = row-end h
+row-change step other end same at xs (row-more s more h e r) = row-more s more h (same at s e) (row-change step other end same (s .next) more r)
+
+-- two ways to read that agree from an offset on read the same items from there on, or refuse the same
+module _ {A : Type 0} (step other : ℕ → Outcome (Step A)) (end from : ℕ) (forward : (at : ℕ) (s : Step A) → step at ≡ answer s → at < s .next)
+    (same : (at : ℕ) → from ≤ at → step at ≡ other at) where
+  pub items-agree : (fuel at : ℕ) → from ≤ at → itemsFrom step end fuel at ≡ itemsFrom other end fuel at
+  unfolding itemsFrom
+  items-agree zero at h = refl
+  items-agree (suc fuel) at h = go (λ (a : ℕ). items-agree fuel a)
+    where
+      go : ((a : ℕ) → from ≤ a → itemsFrom step end fuel a ≡ itemsFrom other end fuel a) → itemsFrom step end (suc fuel) at ≡ itemsFrom other end (suc fuel) at
+      go rest =
+          ap (cond (leb end at) (answer []))
+          (bind-same (step at) (other at) _ _ (same at h) (λ s e. let f = forward at s e in ap (λ (o : Outcome (List A)). o >>= λ more. answer (s .item ∷ more)) (rest (s .next) (omega arith))))
+
+  listed-same : (o p : Outcome (Step A)) (f g : Step A → List A) → o ≡ p → ((s : Step A) → o ≡ answer s → f s ≡ g s) → whereAnswered o f ≡ whereAnswered p g
+  unfolding whereAnswered
+  listed-same (answer s) p f g e h = h s refl ∙ ap (λ (o : Outcome (Step A)). whereAnswered o g) e
+  listed-same (refused number place) p f g e h = ap (λ (o : Outcome (Step A)). whereAnswered o g) e
+
+  pub sound-agree : (fuel at : ℕ) → from ≤ at → soundFrom step end fuel at ≡ soundFrom other end fuel at
+  unfolding soundFrom
+  sound-agree zero at h = refl
+  sound-agree (suc fuel) at h = go (λ (a : ℕ). sound-agree fuel a)
+    where
+      go : ((a : ℕ) → from ≤ a → soundFrom step end fuel a ≡ soundFrom other end fuel a) → soundFrom step end (suc fuel) at ≡ soundFrom other end (suc fuel) at
+      go rest =
+          ap (cond (leb end at) [])
+          (listed-same (step at) (other at) _ _ (same at h) (λ s e. let f = forward at s e in ap (λ (l : List A). s .item ∷ l) (rest (s .next) (omega arith))))

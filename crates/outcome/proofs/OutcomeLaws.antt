@@ -1,6 +1,6 @@
 -- Laws of outcomes: when a chain of rules is answered, and with what it is refused.
 -- Assumes nothing.
-use mathlib.Core.Path.{_≡_, refl}
+use mathlib.Core.Path.{_≡_, refl, ap, _∙_}
 use mathlib.Core.Bool.{Bool, true, false}
 use Prim.Native.Nat.{ℕ}
 use native.Mathlib.Omega.{arith}
@@ -81,3 +81,9 @@ pub map-refused⁻¹ : {A B : Type 0} (o : Outcome A) (f : A → B) (number plac
 unfolding _>>=_
 map-refused⁻¹ (answer a) f number place e = absurd (answer-not-refused (f a) number place e)
 map-refused⁻¹ (refused n p) f number place e = cc
+
+-- outcomes that agree, followed by what agrees wherever there is an answer
+pub bind-same : {A B : Type 0} (o p : Outcome A) (f g : A → Outcome B) → o ≡ p → ((a : A) → o ≡ answer a → f a ≡ g a) → (o >>= f) ≡ (p >>= g)
+unfolding _>>=_
+bind-same (answer a) p f g e h = h a refl ∙ ap (λ o. o >>= g) e
+bind-same (refused number place) p f g e h = ap (λ o. o >>= g) e

@@ -1,6 +1,6 @@
 -- Laws of a part of a byte string.
 -- Assumes nothing.
-use mathlib.Core.Path.{_≡_, refl, sym, ap, _∙_}
+use mathlib.Core.Path.{_≡_, refl, sym, ap, _∙_, subst}
 use mathlib.Core.List.{List, [], _∷_, _++_}
 use Prim.Native.Nat.{ℕ, zero, suc, _+_, _-_, _≤_, _<_}
 use native.Mathlib.Nat.{sub-zero, zero-sub, suc-sub-suc}
@@ -62,3 +62,31 @@ getD-within s t at n i h e = sym (getD-part s at n i h) ∙ ap (λ (l : List ℕ
 pub part-whole : (s : List ℕ) → part s 0 (length s) ≡ s
 unfolding part
 part-whole s = take-all (length s) s (omega arith)
+
+-- byte strings that agree from an offset on agree from every later one on
+pub drop-later : (s t : List ℕ) (at later : ℕ) → at ≤ later → drop at s ≡ drop at t → drop later s ≡ drop later t
+drop-later s t at later h e = twice s ∙ ap (drop (later - at)) e ∙ sym (twice t)
+  where
+    sum : later ≡ at + (later - at)
+    sum = omega arith
+
+    twice : (l : List ℕ) → drop later l ≡ drop (later - at) (drop at l)
+    twice l = ap (λ (k : ℕ). drop k l) sum ∙ sym (drop-drop (later - at) at l)
+
+pub part-later : (s t : List ℕ) (at later n : ℕ) → at ≤ later → drop at s ≡ drop at t → part s later n ≡ part t later n
+unfolding part
+part-later s t at later n h e = ap (take n) (drop-later s t at later h e)
+
+-- agreement on a part gives agreement at any offsets inside it
+module _ (s t : List ℕ) (at n : ℕ) (e : part s at n ≡ part t at n) where
+  pub part-inside : (a m : ℕ) → at ≤ a → a + m ≤ at + n → part s a m ≡ part t a m
+  part-inside a m h k = subst (λ (b : ℕ). part s b m ≡ part t b m) sum (part-within s t at n (a - at) m (omega arith) e)
+    where
+      sum : at + (a - at) ≡ a
+      sum = omega arith
+
+  pub getD-inside : (a : ℕ) → at ≤ a → a < at + n → getD s a 0 ≡ getD t a 0
+  getD-inside a h k = subst (λ (b : ℕ). getD s b 0 ≡ getD t b 0) sum (getD-within s t at n (a - at) (omega arith) e)
+    where
+      sum : at + (a - at) ≡ a
+      sum = omega arith

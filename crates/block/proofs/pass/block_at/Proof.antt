@@ -1,0 +1,43 @@
+-- `block::pass::block_at` meets its contract: the frame, then the block in it. Assumes nothing.
+use mathlib.Core.Path.{sym, ap, _∙_}
+use Prim.Native.Nat.{ℕ}
+use borrow.Author.Needs.{needs}
+use denote.Ref.{now}
+use Rattle.block.specs.Answers.{frame, block}
+use Rattle.block.proofs.BlockLaws.{frame-bounds, frame-start, block-framed, block-unframed}
+use Rattle.block.proofs.pass.block_at.Statement.{statement}
+use Rattle.block.proofs.pass.block_at.Tie as tie
+
+sound-frame-at-requires : tie.Need-sound-frame-at-requires
+sound-frame-at-requires c κs = search needs
+
+enum-known-found : tie.Need-enum-known-found
+enum-known-found c = search needs
+
+enum-known-found-2 : tie.Need-enum-known-found-2
+enum-known-found-2 c = search needs
+
+block-in-requires : tie.Need-block-in-requires
+unfolding frame
+block-in-requires c κs = frame-bounds (now (c .before .before .before .before .before .args .file)) (c .before .before .before .before .before .args .at) _ (sym (c .before .before .before .sound-frame-at .ensures) ∙ ap (frame (c .before .before .before .before .before .args .at)) (c .before .found2 .given .1))
+
+returns : tie.Need-returns
+unfolding frame block
+returns c = sym (block-unframed (now (c .before .before .before .before .before .args .file)) (c .before .before .before .before .before .args .at) _ _ (sym (c .before .before .before .sound-frame-at .ensures) ∙ ap (frame (c .before .before .before .before .before .args .at)) (c .before .found .given .1)))
+
+returns-2 : tie.Need-returns-2
+unfolding frame
+returns-2 c =
+    let e = (sym (c .before .before .before .before .sound-frame-at .ensures) ∙ ap (frame (c .before .before .before .before .before .before .args .at)) (c .before .before .found2 .given .1)) in
+    block-framed (now (c .before .before .before .before .before .before .args .file)) (c .before .before .before .before .before .before .args .at) _ _ e (ap (λ (p : ℕ). block p (c .block-in .result)) (sym (frame-start (now (c .before .before .before .before .before .before .args .file)) (c .before .before .before .before .before .before .args .at) _ e)) ∙ c .block-in .ensures)
+
+pub block-at-spec : {M : Type 1} → statement M
+block-at-spec =
+    tie.close
+    (tie.spec
+    sound-frame-at-requires
+    enum-known-found
+    enum-known-found-2
+    block-in-requires
+    returns
+    returns-2)
