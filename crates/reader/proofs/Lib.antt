@@ -1,0 +1,11 @@
+-- Laws and theorems of reading a file front to back, and of handing back a record.
+pub mod RecordLaws
+pub mod MatchLaws
+pub mod StoreLaws
+pub mod CollectLaws
+pub mod RecordsLaws
+pub mod FramesLaws
+pub mod LaidLaws
+pub mod ReadLaws
+pub mod PlaceLaws
+pub mod ReadTheorems

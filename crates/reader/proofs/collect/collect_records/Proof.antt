@@ -1,0 +1,128 @@
+-- `reader::collect::collect_records` meets its contract. The loop's invariant is `RecordsCollected`: going on from here gives what the whole gives.
+-- Assumes nothing.
+use mathlib.Core.Path.{sym, ap, _∙_}
+use Prim.Native.Nat.{_-_}
+use native.Mathlib.Omega.{arith}
+use borrow.Author.Needs.{needs}
+use denote.Ref.{now}
+use lib.ListN.{length}
+use Rattle.block.specs.Answers.{text}
+use Rattle.query.specs.Query.{queryOf}
+use Rattle.reader.proofs.CollectLaws.{collected-start}
+use Rattle.reader.proofs.RecordsLaws.{RecordsCollected, text-bounds, records-kept, records-passed, records-end, records-refused}
+use Rattle.reader.proofs.collect.collect_records.Statement.{statement}
+use Rattle.reader.proofs.collect.collect_records.Tie as tie
+
+abbrev Inv-loop : tie.InvT-loop
+Inv-loop s from start stop-given stop prefix results₀ count at₀ found₀ results at found = RecordsCollected s from (queryOf start stop-given stop prefix) (record { count = count; list = results₀ }) at (record { count = found; list = results })
+
+abbrev μ-loop : tie.MeasureT-loop
+μ-loop s from start stop-given stop prefix results₀ count at₀ found₀ results at found = length s - at
+
+loop-holds : tie.Need-loop-holds Inv-loop μ-loop
+loop-holds c = collected-start _ _ _ _ _ _ (c .before .before .before .before .before .pre)
+
+text-at-requires : tie.Need-text-at-requires Inv-loop μ-loop
+text-at-requires c κs = search needs
+
+enum-told : tie.Need-enum-told Inv-loop μ-loop
+enum-told c = search needs
+
+same-length : tie.Need-same-length Inv-loop μ-loop
+same-length c = c .before .before .before .before .loop .inv .long
+
+returns : tie.Need-returns Inv-loop μ-loop
+unfolding text
+returns c place = records-refused _ _ _ _ _ _ (c .before .before .before .before .loop .inv) (c .before .before .before .loop-test .taken) place _ (sym (c .before .before .text-at .ensures place) ∙ ap (text place (now (c .before .before .before .before .before .before .before .before .before .before .args .s))) (c .enum-told .given .1))
+
+enum-known-step : tie.Need-enum-known-step Inv-loop μ-loop
+enum-known-step c = search needs
+
+add-end : tie.Need-add-end Inv-loop μ-loop
+unfolding text
+add-end c =
+    let b = text-bounds 0 (now (c .before .before .before .before .before .before .before .before .before .before .before .args .s)) (c .before .before .before .before .before .loop .at) _ _ (sym (c .before .before .before .text-at .ensures 0) ∙ ap (text 0 (now (c .before .before .before .before .before .before .before .before .before .before .before .args .s))) (c .before .step .given .1)) in
+    let forward = b .0 in
+    let within = b .1 in
+    omega (arith, c .before .before .before .before .before .before .before .before .before .before .before .good)
+
+sub-matches : tie.Need-sub-matches Inv-loop μ-loop
+sub-matches c = search needs
+
+part-matches-start : tie.Need-part-matches-start Inv-loop μ-loop
+part-matches-start c = search needs
+
+part-matches-end : tie.Need-part-matches-end Inv-loop μ-loop
+unfolding text
+part-matches-end c =
+    let b = text-bounds 0 (now (c .before .before .before .before .before .before .before .before .before .before .before .args .s)) (c .before .before .before .before .before .loop .at) _ _ (sym (c .before .before .before .text-at .ensures 0) ∙ ap (text 0 (now (c .before .before .before .before .before .before .before .before .before .before .before .args .s))) (c .before .step .given .1)) in
+    let forward = b .0 in
+    let within = b .1 in
+    omega (arith, c .before .before .before .before .before .before .before .before .before .before .before .good)
+
+matches-requires : tie.Need-matches-requires Inv-loop μ-loop
+matches-requires c κs = search needs
+
+put-pair-requires : tie.Need-put-pair-requires Inv-loop μ-loop
+put-pair-requires c κs = search needs
+
+add-found : tie.Need-add-found Inv-loop μ-loop
+add-found c =
+    let few = c .before .before .before .before .before .before .before .before .before .before .before .before .loop .inv .few in
+    omega (arith, c .before .before .before .before .before .before .before .before .before .before .before .before .before .before .before .before .before .before .good)
+
+loop-less : tie.Need-loop-less Inv-loop μ-loop
+unfolding text
+loop-less c =
+    let b = text-bounds 0 (now (c .before .before .before .before .before .before .before .before .before .before .before .before .before .before .before .before .before .before .args .s)) (c .before .before .before .before .before .before .before .before .before .before .before .before .loop .at) _ _ (sym (c .before .before .before .before .before .before .before .before .before .before .text-at .ensures 0) ∙ ap (text 0 (now (c .before .before .before .before .before .before .before .before .before .before .before .before .before .before .before .before .before .before .args .s))) (c .before .before .before .before .before .before .before .before .step .given .1)) in
+    let forward = b .0 in
+    let within = b .1 in
+    omega arith
+
+loop-again : tie.Need-loop-again Inv-loop μ-loop
+unfolding text
+loop-again c = records-kept _ _ _ _ _ _ (c .before .before .before .before .before .before .before .before .before .before .before .before .loop .inv) (c .before .before .before .before .before .before .before .before .before .before .before .loop-test .taken) _ _ (λ place. (sym (c .before .before .before .before .before .before .before .before .before .before .text-at .ensures place) ∙ ap (text place (now (c .before .before .before .before .before .before .before .before .before .before .before .before .before .before .before .before .before .before .args .s))) (c .before .before .before .before .before .before .before .before .step .given .1))) (sym (c .before .before .before .before .before .matches .ensures) ∙ c .before .before .before .before .if1 .taken) _ (c .before .before .put-pair .ensures .1)
+
+loop-less-2 : tie.Need-loop-less-2 Inv-loop μ-loop
+unfolding text
+loop-less-2 c =
+    let b = text-bounds 0 (now (c .before .before .before .before .before .before .before .before .before .before .before .before .before .before .args .s)) (c .before .before .before .before .before .before .before .before .loop .at) _ _ (sym (c .before .before .before .before .before .before .text-at .ensures 0) ∙ ap (text 0 (now (c .before .before .before .before .before .before .before .before .before .before .before .before .before .before .args .s))) (c .before .before .before .before .step .given .1)) in
+    let forward = b .0 in
+    let within = b .1 in
+    omega arith
+
+loop-again-2 : tie.Need-loop-again-2 Inv-loop μ-loop
+unfolding text
+loop-again-2 c = records-passed _ _ _ _ _ _ (c .before .before .before .before .before .before .before .before .loop .inv) (c .before .before .before .before .before .before .before .loop-test .taken) _ _ (λ place. (sym (c .before .before .before .before .before .before .text-at .ensures place) ∙ ap (text place (now (c .before .before .before .before .before .before .before .before .before .before .before .before .before .before .args .s))) (c .before .before .before .before .step .given .1))) (sym (c .before .matches .ensures) ∙ c .if1 .left)
+
+same-length-2 : tie.Need-same-length-2 Inv-loop μ-loop
+same-length-2 c = c .before .loop .inv .long
+
+returns-2 : tie.Need-returns-2 Inv-loop μ-loop
+returns-2 c place = records-end _ _ _ _ _ _ (c .before .loop .inv) (c .loop-test .left) place
+
+pub collect-records-spec : {M : Type 1} → statement M
+collect-records-spec =
+    tie.close
+    (tie.spec
+    Inv-loop
+    μ-loop
+    loop-holds
+    text-at-requires
+    enum-told
+    same-length
+    returns
+    enum-known-step
+    add-end
+    sub-matches
+    part-matches-start
+    part-matches-end
+    matches-requires
+    put-pair-requires
+    add-found
+    loop-less
+    loop-again
+    loop-less-2
+    loop-again-2
+    same-length-2
+    returns-2)

@@ -1,0 +1,15 @@
+-- `reader::record::is_within` meets its contract: the test is on what is left behind the offset, so that no sum wraps. Assumes nothing.
+use mathlib.Core.Path.{sym}
+use denote.Ref.{now}
+use Rattle.reader.proofs.RecordLaws.{not-within, within-left}
+use Rattle.reader.proofs.record.is_within.Statement.{statement}
+use Rattle.reader.proofs.record.is_within.Tie as tie
+
+returns : tie.Need-returns
+returns c = sym (not-within (now (c .before .args .file)) (c .before .args .offset) (c .before .args .length) (c .if1 .taken))
+
+returns-2 : tie.Need-returns-2
+returns-2 c = within-left (now (c .before .args .file)) (c .before .args .offset) (c .before .args .length) (c .if1 .left)
+
+pub is-within-spec : {M : Type 1} → statement M
+is-within-spec = tie.close (tie.spec returns returns-2)

@@ -1,0 +1,87 @@
+// Reading a file front to back under a query, and handing back a record.
+ghost use mathlib.Core.Path.{_≡_};
+ghost use Prim.Native.Nat.{_≤_};
+ghost use lib.ListN.{length};
+ghost use Rattle.output_list.specs.OutputList.{zeros};
+ghost use Rattle.header.specs.Header.{blocksFrom};
+ghost use Rattle.query.specs.Query.{queryOf};
+ghost use Rattle.reader.specs.Read.{readBlocks, readOf, readAnswer, readList};
+
+mod collect;
+pub mod record;
+
+use crate::collect::collect;
+use block::pass::SurveyOutcome;
+use block::pass::survey;
+use header::Header;
+use header::HeaderOutcome;
+
+// Number and place of a refusal, both 0 without one, and how many records match.
+pub struct ReadAnswer {
+    pub number: u64,
+    pub place: u64,
+    pub matches: u64,
+}
+
+fn refusal(number: u64, place: u64) -> ReadAnswer
+    ensures { λ r. ⌜ r ≡ record { number = number; place = place; matches = 0 } ⌝ }
+{
+    ReadAnswer {
+        number,
+        place,
+        matches: 0,
+    }
+}
+
+// Reads the file front to back. The result list holds offset and length of each match, then zeros; after a refusal zeros.
+pub fn read(
+    file: &[u8],
+    start: &[u8],
+    stop_given: bool,
+    stop: &[u8],
+    prefix: &[u8],
+    results: &mut [u64],
+) -> ReadAnswer
+    ensures { λ r. ⌜ r ≡ readAnswer (readOf (now (file .entry)) (queryOf (now (start .entry)) «stop_given» (now (stop .entry)) (now (prefix .entry))) (length (now (results .entry)))) ⌝ }
+    ensures { λ r. ⌜ now (results .exit) ≡ readList (length (now (results .entry))) (readOf (now (file .entry)) (queryOf (now (start .entry)) «stop_given» (now (stop .entry)) (now (prefix .entry))) (length (now (results .entry)))) ⌝ }
+{
+    output_list::clear(results);
+    let made = Header::read(file);
+    match made {
+        HeaderOutcome::Bad(n) => refusal(n, 0),
+        HeaderOutcome::Good(h) => read_blocks(file, h, start, stop_given, stop, prefix, results),
+    }
+}
+
+// Reads the blocks of a file whose header is sound. The result list is all zeros before.
+fn read_blocks(
+    file: &[u8],
+    h: Header,
+    start: &[u8],
+    stop_given: bool,
+    stop: &[u8],
+    prefix: &[u8],
+    results: &mut [u64],
+) -> ReadAnswer
+    requires { ⌜ (blocksFrom h ≤ length (now file)) × (now results ≡ zeros (length (now results))) ⌝ }
+    ensures { λ r. ⌜ r ≡ readAnswer (readBlocks (now (file .entry)) (queryOf (now (start .entry)) «stop_given» (now (stop .entry)) (now (prefix .entry))) (length (now (results .entry))) h) ⌝ }
+    ensures { λ r. ⌜ now (results .exit) ≡ readList (length (now (results .entry))) (readBlocks (now (file .entry)) (queryOf (now (start .entry)) «stop_given» (now (stop .entry)) (now (prefix .entry))) (length (now (results .entry))) h) ⌝ }
+{
+    let from = Header::AROUND + h.extent as usize;
+    let stage = survey(file, from, h.root, h.rootsize);
+    match stage {
+        SurveyOutcome::Refused { number, place } => refusal(number, place as u64),
+        SurveyOutcome::Sound(_) => {
+            let found = collect(file, from, start, stop_given, stop, prefix, results);
+            if results.len() / 2 < found {
+                output_list::clear(results);
+                return refusal(27, 0);
+            }
+            ReadAnswer {
+                number: 0,
+                place: 0,
+                matches: found as u64,
+            }
+        },
+    }
+}
