@@ -1,9 +1,23 @@
 #!/usr/bin/env bash
-# Checks the layout of the sources, then proves every crate from nothing, tries the must-fail edits and runs the programs.
+# Checks the layout of the sources, proves every crate from nothing, tries the must-fail edits and runs the programs;
+# then tests the independent reader, and holds the stored cases to those that it makes.
 # `rt ci` removes target/, so whatever is built from the proved libraries comes after it.
 set -eu
 cd "$(dirname "$0")/.."
+PATH="$PATH:${CARGO_HOME:-$HOME/.cargo}/bin"
 
+scripts/setup.sh
 rt fmt --check
 echo "1 passed, 0 failed"
 rt ci
+(cd cli && cargo test --offline --quiet)
+
+made=$(mktemp -d)
+trap 'rm -rf "$made"' EXIT
+scripts/make-corpus.sh "$made"
+if ! diff -rq "$made/data" crates/archives/data || ! cmp "$made/stdout" crates/archives/stdout; then
+    echo "the stored cases aren't those that the independent reader makes: scripts/make-corpus.sh crates/archives"
+    echo "0 passed, 1 failed"
+    exit 1
+fi
+echo "1 passed, 0 failed"

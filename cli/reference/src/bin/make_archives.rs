@@ -1,0 +1,85 @@
+//! `make-archives DIR [read] [check] [search] [record]`
+//!
+//! Writes the corpus: `DIR/data/*` are the files, `DIR/data/cases` the cases of the calls
+//! named (all four if none is), and `DIR/stdout` the lines due. The same calls always give
+//! the same bytes.
+
+use std::error::Error;
+use std::fs;
+use std::path::Path;
+use std::process::ExitCode;
+
+use zs_reference::corpus::{Call, Corpus, ALL_CALLS};
+
+const USAGE: &str = "usage: make-archives DIR [read] [check] [search] [record]";
+
+fn main() -> ExitCode {
+    let arguments: Vec<String> = std::env::args().skip(1).collect();
+    let (folder, calls) = match parsed(&arguments) {
+        Some(parsed) => parsed,
+        None => {
+            eprintln!("{USAGE}");
+            return ExitCode::from(2);
+        }
+    };
+    match write(Path::new(folder), &calls) {
+        Ok(summary) => {
+            println!("{summary}");
+            ExitCode::SUCCESS
+        }
+        Err(error) => {
+            eprintln!("make-archives: {error}");
+            ExitCode::FAILURE
+        }
+    }
+}
+
+/// The folder and the calls asked for.
+fn parsed(arguments: &[String]) -> Option<(&str, Vec<Call>)> {
+    let (folder, words) = arguments.split_first()?;
+    let call = |word: &String| ALL_CALLS.into_iter().find(|call| call.word() == word);
+    let calls: Vec<Call> = words.iter().map(call).collect::<Option<_>>()?;
+    match calls.is_empty() {
+        true => Some((folder, ALL_CALLS.to_vec())),
+        false => Some((folder, calls)),
+    }
+}
+
+/// Writes everything and says how much it was.
+fn write(folder: &Path, calls: &[Call]) -> Result<String, Box<dyn Error>> {
+    let corpus = Corpus::whole().with_calls(calls);
+    if let Some(complaint) = corpus.beyond_limits() {
+        return Err(complaint.into());
+    }
+    let data = folder.join("data");
+    fs::create_dir_all(&data)?;
+    for file in &corpus.files {
+        fs::write(data.join(&file.name), &file.bytes)?;
+    }
+    let cases = corpus.encoded_cases();
+    fs::write(data.join("cases"), &cases)?;
+    fs::write(folder.join("stdout"), corpus.lines())?;
+    warn_of_strangers(&data, &corpus)?;
+    let bytes: usize = corpus.files.iter().map(|file| file.bytes.len()).sum();
+    Ok(format!(
+        "{} files ({bytes} bytes), {} cases ({} bytes)",
+        corpus.files.len(),
+        corpus.cases.len(),
+        cases.len(),
+    ))
+}
+
+/// Files left over from another run are named, and left alone.
+fn warn_of_strangers(data: &Path, corpus: &Corpus) -> Result<(), Box<dyn Error>> {
+    for entry in fs::read_dir(data)? {
+        let name = entry?.file_name().to_string_lossy().into_owned();
+        let known = name == "cases" || corpus.files.iter().any(|file| file.name == name);
+        if !known {
+            eprintln!(
+                "make-archives: {name} in {} isn't of this corpus",
+                data.display()
+            );
+        }
+    }
+    Ok(())
+}

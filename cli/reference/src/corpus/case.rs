@@ -1,0 +1,216 @@
+//! One case: a call on a named file, how it is stored, and the line due.
+
+use crate::reader::{check, read, record, search, within, Query};
+
+/// Which function a case calls.
+#[derive(Debug, Clone, Copy, PartialEq, Eq)]
+pub enum Call {
+    /// Reading front to back.
+    Read,
+    /// The check.
+    Check,
+    /// The search.
+    Search,
+    /// Handing back a record.
+    Record,
+}
+
+/// Every call, in the order of their numbers.
+pub const ALL_CALLS: [Call; 4] = [Call::Read, Call::Check, Call::Search, Call::Record];
+
+impl Call {
+    /// The number that stands for the call in a stored case.
+    pub fn number(self) -> u8 {
+        match self {
+            Call::Read => 1,
+            Call::Check => 2,
+            Call::Search => 3,
+            Call::Record => 4,
+        }
+    }
+
+    /// The word that stands for the call in a line and on the command line.
+    pub fn word(self) -> &'static str {
+        match self {
+            Call::Read => "read",
+            Call::Check => "check",
+            Call::Search => "search",
+            Call::Record => "record",
+        }
+    }
+}
+
+/// A case. What its call doesn't use is zero or empty.
+#[derive(Debug, Clone, PartialEq, Eq)]
+pub struct Case {
+    /// Name of the file.
+    pub name: String,
+    /// The call.
+    pub call: Call,
+    /// Start of the query.
+    pub start: Vec<u8>,
+    /// Whether a stop is given. If not, the bytes of `stop` mean nothing.
+    pub stop_given: bool,
+    /// Stop of the query.
+    pub stop: Vec<u8>,
+    /// Prefix of the query.
+    pub prefix: Vec<u8>,
+    /// Places of the result list.
+    pub result_places: u16,
+    /// Places of the opened list, or of the work list.
+    pub other_places: u16,
+    /// Offset of a record.
+    pub offset: u64,
+    /// Length of a record.
+    pub length: u64,
+}
+
+impl Case {
+    /// A case that asks for nothing and gives no room.
+    pub fn new(name: &str, call: Call) -> Self {
+        Case {
+            name: name.to_string(),
+            call,
+            start: Vec::new(),
+            stop_given: false,
+            stop: Vec::new(),
+            prefix: Vec::new(),
+            result_places: 0,
+            other_places: 0,
+            offset: 0,
+            length: 0,
+        }
+    }
+
+    /// The same case under a query.
+    pub fn asking(mut self, query: &Query) -> Self {
+        self.start = query.start.clone();
+        self.stop_given = query.stop.is_some();
+        self.stop = query.stop.clone().unwrap_or_default();
+        self.prefix = query.prefix.clone();
+        self
+    }
+
+    /// The query of the case.
+    pub fn query(&self) -> Query {
+        Query {
+            start: self.start.clone(),
+            stop: self.stop_given.then(|| self.stop.clone()),
+            prefix: self.prefix.clone(),
+        }
+    }
+
+    /// The case as `data/cases` stores it.
+    pub fn encoded(&self) -> Vec<u8> {
+        let mut out = Vec::new();
+        put_short(&mut out, self.name.as_bytes());
+        out.push(self.call.number());
+        put_short(&mut out, &self.start);
+        out.push(u8::from(self.stop_given));
+        put_short(&mut out, &self.stop);
+        put_short(&mut out, &self.prefix);
+        out.extend(self.result_places.to_le_bytes());
+        out.extend(self.other_places.to_le_bytes());
+        out.extend(self.offset.to_le_bytes());
+        out.extend(self.length.to_le_bytes());
+        out
+    }
+
+    /// The line due for the case, given the bytes of its file.
+    pub fn line(&self, file: &[u8]) -> String {
+        let answer = match self.call {
+            Call::Read => self.read_line(file),
+            Call::Check => self.check_line(file),
+            Call::Search => self.search_line(file),
+            Call::Record => self.record_line(file),
+        };
+        format!("{} {} {answer}", self.name, self.call.word())
+    }
+
+    fn read_line(&self, file: &[u8]) -> String {
+        let answer = read(file, &self.query(), usize::from(self.result_places));
+        format!(
+            "{}: number {} place {} matches {} results{}",
+            self.query_words(),
+            answer.number,
+            answer.place,
+            answer.matches,
+            list(&answer.results),
+        )
+    }
+
+    fn check_line(&self, file: &[u8]) -> String {
+        let places = usize::from(self.other_places);
+        let answer = check(file, places);
+        format!(
+            "{places}: number {} place {} blocks {} records {} work{}",
+            answer.number,
+            answer.place,
+            answer.blocks,
+            answer.records,
+            list(&vec![0; places]),
+        )
+    }
+
+    fn search_line(&self, file: &[u8]) -> String {
+        let opened_places = usize::from(self.other_places);
+        let result_places = usize::from(self.result_places);
+        let answer = search(file, &self.query(), opened_places, result_places);
+        format!(
+            "{}: number {} place {} matches {} opened {} openedlist{} results{}",
+            self.query_words(),
+            answer.number,
+            answer.place,
+            answer.matches,
+            answer.opened,
+            list(&answer.opened_list),
+            list(&answer.results),
+        )
+    }
+
+    fn record_line(&self, file: &[u8]) -> String {
+        let inside = match within(file, self.offset, self.length) {
+            true => "yes",
+            false => "no",
+        };
+        let (offset, length) = record(file, self.offset, self.length);
+        let behind = file.get(offset as usize..).unwrap_or(&[]);
+        let part = behind.get(..length as usize).unwrap_or(&[]);
+        format!(
+            "{} {}: within {inside} part {offset} {length} bytes {}",
+            self.offset,
+            self.length,
+            hex(part),
+        )
+    }
+
+    /// Start, stop and prefix as a line shows them.
+    fn query_words(&self) -> String {
+        let stop = match (self.stop_given, self.stop.is_empty()) {
+            (false, _) => "-".to_string(),
+            (true, true) => "empty".to_string(),
+            (true, false) => hex(&self.stop),
+        };
+        format!("{} {stop} {}", hex(&self.start), hex(&self.prefix))
+    }
+}
+
+/// Puts a string of at most 255 bytes with its length in front.
+fn put_short(out: &mut Vec<u8>, bytes: &[u8]) {
+    let bytes = bytes.get(..255).unwrap_or(bytes);
+    out.push(bytes.len() as u8);
+    out.extend(bytes);
+}
+
+/// The numbers of a list, each behind a space.
+fn list(numbers: &[u64]) -> String {
+    numbers.iter().map(|number| format!(" {number}")).collect()
+}
+
+/// Bytes in hex, `-` for none.
+fn hex(bytes: &[u8]) -> String {
+    match bytes.is_empty() {
+        true => "-".to_string(),
+        false => bytes.iter().map(|byte| format!("{byte:02x}")).collect(),
+    }
+}

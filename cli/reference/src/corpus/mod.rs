@@ -1,0 +1,147 @@
+//! The stored corpus: named files, cases to run on them, and the lines due.
+//!
+//! Each file carries a claim of its maker, so that the tests can compare what the
+//! maker meant with what the reader says. Lines come from the reader alone.
+
+mod build;
+mod case;
+mod drawn;
+mod examples;
+mod framing_faults;
+mod header_faults;
+mod hostile;
+mod naming_faults;
+mod order_faults;
+mod payload_faults;
+mod queried;
+mod sound;
+mod two_faults;
+
+pub use case::{Call, Case, ALL_CALLS};
+
+use std::collections::HashMap;
+
+/// No data file and no list of cases is longer.
+pub const LONGEST_DATA: usize = 65_536;
+/// No file name is longer.
+pub const LONGEST_NAME: usize = 40;
+/// No list of a case is longer.
+pub const MOST_PLACES: u16 = 128;
+
+/// What the maker of a file says that the check must answer, given room.
+#[derive(Debug, Clone, Copy, PartialEq, Eq)]
+pub enum Claim {
+    /// The file is accepted.
+    Sound,
+    /// Refused with this number and place, and no other refusal applies.
+    Only(u64, u64),
+    /// Refused with this number and place; later ones apply too.
+    First(u64, u64),
+    /// Nothing is claimed.
+    Nothing,
+}
+
+/// A named file of the corpus.
+#[derive(Debug, Clone)]
+pub struct File {
+    /// Its name, of small letters, digits, `-` and `_`.
+    pub name: String,
+    /// Its bytes.
+    pub bytes: Vec<u8>,
+    /// What its maker says of it.
+    pub claim: Claim,
+}
+
+/// The whole corpus.
+#[derive(Debug, Clone, Default)]
+pub struct Corpus {
+    /// The files in the order of their making.
+    pub files: Vec<File>,
+    /// The cases, those of one file together.
+    pub cases: Vec<Case>,
+}
+
+impl Corpus {
+    /// All files and all cases.
+    pub fn whole() -> Self {
+        let mut corpus = Corpus::default();
+        examples::add(&mut corpus);
+        sound::add(&mut corpus);
+        queried::add(&mut corpus);
+        header_faults::add(&mut corpus);
+        framing_faults::add(&mut corpus);
+        payload_faults::add(&mut corpus);
+        naming_faults::add(&mut corpus);
+        order_faults::add(&mut corpus);
+        two_faults::add(&mut corpus);
+        hostile::add(&mut corpus);
+        drawn::add(&mut corpus);
+        corpus.gather();
+        corpus
+    }
+
+    /// Brings the cases of one file together, in the order of the files.
+    fn gather(&mut self) {
+        let names = self.files.iter().enumerate();
+        let order: HashMap<&str, usize> = names
+            .map(|(number, file)| (file.name.as_str(), number))
+            .collect();
+        let position = |case: &Case| order.get(case.name.as_str()).copied();
+        self.cases.sort_by_key(position);
+    }
+
+    /// The same corpus with the cases of some calls only, and the files they name.
+    pub fn with_calls(mut self, calls: &[Call]) -> Self {
+        self.cases.retain(|case| calls.contains(&case.call));
+        let named: Vec<&str> = self.cases.iter().map(|case| case.name.as_str()).collect();
+        self.files
+            .retain(|file| named.contains(&file.name.as_str()));
+        self
+    }
+
+    /// The bytes of `data/cases`.
+    pub fn encoded_cases(&self) -> Vec<u8> {
+        self.cases.iter().flat_map(Case::encoded).collect()
+    }
+
+    /// The output due, one line for each case.
+    pub fn lines(&self) -> String {
+        let files = self.files.iter();
+        let bytes: HashMap<&str, &[u8]> = files
+            .map(|file| (file.name.as_str(), file.bytes.as_slice()))
+            .collect();
+        let mut out = String::new();
+        for case in &self.cases {
+            let file = bytes.get(case.name.as_str()).copied().unwrap_or(&[]);
+            out.push_str(&case.line(file));
+            out.push('\n');
+        }
+        out
+    }
+
+    /// Says what is beyond the limits of the format of cases, if anything is.
+    pub fn beyond_limits(&self) -> Option<String> {
+        let long = self
+            .files
+            .iter()
+            .find(|file| file.bytes.len() > LONGEST_DATA);
+        if let Some(file) = long {
+            return Some(format!("{} is too long", file.name));
+        }
+        if let Some(file) = self.files.iter().find(|file| !good_name(&file.name)) {
+            return Some(format!("{} is no good name", file.name));
+        }
+        let wide = |case: &&Case| case.result_places.max(case.other_places) > MOST_PLACES;
+        if let Some(case) = self.cases.iter().find(wide) {
+            return Some(format!("a case of {} has too many places", case.name));
+        }
+        let cases = self.encoded_cases().len();
+        (cases > LONGEST_DATA).then(|| format!("the cases take {cases} bytes"))
+    }
+}
+
+/// Whether a name may stand in a case.
+fn good_name(name: &str) -> bool {
+    let good = |byte: u8| matches!(byte, b'a'..=b'z' | b'0'..=b'9' | b'_' | b'-');
+    (1..=LONGEST_NAME).contains(&name.len()) && name != "cases" && name.bytes().all(good)
+}

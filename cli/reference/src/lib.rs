@@ -1,0 +1,17 @@
+//! A second, independent reader of ZS files, written from the papers only.
+//!
+//! It judges another implementation, so it shares neither code nor ideas with it.
+//!
+//! * [`reader`] checks, reads and searches files, and hands back records.
+//! * [`maker`] builds files: sound ones, unusual ones and damaged ones.
+//! * [`corpus`] names a fixed set of files and cases with the answers due.
+//!
+//! "The paper" in comments is 01-scope.md; refusal numbers are the paper's.
+
+#![forbid(unsafe_code)]
+#![warn(missing_docs)]
+
+pub mod checksums;
+pub mod corpus;
+pub mod maker;
+pub mod reader;

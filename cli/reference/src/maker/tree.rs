@@ -1,0 +1,258 @@
+//! Sound files: records grouped in data blocks, and an index over them.
+
+use super::image::{Content, Entry, Image, Plan, Target};
+use super::random::Random;
+
+/// No index block has a higher level.
+const HIGHEST_LEVEL: u8 = 63;
+
+/// A sound file to be made.
+#[derive(Debug, Clone)]
+pub struct Tree {
+    /// The records of each data block. All of them together rise; no group is empty.
+    pub groups: Vec<Vec<Vec<u8>>>,
+    /// Entries per index block on level 1, 2 and so on; the last one serves all levels above.
+    pub fan_out: Vec<usize>,
+    /// The root's level is at least this.
+    pub root_level: u8,
+    /// How keys are chosen.
+    pub keys: Keys,
+    /// Where index blocks stand.
+    pub placing: Placing,
+    /// Reserved blocks: in front of which ordinary block, level, payload.
+    pub reserved: Vec<(usize, u8, Vec<u8>)>,
+    /// The metadata.
+    pub metadata: Vec<u8>,
+    /// Header bytes to be ignored.
+    pub extra: Vec<u8>,
+}
+
+/// How an entry's key is chosen. Each way keeps the key rule.
+#[derive(Debug, Clone, Copy, PartialEq, Eq)]
+pub enum Keys {
+    /// The first record that the block leads to.
+    FirstRecord,
+    /// The shortest beginning of that record which keeps the rule.
+    Separator,
+    /// The last record before that one; empty where there is none.
+    LastBefore,
+    /// Empty where there is no record before, else the first record.
+    EmptyFirst,
+    /// Any of the above, and others between, drawn from this seed.
+    Mixed(u64),
+}
+
+/// Where index blocks stand in the file.
+#[derive(Debug, Clone, Copy, PartialEq, Eq)]
+pub enum Placing {
+    /// Behind all data blocks, level by level, the root last.
+    After,
+    /// In front of all data blocks, the root first.
+    Before,
+    /// Each behind all that it leads to.
+    BehindChildren,
+    /// Each in front of all that it leads to.
+    AheadOfChildren,
+    /// All of them behind the first data block.
+    BehindFirst,
+}
+
+/// A block of the tree, not yet placed.
+struct Node {
+    level: u8,
+    children: Vec<usize>,
+    /// The first group that it leads to.
+    group: usize,
+}
+
+impl Tree {
+    /// A file of these groups with plain choices for all the rest.
+    pub fn new<R: AsRef<[u8]>>(groups: &[&[R]]) -> Self {
+        let group = |records: &&[R]| records.iter().map(|r| r.as_ref().to_vec()).collect();
+        Tree {
+            groups: groups.iter().map(group).collect(),
+            fan_out: vec![usize::MAX],
+            root_level: 1,
+            keys: Keys::FirstRecord,
+            placing: Placing::After,
+            reserved: Vec::new(),
+            metadata: b"{}".to_vec(),
+            extra: Vec::new(),
+        }
+    }
+
+    /// The file.
+    pub fn bytes(&self) -> Vec<u8> {
+        self.image().bytes()
+    }
+
+    /// The file, open to be changed. Without groups it has no blocks.
+    pub fn image(&self) -> Image {
+        let mut image = match self.groups.is_empty() {
+            true => Image::new(Vec::new()),
+            false => self.blocks_and_root(),
+        };
+        image.metadata = self.metadata.clone();
+        image.extra = self.extra.clone();
+        image
+    }
+
+    fn blocks_and_root(&self) -> Image {
+        let nodes = self.nodes();
+        let order = self.file_order(&nodes);
+        let block_of = self.block_numbers(&order);
+        let mut blocks = Vec::new();
+        for (number, node) in order.iter().enumerate() {
+            blocks.extend(self.reserved_before(number));
+            blocks.push(self.plan(&nodes, *node, &block_of));
+        }
+        blocks.extend(self.reserved_behind(order.len()));
+        let mut image = Image::new(blocks);
+        image.root = Target::Block(block_of[nodes.len() - 1]);
+        image
+    }
+
+    /// All blocks, children before parents, the root last.
+    fn nodes(&self) -> Vec<Node> {
+        let leaf = |group| Node {
+            level: 0,
+            children: Vec::new(),
+            group,
+        };
+        let mut nodes: Vec<Node> = (0..self.groups.len()).map(leaf).collect();
+        let mut row: Vec<usize> = (0..nodes.len()).collect();
+        let mut level = 0;
+        while level < 1 || row.len() > 1 || level < self.root_level.min(HIGHEST_LEVEL) {
+            level += 1;
+            let mut above = Vec::new();
+            for children in row.chunks(self.entries_on(level)) {
+                above.push(nodes.len());
+                let group = children.first().map_or(0, |child| nodes[*child].group);
+                let children = children.to_vec();
+                nodes.push(Node {
+                    level,
+                    children,
+                    group,
+                });
+            }
+            row = above;
+        }
+        nodes
+    }
+
+    /// Entries per index block on a level. The highest level has room for all.
+    fn entries_on(&self, level: u8) -> usize {
+        let given = self.fan_out.get(usize::from(level) - 1);
+        let entries = match given {
+            Some(entries) => *entries,
+            None => self.fan_out.last().map_or(2, |entries| (*entries).max(2)),
+        };
+        match level {
+            HIGHEST_LEVEL => usize::MAX,
+            _ => entries.max(1),
+        }
+    }
+
+    /// The blocks in the order in which they are to stand.
+    fn file_order(&self, nodes: &[Node]) -> Vec<usize> {
+        let data = self.groups.len();
+        let root = nodes.len() - 1;
+        let index = data..nodes.len();
+        match self.placing {
+            Placing::After => (0..nodes.len()).collect(),
+            Placing::Before => index.rev().chain(0..data).collect(),
+            Placing::BehindFirst => (0..1).chain(index.rev()).chain(1..data).collect(),
+            Placing::BehindChildren => below(nodes, root, false),
+            Placing::AheadOfChildren => below(nodes, root, true),
+        }
+    }
+
+    /// For each node, which block of the file it becomes, reserved ones counted.
+    fn block_numbers(&self, order: &[usize]) -> Vec<usize> {
+        let mut numbers = vec![0; order.len()];
+        let mut next = 0;
+        for (position, node) in order.iter().enumerate() {
+            next += self.reserved_before(position).count();
+            numbers[*node] = next;
+            next += 1;
+        }
+        numbers
+    }
+
+    fn reserved_before(&self, position: usize) -> impl Iterator<Item = Plan> + '_ {
+        let here = self
+            .reserved
+            .iter()
+            .filter(move |(at, _, _)| *at == position);
+        here.map(|(_, level, payload)| Plan::bytes(*level, payload))
+    }
+
+    fn reserved_behind(&self, blocks: usize) -> impl Iterator<Item = Plan> + '_ {
+        let here = self.reserved.iter().filter(move |(at, _, _)| *at >= blocks);
+        here.map(|(_, level, payload)| Plan::bytes(*level, payload))
+    }
+
+    fn plan(&self, nodes: &[Node], node: usize, block_of: &[usize]) -> Plan {
+        if nodes[node].level == 0 {
+            return Plan::data(&self.groups[nodes[node].group]);
+        }
+        let entry = |child: &usize| Entry {
+            key: self.key(*child, nodes[*child].group),
+            target: Target::Block(block_of[*child]),
+        };
+        let entries = nodes[node].children.iter().map(entry).collect();
+        Plan::new(Some(nodes[node].level), Content::Entries(entries))
+    }
+
+    /// A key for the block `node`, which leads to `group` first.
+    fn key(&self, node: usize, group: usize) -> Vec<u8> {
+        let first = self.groups[group].first().cloned().unwrap_or_default();
+        let last_group = self.groups[..group].last();
+        let before = last_group.and_then(|records| records.last()).cloned();
+        match self.keys {
+            Keys::FirstRecord => first,
+            Keys::Separator => separator(before.as_deref(), &first),
+            Keys::LastBefore => before.unwrap_or_default(),
+            Keys::EmptyFirst if before.is_none() => Vec::new(),
+            Keys::EmptyFirst => first,
+            Keys::Mixed(seed) => mixed_key(seed ^ node as u64, before.as_deref(), first),
+        }
+    }
+}
+
+/// The blocks below and with `node`, parents ahead of or behind their children.
+fn below(nodes: &[Node], node: usize, ahead: bool) -> Vec<usize> {
+    let mut order = Vec::new();
+    if ahead {
+        order.push(node);
+    }
+    for child in &nodes[node].children {
+        order.extend(below(nodes, *child, ahead));
+    }
+    if !ahead {
+        order.push(node);
+    }
+    order
+}
+
+/// The shortest beginning of `first` that is at least `before`.
+fn separator(before: Option<&[u8]>, first: &[u8]) -> Vec<u8> {
+    let at_least = before.unwrap_or(&[]);
+    let beginnings = (0..=first.len()).map(|length| &first[..length]);
+    let shortest = beginnings.into_iter().find(|key| *key >= at_least);
+    shortest.unwrap_or(first).to_vec()
+}
+
+/// Some key between `before` and `first`, both allowed.
+fn mixed_key(seed: u64, before: Option<&[u8]>, first: Vec<u8>) -> Vec<u8> {
+    let mut random = Random::new(seed);
+    let before = before.unwrap_or(&[]).to_vec();
+    let mut longer = before.clone();
+    longer.push(random.next() as u8);
+    match random.below(4) {
+        0 => separator(Some(&before), &first),
+        1 => before,
+        2 if longer <= first => longer,
+        _ => first,
+    }
+}

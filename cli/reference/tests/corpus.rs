@@ -1,0 +1,177 @@
+//! The corpus: its claims, its limits and its stored form.
+
+mod support;
+
+use std::collections::{BTreeMap, BTreeSet};
+
+use support::tree::faults;
+use zs_reference::corpus::{Call, Case, Claim, Corpus, File, ALL_CALLS};
+use zs_reference::reader::check;
+
+/// Whether what a file's maker says of it is so.
+fn holds(file: &File) -> bool {
+    let checked = check(&file.bytes, 128);
+    let answer = (checked.number, checked.place);
+    let faults: Vec<u64> = faults(&file.bytes).into_iter().collect();
+    match file.claim {
+        Claim::Sound => answer == (0, 0) && faults.is_empty(),
+        Claim::Only(number, place) => answer == (number, place) && faults == [number],
+        Claim::First(number, place) => {
+            answer == (number, place) && faults.contains(&number) && faults.len() > 1
+        }
+        Claim::Nothing => (answer.0 == 0) == faults.is_empty(),
+    }
+}
+
+#[test]
+fn claims_hold() {
+    let corpus = Corpus::whole();
+    let broken = corpus.files.iter().filter(|file| !holds(file));
+    let broken: Vec<String> = broken
+        .map(|file| {
+            let checked = check(&file.bytes, 128);
+            let faults = faults(&file.bytes);
+            format!("{} {:?} {checked:?} {faults:?}", file.name, file.claim)
+        })
+        .collect();
+    assert!(broken.is_empty(), "{broken:#?}");
+}
+
+#[test]
+fn each_refusal_has_two_files() {
+    let mut times: BTreeMap<u64, usize> = BTreeMap::new();
+    let mut several = 0;
+    for file in Corpus::whole().files {
+        match file.claim {
+            Claim::Only(number, _) => *times.entry(number).or_default() += 1,
+            Claim::First(number @ (21 | 23), _) => *times.entry(number).or_default() += 1,
+            Claim::First(_, _) => several += 1,
+            Claim::Sound | Claim::Nothing => {}
+        }
+    }
+    for number in (2..=17).chain(19..=25) {
+        let files = times.get(&number).copied().unwrap_or(0);
+        assert!(files >= 2, "refusal {number} has {files} files");
+    }
+    assert!(several >= 12);
+}
+
+#[test]
+fn limits_hold() {
+    let corpus = Corpus::whole();
+    assert_eq!(corpus.beyond_limits(), None);
+    let names: BTreeSet<&str> = corpus.files.iter().map(|file| file.name.as_str()).collect();
+    assert_eq!(names.len(), corpus.files.len());
+    let asked: BTreeSet<&str> = corpus.cases.iter().map(|case| case.name.as_str()).collect();
+    assert_eq!(names, asked);
+    let mut in_order: Vec<&str> = corpus.cases.iter().map(|case| case.name.as_str()).collect();
+    in_order.dedup();
+    let files: Vec<&str> = corpus.files.iter().map(|file| file.name.as_str()).collect();
+    assert_eq!(in_order, files);
+    let longest = corpus.files.iter().map(|file| file.bytes.len()).max();
+    assert_eq!(longest, Some(65_536));
+}
+
+#[test]
+fn same_bytes_each_time() {
+    let (one, two) = (Corpus::whole(), Corpus::whole());
+    assert_eq!(one.encoded_cases(), two.encoded_cases());
+    assert_eq!(one.lines(), two.lines());
+    let bytes = |corpus: &Corpus| -> Vec<Vec<u8>> {
+        corpus.files.iter().map(|file| file.bytes.clone()).collect()
+    };
+    assert_eq!(bytes(&one), bytes(&two));
+}
+
+#[test]
+fn calls_can_be_chosen() {
+    for call in ALL_CALLS {
+        let corpus = Corpus::whole().with_calls(&[call]);
+        assert!(!corpus.cases.is_empty());
+        assert!(corpus.cases.iter().all(|case| case.call == call));
+    }
+}
+
+/// Reads a case back as the brief of the format has it.
+fn decoded(bytes: &mut &[u8]) -> Case {
+    let name = String::from_utf8(take_short(bytes)).expect("a name");
+    let number = take(bytes, 1)[0];
+    let call = ALL_CALLS[usize::from(number) - 1];
+    assert_eq!(call.number(), number);
+    let mut case = Case::new(&name, call);
+    case.start = take_short(bytes);
+    case.stop_given = take(bytes, 1)[0] == 1;
+    case.stop = take_short(bytes);
+    case.prefix = take_short(bytes);
+    case.result_places = take_number(bytes, 2) as u16;
+    case.other_places = take_number(bytes, 2) as u16;
+    case.offset = take_number(bytes, 8);
+    case.length = take_number(bytes, 8);
+    case
+}
+
+fn take<'a>(bytes: &mut &'a [u8], length: usize) -> &'a [u8] {
+    let (taken, rest) = bytes.split_at(length);
+    *bytes = rest;
+    taken
+}
+
+fn take_short(bytes: &mut &[u8]) -> Vec<u8> {
+    let length = take(bytes, 1)[0];
+    take(bytes, usize::from(length)).to_vec()
+}
+
+fn take_number(bytes: &mut &[u8], length: usize) -> u64 {
+    let digits = take(bytes, length).iter().rev();
+    digits.fold(0, |sum, digit| sum * 256 + u64::from(*digit))
+}
+
+#[test]
+fn cases_read_back() {
+    let corpus = Corpus::whole();
+    let stored = corpus.encoded_cases();
+    let mut rest = &stored[..];
+    for case in &corpus.cases {
+        assert_eq!(decoded(&mut rest), *case);
+    }
+    assert!(rest.is_empty());
+}
+
+/// The line due for a case of the paper's two-block file.
+fn line(call: Call, change: impl FnOnce(&mut Case)) -> String {
+    let corpus = Corpus::whole();
+    let two_blocks = corpus.files.iter().find(|file| file.name == "two-blocks");
+    let mut case = Case::new("two-blocks", call);
+    change(&mut case);
+    case.line(&two_blocks.expect("the file").bytes)
+}
+
+#[test]
+fn lines_have_their_form() {
+    let read = line(Call::Read, |case| {
+        (case.prefix, case.result_places) = (b"b".to_vec(), 5);
+    });
+    let due = "two-blocks read - - 62: number 0 place 0 matches 2 results 111 2 124 2 0";
+    assert_eq!(read, due);
+    let read = line(Call::Read, |case| case.stop_given = true);
+    let due = "two-blocks read - empty -: number 0 place 0 matches 0 results";
+    assert_eq!(read, due);
+    let check = line(Call::Check, |case| case.other_places = 3);
+    let due = "two-blocks check 3: number 0 place 0 blocks 3 records 4 work 0 0 0";
+    assert_eq!(check, due);
+    let check = line(Call::Check, |_| {});
+    let due = "two-blocks check 0: number 18 place 0 blocks 0 records 0 work";
+    assert_eq!(check, due);
+    let search = line(Call::Search, |case| {
+        (case.start, case.other_places, case.result_places) = (b"b\xff".to_vec(), 4, 6);
+    });
+    let due = "two-blocks search 62ff - -: number 0 place 0 matches 3 opened 3 \
+               openedlist 136 106 121 0 results 111 2 124 2 127 1";
+    assert_eq!(search, due);
+    let record = line(Call::Record, |case| (case.offset, case.length) = (111, 2));
+    let due = "two-blocks record 111 2: within yes part 111 2 bytes 62ff";
+    assert_eq!(record, due);
+    let record = line(Call::Record, |case| (case.offset, case.length) = (154, 1));
+    let due = "two-blocks record 154 1: within no part 0 0 bytes -";
+    assert_eq!(record, due);
+}

@@ -1,0 +1,16 @@
+// The lists that the calls are lent.
+ghost use Rattle.io.specs.Counts.{Counts};
+
+// What stands in each place before a call, so that a place that isn't cleared shows.
+pub const RUBBISH: u64 = 0x5a5a5a5a5a5a5a5a;
+
+// How many places of `list` are lent where a case asks for `places`. No case of the corpus asks for more than there are.
+pub fn room(places: u64, list: &[u64]) -> usize
+    ensures { λ r. ⌜ Counts r (now (list .entry)) ⌝ }
+{
+    if places < list.len() as u64 {
+        places as usize
+    } else {
+        list.len()
+    }
+}

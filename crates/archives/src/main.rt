@@ -1,0 +1,80 @@
+// Runs the stored cases: for each case of the file `cases` a call on the file that it names, and a line with the answer.
+ghost use Rattle.io.specs.Counts.{Counts};
+
+mod cases;
+mod lists;
+mod print;
+mod read;
+mod record;
+
+use cases::Case;
+use cases::Parsed;
+use cases::case_at;
+use cases::part;
+
+// Reads a file and closes it; answers how many bytes of `space` it fills. A longer file would be cut, and the corpus has none.
+fn fill(fd: i32, space: &mut [u8]) -> usize
+    ensures { λ r. ⌜ Counts r (now (space .exit)) ⌝ }
+{
+    let n = io::read_full(fd, space);
+    libc::close(fd);
+    n
+}
+
+// Makes the call of a case on the bytes of its file, and prints the line.
+fn answer(file: &[u8], stored: &[u8], case: Case) {
+    let name = case.name;
+    print::text(part(stored, name));
+    let call = case.call;
+    match call {
+        1 => read::run(file, stored, case),
+        4 => record::run(file, case),
+        _ => print::number(b" unknown call ", call as u64),
+    }
+    print::text(b"\n");
+}
+
+// Opens the file of a case, or says why it can't, and makes the call on its bytes.
+fn run_case(stored: &[u8], case: Case) {
+    let name = case.name;
+    let path = part(stored, name);
+    let fd = os::open_read(path);
+    if fd < 0 {
+        os::fail(path);
+        return;
+    }
+    let mut space = io::large_buffer();
+    let n = fill(fd, &mut space);
+    answer(&space[..n], stored, case);
+}
+
+// Runs the cases one behind the other.
+fn run_all(stored: &[u8]) {
+    let mut at = 0;
+    while at < stored.len() {
+        let parsed = case_at(stored, at);
+        match parsed {
+            Parsed::Cut => {
+                print::number(b"cut case at ", at as u64);
+                print::text(b"\n");
+                return;
+            },
+            Parsed::Whole(case) => {
+                run_case(stored, case);
+                at = case.next;
+            },
+        }
+    }
+}
+
+fn main() {
+    let path = b"cases";
+    let fd = os::open_read(path);
+    if fd < 0 {
+        os::fail(path);
+        return;
+    }
+    let mut space = io::large_buffer();
+    let n = fill(fd, &mut space);
+    run_all(&space[..n]);
+}

@@ -1,0 +1,48 @@
+#!/bin/sh
+# Installs what cli/ needs on a Debian 12 machine, and only what is missing.
+# apt-get isn't called at all where nothing is missing.
+set -eu
+
+missing=""
+
+# Notes a Debian package that isn't installed.
+need() {
+    state=$(dpkg-query -W -f='${Status}' "$1" 2>/dev/null || true)
+    if [ "$state" != "install ok installed" ]; then
+        missing="$missing $1"
+    fi
+}
+
+# Whether a command is there; rustup's folder may not be on the path yet.
+have() {
+    command -v "$1" >/dev/null 2>&1 || [ -x "${CARGO_HOME:-$HOME/.cargo}/bin/$1" ]
+}
+
+# The crates that the independent reader uses.
+need librust-crc-dev
+need librust-sha2-dev
+
+# A Rust tool chain from elsewhere does as well as Debian's (1.63 is enough).
+have cargo || need cargo
+have rustc || need rustc
+have cc || need gcc
+
+if [ -n "$missing" ]; then
+    as_root=""
+    if [ "$(id -u)" -ne 0 ]; then
+        as_root="sudo"
+    fi
+    $as_root apt-get update
+    # Word splitting is meant: each word is a package.
+    # shellcheck disable=SC2086
+    $as_root env DEBIAN_FRONTEND=noninteractive apt-get install -y --no-install-recommends $missing
+fi
+
+# Other releases of Debian bring other versions, which cli/ isn't written for.
+for crate in crc-1.8 sha2-0.10; do
+    set -- /usr/share/cargo/registry/"$crate"*
+    if [ ! -d "$1" ]; then
+        echo "setup: no $crate in /usr/share/cargo/registry; this needs Debian 12" >&2
+        exit 1
+    fi
+done
