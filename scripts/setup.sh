@@ -21,6 +21,8 @@ have() {
 # The crates that the independent reader uses.
 need librust-crc-dev
 need librust-sha2-dev
+# The mapped files of the library's tests.
+need librust-memmap2-dev
 
 # A Rust tool chain from elsewhere does as well as Debian's (1.63 is enough).
 have cargo || need cargo

@@ -10,6 +10,7 @@ scripts/setup.sh
 rt fmt --check
 echo "1 passed, 0 failed"
 rt ci
+rt staticlib zs >/dev/null
 (cd cli && cargo test --offline --quiet)
 
 made=$(mktemp -d)

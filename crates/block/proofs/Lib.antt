@@ -8,3 +8,4 @@ pub mod LocalLaws
 pub mod ReadLaws
 pub mod HeldLaws
 pub mod TileLaws
+pub mod RefusalLaws

@@ -3,3 +3,4 @@ pub mod OutcomeLaws
 pub mod PartLaws
 pub mod ItemsLaws
 pub mod ListsLaws
+pub mod RefusalLaws

@@ -1,13 +1,13 @@
--- Laws of lists: the elements that pass a test, whether any does, lists joined, and numbers that ascend.
+-- Laws of lists: the elements that pass a test, whether any or all do, lists joined, and numbers that ascend.
 -- Assumes nothing.
 use mathlib.Core.Path.{_≡_, refl, sym, ap, _∙_, subst}
-use mathlib.Core.Bool.{Bool, true, false, _||_, cond, or-assoc}
+use mathlib.Core.Bool.{Bool, true, false, _&&_, _||_, cond, and-eq-true-iff, or-assoc, or-true}
 use mathlib.Core.Logic.{_⊎_, inl, inr}
 use mathlib.Core.List.{List, [], _∷_, _++_, flatMap, map, append-assoc, List·Memᴰ, List·Memᴰ·head, List·Memᴰ·tail, List·Memᴰ·not-nil, List·Memᴰ·cases-cons, List·Memᴰ·append-cases, Memᴰ·append-left, Memᴰ·append-right}
 use Prim.Native.Nat.{ℕ, zero, suc, _+_, _≤_, _<_}
 use native.Mathlib.Omega.{arith}
 use lib.ListN.{length, getD}
-use Rattle.outcome.specs.Lists.{keep, any}
+use Rattle.outcome.specs.Lists.{keep, any, all}
 
 pub keep-append : {A : Type 0} (test : A → Bool) (xs ys : List A) → keep test (xs ++ ys) ≡ keep test xs ++ keep test ys
 unfolding keep
@@ -140,3 +140,81 @@ module _ {A : Type 0} (number : A → ℕ) where
       go (inl p) (inr q) rest = absurd (first x y p q e)
       go (inr p) (inl q) rest = absurd (first y x q p (sym e))
       go (inr p) (inr q) rest = rest p q
+
+-- ---- truth
+
+pub both : (a b : Bool) → a ≡ true → b ≡ true → (a && b) ≡ true
+both a b p q = and-eq-true-iff a b .1 (p, q)
+
+pub both⁻¹ : (a b : Bool) → (a && b) ≡ true → (a ≡ true) × (b ≡ true)
+both⁻¹ a b e = and-eq-true-iff a b .0 e
+
+pub false-not-true : false ≡ true → ⊥
+false-not-true e = let z : _≡_ {A = ℕ} 0 1 = cc in omega arith
+
+-- ---- tests over the members: what holds of the whole list holds of each, and back
+
+module _ {A : Type 0} (test : A → Bool) where
+  -- all
+
+  pub all-member : (xs : List A) → all test xs ≡ true → (x : A) → List·Memᴰ x xs → test x ≡ true
+  unfolding all
+  all-member xs h x (List·Memᴰ·head {x = y} {xs = ys} e) = ap test e ∙ both⁻¹ (test y) (all test ys) h .0
+  all-member xs h x (List·Memᴰ·tail {x = y} {xs = ys} m) = all-member ys (both⁻¹ (test y) (all test ys) h .1) x m
+
+  pub member-all : (xs : List A) → ((x : A) → List·Memᴰ x xs → test x ≡ true) → all test xs ≡ true
+  unfolding all
+  member-all [] h = refl
+  member-all (x ∷ xs) h = both (test x) (all test xs) (h x (List·Memᴰ·head refl)) (member-all xs (λ y m. h y (List·Memᴰ·tail m)))
+
+  -- any
+
+  pub any-member : (xs : List A) → any test xs ≡ true → (x : A) × List·Memᴰ x xs × (test x ≡ true)
+  unfolding any
+  any-member [] h = absurd (false-not-true h)
+  any-member (x ∷ xs) h = go (test x) refl h (λ (k : any test xs ≡ true). any-member xs k)
+    where
+      go : (b : Bool) → test x ≡ b → (b || any test xs) ≡ true → (any test xs ≡ true → (y : A) × List·Memᴰ y xs × (test y ≡ true)) → (y : A) × List·Memᴰ y (x ∷ xs) × (test y ≡ true)
+      go true e k rest = (x, List·Memᴰ·head refl, e)
+      go false e k rest = let r = rest k in (r .0, List·Memᴰ·tail (r .1), r .2)
+
+  pub member-any : (xs : List A) (x : A) → List·Memᴰ x xs → test x ≡ true → any test xs ≡ true
+  unfolding any
+  member-any xs x (List·Memᴰ·head {x = y} {xs = ys} e) h = ap (λ (b : Bool). b || any test ys) (sym (ap test e) ∙ h)
+  member-any xs x (List·Memᴰ·tail {x = y} {xs = ys} m) h = ap (λ (b : Bool). test y || b) (member-any ys x m h) ∙ or-true (test y)
+
+  -- keep
+
+  pub keep-member : (xs : List A) (x : A) → List·Memᴰ x (keep test xs) → List·Memᴰ x xs × (test x ≡ true)
+  unfolding keep
+  keep-member [] x m = absurd (List·Memᴰ·not-nil m)
+  keep-member (y ∷ ys) x m = go (test y) refl m (λ (i : List·Memᴰ x (keep test ys)). keep-member ys x i)
+    where
+      later : List·Memᴰ x ys × (test x ≡ true) → List·Memᴰ x (y ∷ ys) × (test x ≡ true)
+      later r = (List·Memᴰ·tail (r .0), r .1)
+
+      first : test y ≡ true → List·Memᴰ x (y ∷ keep test ys) → (List·Memᴰ x (keep test ys) → List·Memᴰ x ys × (test x ≡ true)) → List·Memᴰ x (y ∷ ys) × (test x ≡ true)
+      first e (List·Memᴰ·head same) rest = (List·Memᴰ·head same, ap test same ∙ e)
+      first e (List·Memᴰ·tail i) rest = later (rest i)
+
+      go : (b : Bool) → test y ≡ b → List·Memᴰ x (cond b (y ∷ keep test ys) (keep test ys)) → (List·Memᴰ x (keep test ys) → List·Memᴰ x ys × (test x ≡ true)) → List·Memᴰ x (y ∷ ys) × (test x ≡ true)
+      go true e i rest = first e i rest
+      go false e i rest = later (rest i)
+
+  pub member-keep : (xs : List A) (x : A) → List·Memᴰ x xs → test x ≡ true → List·Memᴰ x (keep test xs)
+  unfolding keep
+  member-keep xs x (List·Memᴰ·head {x = y} {xs = ys} e) h =
+      subst (λ (b : Bool). List·Memᴰ x (cond b (y ∷ keep test ys) (keep test ys))) (sym (sym (ap test e) ∙ h)) (List·Memᴰ·head e)
+  member-keep xs x (List·Memᴰ·tail {x = y} {xs = ys} m) h = go (test y) (member-keep ys x m h)
+    where
+      go : (b : Bool) → List·Memᴰ x (keep test ys) → List·Memᴰ x (cond b (y ∷ keep test ys) (keep test ys))
+      go true i = List·Memᴰ·tail i
+      go false i = i
+
+  pub keep-first : (x : A) (xs : List A) → test x ≡ true → keep test (x ∷ xs) ≡ x ∷ keep test xs
+  unfolding keep
+  keep-first x xs h = rw h
+
+  pub keep-later : (x : A) (xs : List A) → test x ≡ false → keep test (x ∷ xs) ≡ keep test xs
+  unfolding keep
+  keep-later x xs h = rw h

@@ -1,5 +1,5 @@
--- Lists: the elements that pass a test, and whether any does.
-use mathlib.Core.Bool.{Bool, false, _||_, cond}
+-- Lists: the elements that pass a test, and whether any or all do.
+use mathlib.Core.Bool.{Bool, true, false, _&&_, _||_, cond}
 use mathlib.Core.List.{List, [], _∷_}
 
 module _ {A : Type 0} (test : A → Bool) where
@@ -12,3 +12,8 @@ module _ {A : Type 0} (test : A → Bool) where
   unfoldable pub any : List A → Bool
   any [] = false
   any (x ∷ xs) = test x || any xs
+
+  -- every element passes the test
+  unfoldable pub all : List A → Bool
+  all [] = true
+  all (x ∷ xs) = test x && all xs

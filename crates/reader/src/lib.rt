@@ -17,6 +17,7 @@ use header::Header;
 use header::HeaderOutcome;
 
 // Number and place of a refusal, both 0 without one, and how many records match.
+#[repr(C)]
 pub struct ReadAnswer {
     pub number: u64,
     pub place: u64,

@@ -1,0 +1,4 @@
+-- The meaning of the check.
+pub mod Tree
+pub mod Check
+pub mod Rules

@@ -1,0 +1,52 @@
+// The C interface: thin exports, each with the contract of the function behind it. include/zs.h documents it for callers.
+//
+// C can't receive a slice as a result, so zs_record hands back where the part lies.
+ghost use mathlib.Core.Path.{_≡_};
+ghost use lib.ListN.{length};
+ghost use Rattle.query.specs.Query.{queryOf};
+ghost use Rattle.reader.specs.Read.{readOf, readAnswer, readList};
+ghost use Rattle.reader.specs.Record.{isWithin, partStart, partLength};
+use reader::ReadAnswer;
+
+// A part of the file: the offset of its first byte, and its length.
+#[repr(C)]
+pub struct Part {
+    pub offset: u64,
+    pub size: u64,
+}
+
+// Reads the file front to back (`reader::read`).
+#[no_mangle]
+pub extern "C" fn zs_read(
+    file: &[u8],
+    start: &[u8],
+    stop_given: bool,
+    stop: &[u8],
+    prefix: &[u8],
+    results: &mut [u64],
+) -> ReadAnswer
+    ensures { λ r. ⌜ r ≡ readAnswer (readOf (now (file .entry)) (queryOf (now (start .entry)) «stop_given» (now (stop .entry)) (now (prefix .entry))) (length (now (results .entry)))) ⌝ }
+    ensures { λ r. ⌜ now (results .exit) ≡ readList (length (now (results .entry))) (readOf (now (file .entry)) (queryOf (now (start .entry)) «stop_given» (now (stop .entry)) (now (prefix .entry))) (length (now (results .entry)))) ⌝ }
+{
+    reader::read(file, start, stop_given, stop, prefix, results)
+}
+
+// Where the part of `size` bytes from `offset` on lies; offset and size 0 where it isn't within the file.
+#[no_mangle]
+pub extern "C" fn zs_record(file: &[u8], offset: u64, size: u64) -> Part
+    ensures { λ r. ⌜ r ≡ record { offset = partStart (now (file .entry)) offset size; size = partLength (now (file .entry)) offset size } ⌝ }
+{
+    if reader::record::is_within(file, offset, size) {
+        Part { offset, size }
+    } else {
+        Part { offset: 0, size: 0 }
+    }
+}
+
+// Whether the part of `size` bytes from `offset` on lies within the file.
+#[no_mangle]
+pub extern "C" fn zs_within(file: &[u8], offset: u64, size: u64) -> bool
+    ensures { λ r. ⌜ r ≡ isWithin (now (file .entry)) offset size ⌝ }
+{
+    reader::record::is_within(file, offset, size)
+}

@@ -1,0 +1,38 @@
+/* The proved library, for C and C++. Link target/staticlib/libzs.a (made by `rt staticlib zs`).
+ *
+ * Every function takes any bytes and always returns. A byte string is a pointer and a length; with length 0 the pointer is not read but
+ * must not be null. Lists are 64-bit numbers, aligned as such, and must not overlap each other or the byte strings; byte strings may
+ * overlap each other and are never written.
+ *
+ * Without a refusal number and place are 0. After one every count is 0 and every place of every list is 0. README.md has the numbers.
+ */
+#ifndef ZS_H
+#define ZS_H
+
+#include <stdbool.h>
+#include <stddef.h>
+#include <stdint.h>
+
+#ifdef __cplusplus
+extern "C" {
+#endif
+
+typedef struct { uint64_t number, place, matches; } zs_read_answer;
+typedef struct { uint64_t offset, length; } zs_part;
+
+/* Reads the file front to back. The result list receives offset and length of each record that matches, in file order, and zeros
+ * behind. Where stop_given is false the bytes of stop have no influence. */
+zs_read_answer zs_read(const uint8_t *file, size_t file_len, const uint8_t *start, size_t start_len, bool stop_given,
+                       const uint8_t *stop, size_t stop_len, const uint8_t *prefix, size_t prefix_len, uint64_t *results,
+                       size_t results_len);
+
+/* Where the part of `length` bytes from `offset` on lies; 0, 0 where it isn't within the file. */
+zs_part zs_record(const uint8_t *file, size_t file_len, uint64_t offset, uint64_t length);
+
+/* Whether that part lies within the file. */
+bool zs_within(const uint8_t *file, size_t file_len, uint64_t offset, uint64_t length);
+
+#ifdef __cplusplus
+}
+#endif
+#endif
