@@ -11,3 +11,13 @@ pub mod TreeRuleLaws
 pub mod AcceptLaws
 pub mod PlacesLaws
 pub mod SmallestFile
+-- the tree of an accepted file, on which the search is built
+pub mod TreeLaws
+pub mod TreeWays
+pub mod TreePreorder
+pub mod TreeUnique
+pub mod TreeLevels
+pub mod TreeCuts
+pub mod TreeBounds
+pub mod TreeKeys
+pub mod TreeFile

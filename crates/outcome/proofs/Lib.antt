@@ -4,3 +4,5 @@ pub mod PartLaws
 pub mod ItemsLaws
 pub mod ListsLaws
 pub mod RefusalLaws
+pub mod RisingLaws
+pub mod CountLaws
