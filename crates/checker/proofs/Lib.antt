@@ -1,23 +1,13 @@
--- The laws of the check: a file is accepted exactly where it keeps the rules of the format.
-pub mod FillLaws
-pub mod ItemRuleLaws
-pub mod SortedLaws
-pub mod HeaderRuleLaws
-pub mod BlockRuleLaws
-pub mod StageLaws
-pub mod TiledLaws
-pub mod OrderedLaws
-pub mod TreeRuleLaws
-pub mod AcceptLaws
-pub mod PlacesLaws
-pub mod SmallestFile
--- the tree of an accepted file, on which the search is built
+-- The tree of a file's blocks: ways down from the root, and that walk order is file order.
 pub mod TreeLaws
 pub mod TreeWays
-pub mod TreePreorder
-pub mod TreeUnique
-pub mod TreeLevels
-pub mod TreeCuts
-pub mod TreeBounds
 pub mod TreeKeys
-pub mod TreeFile
+-- What the code of refusals 19 and 20 rests on.
+pub mod SearchLaws
+pub mod StartsLaws
+pub mod HopLaws
+pub mod WordLaws
+pub mod NamesLaws
+pub mod EntriesLaws
+pub mod BlockNamesLaws
+pub mod CountLaws

@@ -1,4 +1,5 @@
 -- The meaning of the check.
 pub mod Tree
 pub mod Check
-pub mod Rules
+pub mod Starts
+pub mod Names

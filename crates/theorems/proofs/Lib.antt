@@ -1,2 +1,21 @@
--- The proofs of what specs/ claims.
+-- The proofs of what specs/ claims: the examples, and that the check accepts exactly the files that keep the rules.
 pub mod Examples
+pub mod FillLaws
+pub mod ItemRuleLaws
+pub mod SortedLaws
+pub mod HeaderRuleLaws
+pub mod BlockRuleLaws
+pub mod StageLaws
+pub mod TiledLaws
+pub mod OrderedLaws
+pub mod TreeRuleLaws
+pub mod AcceptLaws
+pub mod PlacesLaws
+pub mod SmallestFile
+-- The tree of an accepted file: each block once, cuts and bounds.
+pub mod TreePreorder
+pub mod TreeUnique
+pub mod TreeLevels
+pub mod TreeCuts
+pub mod TreeBounds
+pub mod TreeFile

@@ -1,2 +1,3 @@
 -- What is claimed of the definitions.
 pub mod Examples
+pub mod Rules
