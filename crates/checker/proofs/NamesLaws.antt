@@ -2,8 +2,7 @@
 -- Assumes nothing.
 use mathlib.Core.Path.{_≡_, refl, sym, ap, _∙_}
 use mathlib.Core.Bool.{Bool, true, false, _&&_, _||_}
-use mathlib.Core.Logic.{_⊎_, inl, inr}
-use mathlib.Core.List.{List, [], _∷_, _++_, List·Memᴰ, List·Memᴰ·head, List·Memᴰ·tail, List·Memᴰ·not-nil, List·Memᴰ·cases-cons}
+use mathlib.Core.List.{List, [], _∷_, _++_, List·Memᴰ, List·Memᴰ·head, List·Memᴰ·tail}
 use Prim.Native.Nat.{ℕ, _+_, _≤_, _<_}
 use native.Mathlib.Omega.{arith}
 use lib.Dec.{eqb}
@@ -19,6 +18,7 @@ use Rattle.block.specs.Block.{Block}
 use Rattle.block.specs.Survey.{ordinary}
 use Rattle.block.proofs.HeldLaws.{block-frame}
 use Rattle.checker.specs.Tree.{names}
+use Rattle.outcome.proofs.ListsLaws.{member-any}
 use Rattle.checker.specs.Starts.{startsOf, StartsRise, Searched}
 use Rattle.checker.specs.Names.{Kept, Named}
 use Rattle.checker.proofs.StartsLaws.{AtIndex, index-of, length-starts, ordinary-read, ordinary-unique}
@@ -27,19 +27,6 @@ use Rattle.checker.proofs.WordLaws.{kept-block, kept-start-at, kept-ris
 -- ---- lists
 
 module _ {A : Type 0} (test : A → Bool) where
-  pub any-true : (xs : List A) (x : A) → List·Memᴰ x xs → test x ≡ true → any test xs ≡ true
-  unfolding any
-  any-true [] x m e = absurd (List·Memᴰ·not-nil m)
-  any-true (y ∷ xs) x m e = go (List·Memᴰ·cases-cons m) (λ (i : List·Memᴰ x xs). any-true xs x i e)
-    where
-      either : (b : Bool) → (b || true) ≡ true
-      either true = refl
-      either false = refl
-
-      go : (x ≡ y) ⊎ List·Memᴰ x xs → (List·Memᴰ x xs → any test xs ≡ true) → (test y || any test xs) ≡ true
-      go (inl same) rest = ap (λ (b : Bool). b || any test xs) (ap test (sym same) ∙ e)
-      go (inr inside) rest = ap (λ (b : Bool). test y || b) (rest inside) ∙ either (test y)
-
   pub any-false : (xs : List A) → ((x : A) → List·Memᴰ x xs → test x ≡ false) → any test xs ≡ false
   unfolding any
   any-false [] h = refl
@@ -60,7 +47,7 @@ pub names-true : (bs : List Block) (level : ℕ) (e : Entry) (c : Block) → Lis
     → c .frame .start ≡ e .offset → c .frame .size ≡ e .size → c .frame .level + 1 ≡ level → names bs level e ≡ true
 unfolding names
 names-true bs level e c m start size lower =
-    any-true _ (ordinary bs) c m (rw (eq-eqb (c .frame .start) (e .offset) start, eq-eqb (c .frame .size) (e .size) size, eq-eqb (c .frame .level + 1) level lower))
+    member-any _ (ordinary bs) c m (rw (eq-eqb (c .frame .start) (e .offset) start, eq-eqb (c .frame .size) (e .size) size, eq-eqb (c .frame .level + 1) level lower))
 
 pub names-false : (bs : List Block) (level : ℕ) (e : Entry)
     → ((c : Block) → List·Memᴰ c (ordinary bs) → c .frame .start ≡ e .offset → c .frame .size ≡ e .size → c .frame .level + 1 ≡ level → ⊥) → names bs level e ≡ false

@@ -13,48 +13,14 @@ use borrow.Author.Tests.{leb-true, leb-false}
 use Rattle.outcome.specs.Outcome.{answer}
 use Rattle.outcome.specs.Lists.{keep}
 use Rattle.outcome.proofs.ItemsLaws.{Row, row-end, row-more}
-use Rattle.outcome.proofs.ListsLaws.{keep-append, Below, Ascending, ascending-unique}
+use Rattle.outcome.proofs.ListsLaws.{keep-append, Ascending, ascending-unique}
 use Rattle.block.specs.Block.{Block, isOrdinary, blockStep, blocksAt}
+use Rattle.outcome.proofs.ListsLaws.{keep-member}
+use Rattle.outcome.proofs.RisingLaws.{ascending-keep}
 use Rattle.block.specs.Survey.{ordinary}
 use Rattle.block.proofs.BlockLaws.{ordinary-level, reserved-level, block⇒BlockRead}
 use Rattle.block.proofs.TileLaws.{tiles-all, blocks-tile, blocks⇒row, blocks-read, ReadBlock}
 use Rattle.checker.specs.Starts.{startsOf}
-
--- ---- the elements that pass a test
-
-module _ {A : Type 0} (test : A → Bool) where
-  pub keep-member : (xs : List A) (x : A) → List·Memᴰ x (keep test xs) → List·Memᴰ x xs × (test x ≡ true)
-  unfolding keep
-  keep-member [] x m = absurd (List·Memᴰ·not-nil m)
-  keep-member (y ∷ xs) x m = go (test y) refl m (λ (i : List·Memᴰ x (keep test xs)). keep-member xs x i)
-    where
-      first : test y ≡ true → (x ≡ y) ⊎ List·Memᴰ x (keep test xs) → (List·Memᴰ x (keep test xs) → List·Memᴰ x xs × (test x ≡ true)) → List·Memᴰ x (y ∷ xs) × (test x ≡ true)
-      first e (inl same) rest = (List·Memᴰ·head same, ap test same ∙ e)
-      first e (inr inside) rest = let r = rest inside in (List·Memᴰ·tail (r .0), r .1)
-
-      go : (b : Bool) → test y ≡ b → List·Memᴰ x (cond b (y ∷ keep test xs) (keep test xs)) → (List·Memᴰ x (keep test xs) → List·Memᴰ x xs × (test x ≡ true)) → List·Memᴰ x (y ∷ xs) × (test x ≡ true)
-      go true e i rest = first e (List·Memᴰ·cases-cons i) rest
-      go false e i rest = let r = rest i in (List·Memᴰ·tail (r .0), r .1)
-
-  module _ (number : A → ℕ) where
-    keep-below : (x : ℕ) (ys : List A) → Below x (map number ys) → Below x (map number (keep test ys))
-    unfolding Below keep
-    keep-below x [] h = tt
-    keep-below x (y ∷ ys) h = go (test y) (keep-below x ys (h .1))
-      where
-        go : (b : Bool) → Below x (map number (keep test ys)) → Below x (map number (cond b (y ∷ keep test ys) (keep test ys)))
-        go true rest = (h .0, rest)
-        go false rest = rest
-
-    -- they still ascend
-    pub keep-ascending : (xs : List A) → Ascending (map number xs) → Ascending (map number (keep test xs))
-    unfolding Ascending keep
-    keep-ascending [] h = tt
-    keep-ascending (x ∷ xs) h = go (test x) (keep-ascending xs (h .1))
-      where
-        go : (b : Bool) → Ascending (map number (keep test xs)) → Ascending (map number (cond b (x ∷ keep test xs) (keep test xs)))
-        go true rest = (keep-below (number x) xs (h .0), rest)
-        go false rest = rest
 
 -- ---- one block more
 
@@ -133,7 +99,7 @@ module _ (file : List ℕ) (from : ℕ) (bs : List Block) (e : blocksAt file fro
 
   pub starts-ascend : Ascending (startsOf bs)
   unfolding startsOf ordinary
-  starts-ascend = keep-ascending (λ b. isOrdinary (b .frame .level)) (λ b. b .frame .start) bs blocks-ascend
+  starts-ascend = ascending-keep (λ b. b .frame .start) (λ b. isOrdinary (b .frame .level)) bs blocks-ascend
 
   pub ordinary-read : (b : Block) → List·Memᴰ b (ordinary bs) → ReadBlock file from b
   unfolding ordinary
