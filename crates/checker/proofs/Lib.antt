@@ -11,3 +11,9 @@ pub mod NamesLaws
 pub mod EntriesLaws
 pub mod BlockNamesLaws
 pub mod CountLaws
+-- What the code of refusals 22 to 25 rests on.
+pub mod GoingLaws
+pub mod LookupLaws
+pub mod AscentLaws
+pub mod KeyLaws
+pub mod HashLaws

@@ -3,3 +3,6 @@ pub mod Tree
 pub mod Check
 pub mod Starts
 pub mod Names
+pub mod Lookup
+pub mod Ascent
+pub mod Keys
