@@ -24,7 +24,8 @@ use Rattle.block.proofs.ReadLaws.{payload⁻¹}
 use Rattle.block.proofs.HeldLaws.{block-frame, data-no-entries, index-entries}
 use Rattle.checker.specs.Check.{each, entriesFit}
 use Rattle.checker.specs.Starts.{startsOf, startAt}
-use Rattle.checker.specs.Names.{faultOf, Kept, EntriesSeen, AllSeen}
+use Rattle.checker.specs.Fault.{faultOf}
+use Rattle.checker.specs.Names.{Kept, EntriesSeen, AllSeen}
 use Rattle.checker.proofs.StartsLaws.{AtIndex, length-starts, ordinary-read, ordinary-level-of}
 use Rattle.checker.proofs.WordLaws.{kept-block, kept-start-at}
 use Rattle.checker.proofs.EntriesLaws.{none-seen}

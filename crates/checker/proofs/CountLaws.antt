@@ -16,11 +16,12 @@ use Rattle.block.specs.Block.{Block, isOrdinary, blocksAt}
 use Rattle.block.specs.Survey.{ordinary}
 use Rattle.block.proofs.HeldLaws.{reserved-no-entries}
 use Rattle.block.proofs.TileLaws.{blocks-read}
-use Rattle.checker.specs.declared.names.Fault.{Fault}
+use Rattle.checker.specs.declared.Fault.{Fault}
 use Rattle.checker.specs.Tree.{namings}
 use Rattle.checker.specs.Check.{each, entriesFit, namedRightly}
 use Rattle.checker.specs.Starts.{startsOf, startAt}
-use Rattle.checker.specs.Names.{namingOf, faultOf, timesNamed, upToTwo, Kept, AllSeen}
+use Rattle.checker.specs.Fault.{faultOf}
+use Rattle.checker.specs.Names.{namingOf, timesNamed, upToTwo, Kept, AllSeen}
 use Rattle.checker.proofs.StartsLaws.{AtIndex, length-starts}
 use Rattle.checker.proofs.WordLaws.{kept-block, kept-start-at, kept-count}
 use Rattle.checker.proofs.BlockNamesLaws.{each-kept, each-broken, each-none, no-fault}

@@ -2,6 +2,7 @@
 pub mod TreeLaws
 pub mod TreeWays
 pub mod TreeKeys
+pub mod TreeBlocks
 -- What the code of refusals 19 and 20 rests on.
 pub mod SearchLaws
 pub mod StartsLaws
@@ -17,3 +18,9 @@ pub mod LookupLaws
 pub mod AscentLaws
 pub mod KeyLaws
 pub mod HashLaws
+pub mod SpanLaws
+pub mod WalkLaws
+pub mod NeighbourLaws
+pub mod MisfitLaws
+pub mod FirstMisfitLaws
+pub mod ReadyLaws

@@ -5,6 +5,7 @@ use mathlib.Core.List.{List, [], _∷_}
 use lib.Dec.{ltb, eqb}
 use lib.ListN.{length}
 use Rattle.byte_order.specs.Order.{atMost}
+use Rattle.outcome.specs.Outcome.{Outcome, answer, refused}
 use Rattle.outcome.specs.Items.{part}
 use Rattle.block.specs.Payload.{Text, Entry}
 use Rattle.checker.specs.declared.keys.Piece.{Piece}
@@ -80,3 +81,7 @@ opened before = record { span = record { first = nonePiece; last = before .span 
 unfoldable pub keysOf : List ℕ → (level at : ℕ) → Keys → Keys
 keysOf file zero at before = leafKeys file at before
 keysOf file (suc level) at before = overKeys file at (keysOf file level) (entriesIn file at) (opened before)
+
+-- a place that was found, as an outcome: 0 is none
+unfoldable pub placeSaid : (number place : ℕ) → Outcome (Unit {0})
+placeSaid number place = cond (eqb place 0) (answer tt) (refused number place)

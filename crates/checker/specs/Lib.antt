@@ -6,3 +6,5 @@ pub mod Names
 pub mod Lookup
 pub mod Ascent
 pub mod Keys
+pub mod Fault
+pub mod Walk

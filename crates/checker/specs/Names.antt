@@ -5,12 +5,13 @@ use mathlib.Core.Bool.{Bool, true, false, cond}
 use mathlib.Core.List.{List, _++_, flatMap}
 use lib.Dec.{ltb, eqb}
 use lib.ListN.{length, getD}
-use Rattle.outcome.specs.Outcome.{Outcome, answer, refused, _>>_}
+use Rattle.outcome.specs.Outcome.{Outcome, answer, _>>_}
 use Rattle.outcome.specs.Lists.{keep, all}
 use Rattle.block.specs.Payload.{Entry}
 use Rattle.block.specs.Block.{Block, blocksAt}
 use Rattle.block.specs.Survey.{ordinary}
-use Rattle.checker.specs.declared.names.Fault.{Fault}
+use Rattle.checker.specs.declared.Fault.{Fault}
+use Rattle.checker.specs.Fault.{faultOf}
 use Rattle.checker.specs.Tree.{names}
 use Rattle.checker.specs.Check.{each, entriesFit, namedRightly}
 use Rattle.checker.specs.Starts.{startsOf}
@@ -18,10 +19,6 @@ use Rattle.checker.specs.Starts.{startsOf}
 -- 19, then 20
 unfoldable pub namingOf : List Block → (root : ℕ) → Outcome (Unit {0})
 namingOf bs root = each (entriesFit bs) 19 (ordinary bs) >> each (namedRightly bs root) 20 (ordinary bs)
-
--- what a fault says: nothing where its number is 0, else the refusal
-unfoldable pub faultOf : Fault → Outcome (Unit {0})
-faultOf f = cond (eqb (f .number) 0) (answer tt) (refused (f .number) (f .place))
 
 -- ---- the words
 

@@ -11,7 +11,9 @@ ghost use Rattle.block.specs.Payload.{Text, Entry, entryAt};
 ghost use Rattle.block.specs.Block.{Block, blocksAt};
 ghost use Rattle.block.specs.Survey.{ordinary};
 ghost use Rattle.checker.specs.Check.{each, namedRightly};
-ghost use Rattle.checker.specs.Names.{namingOf, faultOf, marked, Kept, Named, EntriesSeen, AllSeen};
+ghost use Rattle.checker.specs.Fault.{faultOf};
+ghost use Rattle.checker.specs.Names.{namingOf, marked, Kept, Named, EntriesSeen, AllSeen};
+use crate::Fault;
 use crate::starts::NAMED;
 use crate::starts::fill;
 use crate::starts::find;
@@ -19,12 +21,6 @@ use block::framing::FrameOutcome;
 use block::framing::frame_at;
 use block::payload::EntryStep;
 use block::payload::entry_at;
-
-// A refusal's number and place; without one both are 0.
-pub struct Fault {
-    pub number: u64,
-    pub place: u64,
-}
 
 // A word gets one more naming.
 fn mark(work: &mut [u64], i: usize)

@@ -1,24 +1,24 @@
--- The blocks of a file form a tree: what the block stage and rules 17, 19 and 20 give.
+-- The tree of a file that keeps the rules.
 -- Assumes nothing.
 use mathlib.Core.Path.{_≡_, refl, sym, subst}
-use mathlib.Core.Logic.{_≢_, _⊎_, inl, inr}
+use mathlib.Core.Logic.{_⊎_, inl, inr}
 use mathlib.Core.Bool.{true}
 use mathlib.Core.List.{List, [], _∷_, _++_, map, flatMap, map-append, List·Memᴰ, List·Memᴰ·head, List·Memᴰ·tail, List·Memᴰ·append-cases, Memᴰ·of-map}
-use Prim.Native.Nat.{ℕ, _+_, _≤_, _<_}
+use Prim.Native.Nat.{ℕ, _≤_, _<_}
 use lib.ListN.{length}
 use Rattle.byte_order.specs.Order.{atMost}
 use Rattle.outcome.specs.Outcome.{answer}
 use Rattle.outcome.proofs.ListsLaws.{Ascending, below-member}
 use Rattle.outcome.proofs.RisingLaws.{member-below, below-each}
 use Rattle.header.specs.Header.{numberAt}
-use Rattle.block.specs.Payload.{Text, Entry}
+use Rattle.block.specs.Payload.{Text}
 use Rattle.block.specs.Block.{Block, blocksAt}
 use Rattle.block.specs.Survey.{recordsOf}
-use Rattle.block.proofs.HeldLaws.{data-some, index-some, data-no-entries, reserved-no-entries, no-records}
-use Rattle.block.proofs.TileLaws.{blocks-read, blocks-tile, tiles-all, file-record-block, file-records-all}
-use Rattle.checker.specs.Tree.{levelAt, namings, leaves}
+use Rattle.block.proofs.TileLaws.{file-record-block, file-records-all}
+use Rattle.checker.specs.Tree.{levelAt, leaves}
 use Rattle.theorems.specs.Rules.{TreeRules, Rising, no-number, one-number, Sorted, no-string, one-string}
 use Rattle.checker.proofs.TreeLaws.{Tree}
+use Rattle.checker.proofs.TreeBlocks.{blocks⇒Tree}
 use Rattle.theorems.proofs.TreeCuts.{SearchTree}
 
 -- ---- numbers that rise, as the rules say it and as a pair for each element
@@ -36,31 +36,11 @@ Ascending⇒Rising (x ∷ xs) h = one-number (below-each x xs (h .0)) (Ascending
 -- ---- the tree
 
 module _ (file : List ℕ) (from : ℕ) (bs : List Block) (stage : blocksAt file from ≡ answer bs) (whole : from ≤ length file) where
-  -- the blocks of a file form a tree where these rules hold of them
-  pub blocks⇒Tree : (root : ℕ)
-      → ((b : Block) → List·Memᴰ b bs → (e : Entry) → List·Memᴰ e (b .entries)
-      → (c : Block) × List·Memᴰ c bs × (c .frame .start ≡ e .offset) × (c .frame .size ≡ e .size) × (c .frame .level + 1 ≡ b .frame .level))
-      → ((b : Block) → List·Memᴰ b bs → b .frame .level ≤ 63 → b .frame .start ≢ root → namings bs (b .frame .start) ≡ 1) → namings bs root ≡ 0
-      → (b : Block) × List·Memᴰ b bs × (b .frame .start ≡ root) × (1 ≤ b .frame .level) × (b .frame .level ≤ 63) → Tree bs root
-  blocks⇒Tree root named once unnamed rooted =
-      record {
-        rise = tiles-all from (length file) bs (blocks-tile file from bs stage whole);
-        data-records = λ b m. data-some file (b .frame .start) b (blocks-read file from bs stage b m .read);
-        data-no-entries = λ b m. data-no-entries file (b .frame .start) b (blocks-read file from bs stage b m .read);
-        index-entries = λ b m. index-some file (b .frame .start) b (blocks-read file from bs stage b m .read);
-        reserved-no-entries = λ b m. reserved-no-entries file (b .frame .start) b (blocks-read file from bs stage b m .read);
-        no-records = λ b m. no-records file (b .frame .start) b (blocks-read file from bs stage b m .read);
-        named = named;
-        once = once;
-        root-unnamed = unnamed;
-        rooted = rooted;
-      }
-
   -- the rules of the format
   pub rules⇒Tree : TreeRules file bs → Tree bs (numberAt file 16)
   rules⇒Tree r =
       let top = r .rooted in
-      blocks⇒Tree (numberAt file 16) (r .named) (r .once) (r .root-unnamed) (top .0, top .1, top .2, top .4, top .5)
+      blocks⇒Tree file from bs stage whole (numberAt file 16) (r .named) (r .once) (r .root-unnamed) (top .0, top .1, top .2, top .4, top .5)
 
 pub rules⇒walked : (file : List ℕ) (bs : List Block) → TreeRules file bs → Ascending (leaves bs (levelAt bs (numberAt file 16)) (numberAt file 16))
 rules⇒walked file bs r = Rising⇒Ascending (leaves bs (levelAt bs (numberAt file 16)) (numberAt file 16)) (r .walked)
