@@ -1,6 +1,6 @@
-//! A second, independent reader of ZS files, written from the papers only.
+//! A second, independent reader of ZS files, written from the papers.
 //!
-//! It judges another implementation, so it shares neither code nor ideas with it.
+//! It judges another implementation and shares no code with it; docs/DECISIONS.md says more.
 //!
 //! * [`reader`] checks, reads and searches files, and hands back records.
 //! * [`maker`] builds files: sound ones, unusual ones and damaged ones.
