@@ -24,3 +24,6 @@ pub mod NeighbourLaws
 pub mod MisfitLaws
 pub mod FirstMisfitLaws
 pub mod ReadyLaws
+-- The check as a whole: its stages one after the other, and its ways out.
+pub mod StageLaws
+pub mod CheckLaws

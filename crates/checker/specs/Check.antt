@@ -6,13 +6,14 @@ use lib.Dec.{leb, eqb}
 use lib.ListN.{length, drop}
 use Rattle.byte_order.specs.Order.{atMost, begins}
 use Rattle.sha256.specs.Sha256.{sha256}
-use Rattle.outcome.specs.Outcome.{Outcome, answer, _>>=_, _>>_, must}
+use Rattle.outcome.specs.Outcome.{Outcome, answer, _>>=_, _>>_, must, numberOf, placeOf, countOf}
 use Rattle.outcome.specs.Items.{part}
 use Rattle.outcome.specs.Lists.{keep, any, all}
 use Rattle.header.specs.declared.Header.{Header}
 use Rattle.header.specs.Header.{headerOf, blocksFrom}
 use Rattle.block.specs.Block.{Block, isData, blocksAt}
-use Rattle.block.specs.Survey.{ordinary, isRoot}
+use Rattle.block.specs.Survey.{ordinary, recordsOf, isRoot}
+use Rattle.checker.specs.declared.CheckAnswer.{CheckAnswer}
 use Rattle.checker.specs.Tree.{levelAt, names, namings, leaves, under, keyFits}
 
 -- a rule for each block in file order: the first that breaks it is the place
@@ -86,3 +87,13 @@ checkOf file places = do
   must (leb (length (ordinary bs)) places) 18 0
   treeOf file h bs
   answer bs
+
+-- what `check` answers
+unfoldable pub checkAnswer : Outcome (List Block) → CheckAnswer
+checkAnswer o =
+    record {
+      number = numberOf o;
+      place = placeOf o;
+      blocks = countOf (λ bs. length (ordinary bs)) o;
+      records = countOf (λ bs. length (recordsOf bs)) o;
+    }

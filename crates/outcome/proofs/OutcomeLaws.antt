@@ -60,6 +60,17 @@ pub after-refused : {A B : Type 0} (o : Outcome A) (next : Outcome B) (number pl
 unfolding _>>_
 after-refused o next number place e = rw e
 
+pub after-assoc : {A B C : Type 0} (o : Outcome A) (p : Outcome B) (q : Outcome C) → (o >> (p >> q)) ≡ (o >> p >> q)
+unfolding _>>_
+after-assoc (answer a) p q = refl
+after-assoc (refused number place) p q = refl
+
+-- an answer behind a stage says that the stage is passed
+pub passed⁻¹ : {A : Type 0} (o : Outcome (Unit {0})) (next : Outcome A) (a : A) → (o >> next) ≡ answer a → (o ≡ answer tt) × (next ≡ answer a)
+unfolding _>>_
+passed⁻¹ (answer u) next a e = (refl, e)
+passed⁻¹ (refused number place) next a e = absurd (refused-not-answer a number place e)
+
 -- an answer in the end says that there was one before
 pub bind⁻¹ : {A B : Type 0} (o : Outcome A) (next : A → Outcome B) (b : B) → (o >>= next) ≡ answer b → (a : A) × (o ≡ answer a) × (next a ≡ answer b)
 unfolding _>>=_

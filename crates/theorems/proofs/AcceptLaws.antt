@@ -11,7 +11,7 @@ use Rattle.byte_order.specs.Order.{begins}
 use Rattle.sha256.specs.Sha256.{sha256}
 use Rattle.outcome.specs.Outcome.{Outcome, answer, refused, _>>=_, _>>_, must}
 use Rattle.outcome.specs.Lists.{keep}
-use Rattle.outcome.proofs.OutcomeLaws.{answer-injective, answer-not-refused, refused-not-answer, must-kept, kept, kept⁻¹, bind-answer, bind⁻¹, after-answer}
+use Rattle.outcome.proofs.OutcomeLaws.{answer-injective, answer-not-refused, refused-not-answer, must-kept, kept, kept⁻¹, bind-answer, bind⁻¹, after-answer, passed⁻¹}
 use Rattle.header.specs.declared.Header.{Header}
 use Rattle.header.specs.Header.{headerOf, blocksFrom, numberAt, H}
 use Rattle.header.proofs.RuleLaws.{numbersOf}
@@ -20,7 +20,6 @@ use Rattle.block.specs.Survey.{ordinary}
 use Rattle.checker.specs.Tree.{levelAt, leaves}
 use Rattle.checker.specs.Check.{each, entriesFit, namedRightly, ascending, neighbours, keysFit, payloads, treeOf, hasRoot, acceptOf}
 use Rattle.theorems.specs.Rules.{Fill, Stands, TreeRules, Rules}
-use Rattle.theorems.proofs.StageLaws.{passed⁻¹}
 use Rattle.theorems.proofs.SortedLaws.{ascending⇒Rising, Rising⇒ascending}
 use Rattle.theorems.proofs.HeaderRuleLaws.{header⇒HeaderRules, HeaderRules⇒header}
 use Rattle.theorems.proofs.BlockRuleLaws.{blocks⇒Fill, Fill⇒blocks}

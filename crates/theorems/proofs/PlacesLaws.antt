@@ -9,10 +9,10 @@ use Prim.Native.Nat.{ℕ, suc, _≤_, _<_}
 use native.Mathlib.Omega.{arith}
 use lib.Dec.{leb, eqb}
 use lib.ListN.{length}
-use borrow.Author.Tests.{leb-true, leb-false, le-leb, lt-leb, eqb-true, eq-eqb}
+use borrow.Author.Tests.{leb-true, leb-false, eqb-true, eq-eqb}
 use Rattle.outcome.specs.Outcome.{Outcome, answer, refused, _>>_, must}
 use Rattle.outcome.specs.Lists.{any}
-use Rattle.outcome.proofs.OutcomeLaws.{answer-not-refused, kept, broken, kept⁻¹, bind-answer, bind-refused, after-answer, after-refused}
+use Rattle.outcome.proofs.OutcomeLaws.{answer-not-refused, broken, kept⁻¹, bind-answer, bind-refused, after-answer, after-refused}
 use Rattle.header.specs.declared.Header.{Header}
 use Rattle.header.specs.Header.{headerOf, blocksFrom}
 use Rattle.header.proofs.HeaderLaws.{header-refused}
@@ -20,6 +20,7 @@ use Rattle.header.proofs.RuleLaws.{numbersOf}
 use Rattle.block.specs.Block.{Block, blocksAt}
 use Rattle.block.specs.Survey.{ordinary}
 use Rattle.checker.specs.Check.{each, ascending, allAtMost, neighboursOf, neighbours, treeOf, hasRoot, acceptOf, checkOf}
+use Rattle.checker.proofs.CheckLaws.{check-18, check-tree}
 use Rattle.theorems.specs.Rules.{Rules}
 use Rattle.outcome.proofs.ListsLaws.{false-not-true, any-member, member-any}
 use Rattle.outcome.proofs.RefusalLaws.{Refuses, refuses-answer, refuses-must, refuses-stage, refuses-bind, refuses-rule, refuses-more}
@@ -44,25 +45,10 @@ check⇒accepted file places bs e = Accepted⇒accepted file bs (check⇒Accepte
 
 -- ---- where the check reaches the work list
 
-module _ (file : List ℕ) (places : ℕ) (h : Header) (bs : List Block) (header : headerOf file ≡ answer h) (blocks : blocksAt file (blocksFrom h) ≡ answer bs) (root : hasRoot h bs ≡ true) where
-  -- too few places: 18
-  pub check-18 : places < length (ordinary bs) → checkOf file places ≡ refused 18 0
-  unfolding checkOf
-  check-18 few =
-      stages-of file (λ k cs. must (leb (length (ordinary cs)) places) 18 0 >> (treeOf file k cs >> answer cs)) h bs header blocks root
-      ∙ broken (leb (length (ordinary bs)) places) 18 0 _ (lt-leb _ _ few)
-
-  -- places enough: the tree decides
-  pub check-tree : length (ordinary bs) ≤ places → checkOf file places ≡ (treeOf file h bs >> answer bs)
-  unfolding checkOf
-  check-tree enough =
-      stages-of file (λ k cs. must (leb (length (ordinary cs)) places) 18 0 >> (treeOf file k cs >> answer cs)) h bs header blocks root
-      ∙ kept (leb (length (ordinary bs)) places) 18 0 _ (le-leb _ _ enough)
-
-  -- and so it does for acceptance
-  pub accept-tree : acceptOf file ≡ (treeOf file h bs >> answer bs)
-  unfolding acceptOf
-  accept-tree = stages-of file (λ k cs. treeOf file k cs >> answer cs) h bs header blocks root
+-- the tree decides acceptance, as it does the check
+pub accept-tree : (file : List ℕ) (h : Header) (bs : List Block) → headerOf file ≡ answer h → blocksAt file (blocksFrom h) ≡ answer bs → hasRoot h bs ≡ true → acceptOf file ≡ (treeOf file h bs >> answer bs)
+unfolding acceptOf
+accept-tree file h bs header blocks root = stages-of file (λ k cs. treeOf file k cs >> answer cs) h bs header blocks root
 
 -- the check accepts a file exactly where it keeps the rules, with those blocks, if there are places enough
 pub check-accepts : (file : List ℕ) (places : ℕ) (bs : List Block) → length (ordinary bs) ≤ places → (checkOf file places ≡ answer bs) ↔ Rules file bs
@@ -156,7 +142,7 @@ check-cases file places = by-header (headerOf file) refl
   where
     by-places : (h : Header) (bs : List Block) → headerOf file ≡ answer h → blocksAt file (blocksFrom h) ≡ answer bs → hasRoot h bs ≡ true → (b : Bool) → leb (length (ordinary bs)) places ≡ b
         → (checkOf file places ≡ acceptOf file) ⊎ TooFew file places
-    by-places h bs e f g true q = inl (check-tree file places h bs e f g (leb-true _ _ q) ∙ sym (accept-tree file places h bs e f g))
+    by-places h bs e f g true q = inl (check-tree file places h bs e f g (leb-true _ _ q) ∙ sym (accept-tree file h bs e f g))
     by-places h bs e f g false q = inr (record { header = h; blocks = bs; has-header = e; has-blocks = f; has-root = g; few = leb-false _ _ q })
 
     by-root : (h : Header) (bs : List Block) → headerOf file ≡ answer h → blocksAt file (blocksFrom h) ≡ answer bs → (b : Bool) → hasRoot h bs ≡ b → (checkOf file places ≡ acceptOf file) ⊎ TooFew file places

@@ -7,20 +7,14 @@ use Prim.Native.Nat.{ℕ, _≤_}
 use borrow.Author.Tests.{le-leb, leb-true}
 use Rattle.byte_order.specs.Order.{atMost}
 use Rattle.byte_order.proofs.OrderLaws.{atMost-trans}
-use Rattle.outcome.specs.Outcome.{Outcome, answer, refused, _>>_}
+use Rattle.outcome.specs.Outcome.{answer}
 use Rattle.outcome.specs.Lists.{all}
-use Rattle.outcome.proofs.OutcomeLaws.{kept, kept⁻¹, refused-not-answer}
+use Rattle.outcome.proofs.OutcomeLaws.{kept, kept⁻¹}
 use Rattle.block.specs.Payload.{Text}
 use Rattle.block.specs.Block.{Block, isOrdinary}
 use Rattle.block.specs.Survey.{ordinary}
 use Rattle.checker.specs.Check.{each, allAtMost, neighboursOf, neighbours}
 use Rattle.outcome.proofs.ListsLaws.{all-member, member-all, keep-member, member-keep}
-
--- an answer behind a stage says that the stage is passed
-pub passed⁻¹ : {A : Type 0} (o : Outcome (Unit {0})) (next : Outcome A) (a : A) → (o >> next) ≡ answer a → (o ≡ answer tt) × (next ≡ answer a)
-unfolding _>>_
-passed⁻¹ (answer u) next a e = (refl, e)
-passed⁻¹ (refused number place) next a e = absurd (refused-not-answer a number place e)
 
 -- ---- a rule for each block
 

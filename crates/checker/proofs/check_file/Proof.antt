@@ -1,0 +1,49 @@
+-- `checker::check_file` meets its contract: the header, then the blocks. Assumes nothing.
+use mathlib.Core.Path.{sym, ap, _∙_}
+use borrow.Author.Needs.{needs}
+use denote.Ref.{now}
+use lib.ListN.{length}
+use Rattle.header.specs.Header.{meaning}
+use Rattle.checker.specs.Check.{checkOf}
+use Rattle.checker.proofs.CheckLaws.{told, check-header}
+use Rattle.checker.proofs.check_file.Statement.{statement}
+use Rattle.checker.proofs.check_file.Tie as tie
+
+read-requires : tie.Need-read-requires
+read-requires c κs = search needs
+
+enum-known-made : tie.Need-enum-known-made
+enum-known-made c = search needs
+
+refusal-requires : tie.Need-refusal-requires
+refusal-requires c κs = search needs
+
+enum-known-made-2 : tie.Need-enum-known-made-2
+enum-known-made-2 c = search needs
+
+check-blocks-requires : tie.Need-check-blocks-requires
+unfolding meaning
+check-blocks-requires c κs = sym (c .before .before .before .before .read .ensures) ∙ ap meaning (c .before .before .made2 .given .1)
+
+returns : tie.Need-returns
+unfolding meaning
+returns c = told (checkOf (now (c .before .before .before .before .before .before .before .args .file)) (length (now (c .before .before .before .before .before .before .before .args .work)))) _ _ (check-header (now (c .before .before .before .before .before .before .before .args .file)) (length (now (c .before .before .before .before .before .before .before .args .work))) _ _ (sym (c .before .before .before .before .read .ensures) ∙ ap meaning (c .before .before .made .given .1))) _ (c .refusal .ensures)
+
+same-length : tie.Need-same-length
+same-length c = search needs
+
+returns-2 : tie.Need-returns-2
+returns-2 c = search needs
+
+pub check-file-spec : {M : Type 1} → statement M
+check-file-spec =
+    tie.close
+    (tie.spec
+    read-requires
+    enum-known-made
+    refusal-requires
+    enum-known-made-2
+    check-blocks-requires
+    returns
+    same-length
+    returns-2)
