@@ -10,4 +10,4 @@ mkdir -p "$1"
 folder=$(cd "$1" && pwd)
 cd "$(dirname "$0")/../cli"
 PATH="$PATH:${CARGO_HOME:-$HOME/.cargo}/bin"
-cargo run --offline --quiet --bin make-archives -- "$folder" read record
+cargo run --offline --quiet --bin make-archives -- "$folder" read check record

@@ -17,6 +17,16 @@ pub struct ReadAnswer {
     pub matches: u64,
 }
 
+/// Number and place of a refusal, both 0 without one, and how many ordinary blocks and records the file has, both 0 after one.
+#[repr(C)]
+#[derive(Clone, Copy, Debug, PartialEq, Eq)]
+pub struct Checked {
+    pub number: u64,
+    pub place: u64,
+    pub blocks: u64,
+    pub records: u64,
+}
+
 /// A part of a file: the offset of its first byte, and its length.
 #[repr(C)]
 #[derive(Clone, Copy, Debug, PartialEq, Eq)]
@@ -39,6 +49,7 @@ extern "C" {
         results: *mut u64,
         results_len: usize,
     ) -> ReadAnswer;
+    fn zs_check(file: *const u8, file_len: usize, work: *mut u64, work_len: usize) -> Checked;
     fn zs_record(file: *const u8, file_len: usize, offset: u64, size: u64) -> Part;
     fn zs_within(file: *const u8, file_len: usize, offset: u64, size: u64) -> bool;
 }
@@ -62,6 +73,12 @@ pub fn read(file: &[u8], query: &Query, results: &mut [u64]) -> ReadAnswer {
             results.len(),
         )
     }
+}
+
+/// Checks the file. `work` needs a place for each ordinary block, and holds zeros afterwards.
+pub fn check(file: &[u8], work: &mut [u64]) -> Checked {
+    // SAFETY: each pointer comes with the length of the slice it is taken from, and `work` is borrowed alone.
+    unsafe { zs_check(file.as_ptr(), file.len(), work.as_mut_ptr(), work.len()) }
 }
 
 /// Where the part lies; offset and size 0 where it isn't within the file.

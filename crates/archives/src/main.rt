@@ -2,6 +2,7 @@
 ghost use Rattle.io.specs.Counts.{Counts};
 
 mod cases;
+mod check;
 mod lists;
 mod print;
 mod read;
@@ -28,6 +29,7 @@ fn answer(file: &[u8], stored: &[u8], case: Case) {
     let call = case.call;
     match call {
         1 => read::run(file, stored, case),
+        2 => check::run(file, case),
         4 => record::run(file, case),
         _ => print::number(b" unknown call ", call as u64),
     }

@@ -3,9 +3,12 @@
 // C can't receive a slice as a result, so zs_record hands back where the part lies.
 ghost use mathlib.Core.Path.{_≡_};
 ghost use lib.ListN.{length};
+ghost use Rattle.output_list.specs.OutputList.{zeros};
 ghost use Rattle.query.specs.Query.{queryOf};
 ghost use Rattle.reader.specs.Read.{readOf, readAnswer, readList};
 ghost use Rattle.reader.specs.Record.{isWithin, partStart, partLength};
+ghost use Rattle.checker.specs.Check.{checkOf, checkAnswer};
+use checker::CheckAnswer;
 use reader::ReadAnswer;
 
 // A part of the file: the offset of its first byte, and its length.
@@ -29,6 +32,15 @@ pub extern "C" fn zs_read(
     ensures { λ r. ⌜ now (results .exit) ≡ readList (length (now (results .entry))) (readOf (now (file .entry)) (queryOf (now (start .entry)) «stop_given» (now (stop .entry)) (now (prefix .entry))) (length (now (results .entry)))) ⌝ }
 {
     reader::read(file, start, stop_given, stop, prefix, results)
+}
+
+// Checks the file (`checker::check`).
+#[no_mangle]
+pub extern "C" fn zs_check(file: &[u8], work: &mut [u64]) -> CheckAnswer
+    ensures { λ r. ⌜ r ≡ checkAnswer (checkOf (now (file .entry)) (length (now (work .entry)))) ⌝ }
+    ensures { λ r. ⌜ now (work .exit) ≡ zeros (length (now (work .entry))) ⌝ }
+{
+    checker::check(file, work)
 }
 
 // Where the part of `size` bytes from `offset` on lies; offset and size 0 where it isn't within the file.
