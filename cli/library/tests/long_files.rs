@@ -1,6 +1,6 @@
 //! Refusal 1 and its limit, over sparse files that are mapped and never written.
 use std::fs::OpenOptions;
-use zs_library::{read, Query};
+use zs_library::{check, read, Checked, Query};
 
 const LONGEST: u64 = 1 << 30;
 
@@ -23,9 +23,18 @@ fn number_of_sparse(name: &str, length: u64) -> u64 {
     };
     let mut results = [7u64; 4];
     let answer = read(&map, &all, &mut results);
+    let mut work = [7u64; 4];
+    let checked = check(&map, &mut work);
     drop(map);
     std::fs::remove_file(&path).expect("the temporary file");
     assert_eq!((answer.place, answer.matches, results), (0, 0, [0; 4]));
+    let refused = Checked {
+        number: answer.number,
+        place: 0,
+        blocks: 0,
+        records: 0,
+    };
+    assert_eq!((checked, work), (refused, [0; 4]));
     answer.number
 }
 

@@ -1,5 +1,5 @@
 //! The proved library and the independent reader give the same answers on drawn files: sound, with one thing changed, and broken.
-use zs_library::{read, record, within, Part, Query};
+use zs_library::{check, read, record, within, Checked, Part, Query};
 use zs_reference::maker::random::{bend, break_bytes, query, tree, Random};
 use zs_reference::reader;
 
@@ -45,6 +45,35 @@ fn reading_gives_the_same() {
         *numbers.entry(answer.number).or_insert(0) += 1;
     }
     assert!(numbers.len() >= 8, "too few kinds of answers: {numbers:?}");
+}
+
+#[test]
+fn checking_gives_the_same() {
+    let mut random = Random::new(22);
+    let mut numbers = std::collections::BTreeMap::new();
+    for case in 0..6000 {
+        let file = drawn_file(&mut random, case);
+        let room = random.below(24);
+        let due = reader::check(&file, room);
+        let kept = file.clone();
+        // Guard places on both sides of the list that is lent.
+        let mut places = vec![RUBBISH; room + 2];
+        let answer = check(&file, &mut places[1..=room]);
+        assert_eq!(
+            answer,
+            Checked {
+                number: due.number,
+                place: due.place,
+                blocks: due.blocks,
+                records: due.records
+            }
+        );
+        assert_eq!(places[1..=room], vec![0; room][..]);
+        assert_eq!((places[0], places[room + 1]), (RUBBISH, RUBBISH));
+        assert_eq!(file, kept);
+        *numbers.entry(answer.number).or_insert(0) += 1;
+    }
+    assert!(numbers.len() >= 16, "too few kinds of answers: {numbers:?}");
 }
 
 #[test]
