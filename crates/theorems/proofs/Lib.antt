@@ -11,6 +11,7 @@ pub mod OrderedLaws
 pub mod TreeRuleLaws
 pub mod AcceptLaws
 pub mod PlacesLaws
+pub mod CheckTheorems
 pub mod SmallestFile
 -- The tree of an accepted file: each block once, cuts and bounds.
 pub mod TreePreorder

@@ -23,7 +23,7 @@ use Rattle.checker.specs.Check.{each, ascending, allAtMost, neighboursOf, neigh
 use Rattle.checker.proofs.CheckLaws.{check-18, check-tree}
 use Rattle.theorems.specs.Rules.{Rules}
 use Rattle.outcome.proofs.ListsLaws.{false-not-true, any-member, member-any}
-use Rattle.outcome.proofs.RefusalLaws.{Refuses, refuses-answer, refuses-must, refuses-stage, refuses-bind, refuses-rule, refuses-more}
+use Rattle.outcome.proofs.RefusalLaws.{Refuses, refuses-answer, refuses-refused, refuses-must, refuses-stage, refuses-bind, refuses-rule, refuses-more}
 use Rattle.block.proofs.RefusalLaws.{blocks-refuses}
 use Rattle.theorems.proofs.AcceptLaws.{Accepted, Accepted⇒Rules, Rules⇒Accepted, stages⁻¹, stages-of, tree-answer⁻¹, Accepted⇒accepted}
 
@@ -111,18 +111,26 @@ not-18 : (n : ℕ) → List·Memᴰ n treeNumbers → n ≢ 18
 unfolding treeNumbers any
 not-18 n m e = unlisted 18 treeNumbers refl (Memᴰ·cast (sym e) m)
 
--- 18 is none of the numbers of acceptance
-pub accept-not-18 : (file : List ℕ) → Refuses (λ n. n ≢ 18) (acceptOf file)
+not-0 : (n : ℕ) → List·Memᴰ n treeNumbers → n ≢ 0
+unfolding treeNumbers any
+not-0 n m e = unlisted 0 treeNumbers refl (Memᴰ·cast (sym e) m)
+
+-- the numbers of acceptance: 1 to 17, 21 and the tree's
+pub accept-refuses : (Kind : ℕ → Type 0) → ((n : ℕ) → 1 ≤ n → n ≤ 17 → Kind n) → Kind 21 → ((n : ℕ) → List·Memᴰ n treeNumbers → Kind n) → (file : List ℕ) → Refuses Kind (acceptOf file)
 unfolding acceptOf
-accept-not-18 file =
-    refuses-bind Kind (headerOf file) _ (record { among = λ n p e. let small = header-refused file n p e .2 in λ z. omega arith })
+accept-refuses Kind low k21 late file =
+    refuses-bind Kind (headerOf file) _ (record { among = λ n p e. let small = header-refused file n p e .2 in let some = header-refused file n p e .1 in low n some (omega arith) })
     (λ h. refuses-bind Kind (blocksAt file (blocksFrom h)) _
-    (blocks-refuses Kind (λ z. omega arith) (λ z. omega arith) (λ z. omega arith) (λ z. omega arith) (λ z. omega arith) (λ z. omega arith) (λ z. omega arith) (λ z. omega arith) file (blocksFrom h))
-    (λ bs. refuses-rule Kind _ 17 0 _ (λ z. omega arith)
-    (refuses-stage Kind (treeOf file h bs) (answer bs) (refuses-more (λ n. List·Memᴰ n treeNumbers) Kind _ not-18 (tree-refuses file h bs)) (refuses-answer Kind bs))))
-  where
-    Kind : ℕ → Type 0
-    Kind n = n ≢ 18
+    (blocks-refuses Kind (low 10 (omega arith) (omega arith)) (low 11 (omega arith) (omega arith)) (low 12 (omega arith) (omega arith)) (low 13 (omega arith) (omega arith)) (low 14 (omega arith) (omega arith)) (low 15 (omega arith) (omega arith)) (low 16 (omega arith) (omega arith)) k21 file (blocksFrom h))
+    (λ bs. refuses-rule Kind _ 17 0 _ (low 17 (omega arith) (omega arith))
+    (refuses-stage Kind (treeOf file h bs) (answer bs) (refuses-more (λ n. List·Memᴰ n treeNumbers) Kind _ late (tree-refuses file h bs)) (refuses-answer Kind bs))))
+
+-- 18 is none of them, and neither is 0
+pub accept-not-18 : (file : List ℕ) → Refuses (λ n. n ≢ 18) (acceptOf file)
+accept-not-18 file = accept-refuses (λ n. n ≢ 18) (λ n some few z. omega arith) (λ z. omega arith) not-18 file
+
+pub accept-not-0 : (file : List ℕ) → Refuses (λ n. n ≢ 0) (acceptOf file)
+accept-not-0 file = accept-refuses (λ n. n ≢ 0) (λ n some few z. omega arith) (λ z. omega arith) not-0 file
 
 -- ---- 18 exactly
 
@@ -171,6 +179,14 @@ pub 18⇒TooFew : (file : List ℕ) (places p : ℕ) → checkOf file places ≡
     go : (checkOf file places ≡ acceptOf file) ⊎ TooFew file places → TooFew file places
     go (inl same) = absurd (accept-not-18 file .among 18 p (sym same ∙ e) refl)
     go (inr few) = few
+
+-- no refusal has the number 0
+pub check-not-0 : (file : List ℕ) (places : ℕ) → Refuses (λ n. n ≢ 0) (checkOf file places)
+check-not-0 file places = go (check-cases file places)
+  where
+    go : (checkOf file places ≡ acceptOf file) ⊎ TooFew file places → Refuses (λ n. n ≢ 0) (checkOf file places)
+    go (inl same) = subst (Refuses (λ n. n ≢ 0)) (sym same) (accept-not-0 file)
+    go (inr few) = subst (Refuses (λ n. n ≢ 0)) (sym (TooFew⇒18 file places few)) (refuses-refused (λ n. n ≢ 0) 18 0 (λ z. omega arith))
 
 -- where there are places enough, a refusal is the tree's, and its number is one of the tree's
 pub check-refused : (file : List ℕ) (places : ℕ) (h : Header) (bs : List Block) → headerOf file ≡ answer h → blocksAt file (blocksFrom h) ≡ answer bs → hasRoot h bs ≡ true → length (ordinary bs) ≤ places
