@@ -19,3 +19,5 @@ pub mod TreeLevels
 pub mod TreeCuts
 pub mod TreeBounds
 pub mod TreeFile
+-- The search of an accepted file.
+pub mod Events
