@@ -21,3 +21,4 @@ pub mod TreeBounds
 pub mod TreeFile
 -- The search of an accepted file.
 pub mod Events
+pub mod EventsLaws
