@@ -22,3 +22,4 @@ pub mod TreeFile
 -- The search of an accepted file.
 pub mod Events
 pub mod EventsLaws
+pub mod SearchEvents
