@@ -23,3 +23,4 @@ pub mod TreeFile
 pub mod Events
 pub mod EventsLaws
 pub mod SearchEvents
+pub mod SearchFinds
