@@ -24,3 +24,4 @@ pub mod Events
 pub mod EventsLaws
 pub mod SearchEvents
 pub mod SearchFinds
+pub mod SearchRoom
