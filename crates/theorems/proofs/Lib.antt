@@ -25,3 +25,4 @@ pub mod EventsLaws
 pub mod SearchEvents
 pub mod SearchFinds
 pub mod SearchRoom
+pub mod SearchReads
