@@ -21,3 +21,6 @@ pub mod TreeBounds
 pub mod TreeFile
 -- The search of an accepted file.
 pub mod Events
+-- The search on any bytes.
+pub mod WalkSteps
+pub mod SearchTheorems
