@@ -24,3 +24,4 @@ pub mod Events
 -- The search on any bytes.
 pub mod WalkSteps
 pub mod SearchTheorems
+pub mod WalkGrows

@@ -79,31 +79,31 @@ module _ (R : Found → Found → Type 0) (still : (s : Found) → R s s) (furth
         let first = kept⁻¹ (leb (2 * length (s .matches) + 2) room) 27 0 (addMatches room rs (withMatch r s)) t a in
         further s (withMatch r s) t (finding r s (leb-true _ room (first .0))) (matches-keep rs (withMatch r s) t (first .1))
 
-    module _ (file : List ℕ) (q : Query) (places from : ℕ)
-        (opening : (offset : ℕ) (c : Block) (s : Found) → length (s .opened) < places → blockAt file offset ≡ answer c → R s (withOpened offset s)) where
-      -- one block is opened, and the walk goes on from it
-      opens-keep : (number place least most offset size : ℕ) (go : Block → Found → Outcome Found)
-          → ((c : Block) (s t : Found) → go c s ≡ answer t → R s t)
-          → (s t : Found) → (openBlock file places from number place least most offset size s >>= λ c. go c (withOpened offset s)) ≡ answer t → R s t
-      opens-keep number place least most offset size go keeps s t a =
-          let first = bind⁻¹ (openBlock file places from number place least most offset size s) (λ c. go c (withOpened offset s)) t a in
-          let second = open⁻¹ file places from number place least most offset size s (first .0) (first .1) in
-          further s (withOpened offset s) t
-          (opening offset (first .0) s (ltb-true _ places (second .0)) (named-block file from least most offset size (first .0) (named⁻¹ file from number place least most offset size (first .0) (second .1))))
-          (keeps (first .0) (withOpened offset s) t (first .2))
+  module _ (file : List ℕ) (places : ℕ)
+      (opening : (offset : ℕ) (c : Block) (s : Found) → length (s .opened) < places → blockAt file offset ≡ answer c → R s (withOpened offset s)) where
+    -- one block is opened, and what goes on from it keeps it
+    pub opens-keep : (from number place least most offset size : ℕ) (next : Block → Found → Outcome Found)
+        → ((c : Block) (s t : Found) → next c s ≡ answer t → R s t)
+        → (s t : Found) → (openBlock file places from number place least most offset size s >>= λ c. next c (withOpened offset s)) ≡ answer t → R s t
+    opens-keep from number place least most offset size next keeps s t a =
+        let first = bind⁻¹ (openBlock file places from number place least most offset size s) (λ c. next c (withOpened offset s)) t a in
+        let second = open⁻¹ file places from number place least most offset size s (first .0) (first .1) in
+        let read = named-block file from least most offset size (first .0) (named⁻¹ file from number place least most offset size (first .0) (second .1)) in
+        further s (withOpened offset s) t (opening offset (first .0) s (ltb-true _ places (second .0)) read) (keeps (first .0) (withOpened offset s) t (first .2))
 
+    module _ (room : ℕ) (finding : (r : Text) (s : Found) → 2 * length (s .matches) + 2 ≤ room → R s (withMatch r s)) (q : Query) (from : ℕ) where
       pub walk-keeps : (level : ℕ) (b : Block) (upper : Option (List ℕ)) (s t : Found) → walkOf file q places room from level b upper s ≡ answer t → R s t
       unfolding walkOf
-      walk-keeps zero b upper s t a = matches-keep (matching q (b .records)) s t a
+      walk-keeps zero b upper s t a = matches-keep room finding (matching q (b .records)) s t a
       walk-keeps (suc level) b upper s t a =
           over-keeps q _ upper
-          (λ e bound. opens-keep 19 (b .frame .start) level level (e .offset) (e .size) (λ c. walkOf file q places room from level c bound) (λ c. walk-keeps level c bound))
+          (λ e bound. opens-keep from 19 (b .frame .start) level level (e .offset) (e .size) (λ c. walkOf file q places room from level c bound) (λ c. walk-keeps level c bound))
           (b .entries) s t a
 
       pub walkFrom-keeps : (root rootsize : ℕ) (t : Found) → walkFrom file q places room from root rootsize ≡ answer t → R nothing t
       unfolding walkFrom
       walkFrom-keeps root rootsize t a =
-          opens-keep 17 0 1 63 root rootsize (λ b. walkOf file q places room from (b .frame .level) b none) (λ c. walk-keeps (c .frame .level) c none) nothing t a
+          opens-keep from 17 0 1 63 root rootsize (λ b. walkOf file q places room from (b .frame .level) b none) (λ c. walk-keeps (c .frame .level) c none) nothing t a
 
 -- the whole search
 pub search-keeps : (R : Found → Found → Type 0) → ((s : Found) → R s s) → ((s t u : Found) → R s t → R t u → R s u)
@@ -114,4 +114,4 @@ pub search-keeps : (R : Found → Found → Type 0) → ((s : Found) → R s s) 
 unfolding searchOf
 search-keeps R still further file q places room opening finding t a =
     let first = bind⁻¹ (headerOf file) (λ h. walkFrom file q places room (blocksFrom h) (h .root) (h .rootsize)) t a in
-    walkFrom-keeps R still further room finding file q places (blocksFrom (first .0)) opening (first .0 .root) (first .0 .rootsize) t (first .2)
+    walkFrom-keeps R still further file places opening room finding q (blocksFrom (first .0)) (first .0 .root) (first .0 .rootsize) t (first .2)
