@@ -25,3 +25,4 @@ pub mod Events
 pub mod WalkSteps
 pub mod SearchTheorems
 pub mod WalkGrows
+pub mod SearchLocal
