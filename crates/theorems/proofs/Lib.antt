@@ -26,3 +26,8 @@ pub mod SearchEvents
 pub mod SearchFinds
 pub mod SearchRoom
 pub mod SearchReads
+-- The search on any bytes.
+pub mod WalkSteps
+pub mod SearchTheorems
+pub mod WalkGrows
+pub mod SearchLocal

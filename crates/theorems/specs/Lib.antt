@@ -2,3 +2,4 @@
 pub mod Examples
 pub mod Rules
 pub mod Index
+pub mod Locality
