@@ -21,3 +21,5 @@ pub mod TreeBounds
 pub mod TreeFile
 -- The search of an accepted file.
 pub mod Events
+-- The blocks that the search opens: exactly those of the rule, and few in vain.
+pub mod KeptLaws
