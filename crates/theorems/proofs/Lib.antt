@@ -23,3 +23,4 @@ pub mod TreeFile
 pub mod Events
 -- The blocks that the search opens: exactly those of the rule, and few in vain.
 pub mod KeptLaws
+pub mod RuleWays
