@@ -24,3 +24,5 @@ pub mod Events
 -- The blocks that the search opens: exactly those of the rule, and few in vain.
 pub mod KeptLaws
 pub mod RuleWays
+pub mod OpenedExactly
+pub mod LeadsLaws
