@@ -26,3 +26,4 @@ pub mod KeptLaws
 pub mod RuleWays
 pub mod OpenedExactly
 pub mod LeadsLaws
+pub mod TwoInVain
