@@ -27,3 +27,4 @@ pub mod RuleWays
 pub mod OpenedExactly
 pub mod LeadsLaws
 pub mod TwoInVain
+pub mod OpenedFile

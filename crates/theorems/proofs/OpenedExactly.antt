@@ -2,18 +2,18 @@
 -- Assumes nothing.
 use mathlib.Core.Path.{_≡_, refl, sym, ap, _∙_, subst}
 use mathlib.Core.Bool.{Bool, true, false, cond}
-use mathlib.Core.List.{List, [], _∷_, _++_, flatMap, map, append-nil, List·Memᴰ}
+use mathlib.Core.List.{List, [], _∷_, _++_, flatMap, map, List·Memᴰ}
 use mathlib.Core.Option.{Option, none}
 use Prim.Native.Nat.{ℕ, zero, suc}
 use lib.Seq.{append-snoc}
 use Rattle.byte_order.specs.Order.{AreBytes}
-use Rattle.outcome.proofs.ListsLaws.{Ascending, false-not-true}
+use Rattle.outcome.proofs.ListsLaws.{Ascending}
 use Rattle.outcome.proofs.RisingLaws.{split-member}
 use Rattle.block.specs.Payload.{Text, Entry}
 use Rattle.block.specs.Block.{Block}
 use Rattle.query.specs.Query.{Query}
 use Rattle.query.specs.Opening.{mayMatch}
-use Rattle.query.proofs.OpeningLaws.{mayMatch⇒CanMatch, CanMatch⇒mayMatch}
+use Rattle.query.proofs.OpeningLaws.{mayMatch⇒CanMatch}
 use Rattle.reader.specs.Read.{matching}
 use Rattle.search.specs.Search.{nextKey}
 use Rattle.checker.specs.Tree.{entriesOf, recordsAt, levelAt, leaves}
@@ -24,7 +24,7 @@ use Rattle.theorems.proofs.Events.{Event, opens, finds, eventsOver, eve
 use Rattle.theorems.proofs.TreePreorder.{preorder-distinct}
 use Rattle.theorems.proofs.TreeCuts.{upperBound, upperOf}
 use Rattle.theorems.proofs.KeptLaws.{kept-append, kept-none, kept-once}
-use Rattle.theorems.proofs.RuleWays.{way-down, entry-opened, opened-entry, opened-above}
+use Rattle.theorems.proofs.RuleWays.{way-down, entry-opened, unopened-below}
 
 -- ---- the blocks opened in events
 
@@ -59,7 +59,7 @@ module _ (bs : List Block) (root : ℕ) (t : Tree bs root) (q : Query) (keys : K
   abbrev visit : ℕ → Entry → Option (List ℕ) → List Event
   visit level e bound = opens (e .offset) ∷ eventsOf bs q level (e .offset) bound
 
-  -- what the search opens below a block that is open
+  -- of the blocks met at and under an open block, the search opens exactly those of the rule
   abbrev Exactly : (level at : ℕ) → Way bs root level at → Type 0
   Exactly level at w = Kept (Opened bs root q) (preorder bs level at) (at ∷ opensIn (eventsOf bs q level at (upperOf bs root level at w)))
 
@@ -79,10 +79,7 @@ module _ (bs : List Block) (root : ℕ) (t : Tree bs root) (q : Query) (keys : K
         (entry-opened bs root t q level at w front e es split opened
         (mayMatch⇒CanMatch (e .key .bytes) (nextKey es (upperOf bs root (suc level) at w)) q (key-bytes front e es split) (asked .start) (asked .prefix) p))
     at-entry front e es split false p =
-        kept-none (Opened bs root q) (preorder bs level (e .offset))
-        (λ (x : ℕ) (m : List·Memᴰ x (preorder bs level (e .offset))) (o : Opened bs root q x).
-        let c = opened-entry bs root t q level at w front e es split (opened-above bs root t q level (e .offset) (way-down bs root t q level at w front e es split) x m o) .0 in
-        false-not-true (sym p ∙ CanMatch⇒mayMatch (e .key .bytes) (nextKey es (upperOf bs root (suc level) at w)) q c))
+        kept-none (Opened bs root q) (preorder bs level (e .offset)) (unopened-below bs root t q level at w front e es split p)
 
     -- from an entry on
     over-entries : (front es : List Entry) → entriesOf bs at ≡ front ++ es

@@ -2,16 +2,18 @@
 -- Assumes nothing.
 use mathlib.Core.Path.{_≡_, refl, sym, ap, _∙_, subst}
 use mathlib.Core.Logic.{_⊎_, inl, inr, _≢_}
+use mathlib.Core.Bool.{false}
 use mathlib.Core.List.{List, [], _∷_, _++_, flatMap, List·Memᴰ, List·Memᴰ·cases-cons, List·Memᴰ·eq-of-singleton}
 use mathlib.Core.Option.{Option}
 use Prim.Native.Nat.{ℕ, zero, suc}
 use native.Mathlib.Omega.{arith}
-use Rattle.outcome.proofs.ListsLaws.{flatMap-member}
+use Rattle.outcome.proofs.ListsLaws.{flatMap-member, false-not-true}
 use Rattle.outcome.proofs.RisingLaws.{member-split, split-member}
 use Rattle.block.specs.Payload.{Entry}
 use Rattle.block.specs.Block.{Block}
 use Rattle.query.specs.Query.{Query}
-use Rattle.query.specs.Opening.{CanMatch}
+use Rattle.query.specs.Opening.{CanMatch, mayMatch}
+use Rattle.query.proofs.OpeningLaws.{CanMatch⇒mayMatch}
 use Rattle.search.specs.Search.{nextKey}
 use Rattle.checker.specs.Tree.{entriesOf}
 use Rattle.theorems.specs.Index.{preorder, Opens, the-root, by-entry, Opened}
@@ -132,3 +134,11 @@ module _ (bs : List Block) (root : ℕ) (t : Tree bs root) (q : Query) where
           let f = flatMap-member (λ e. preorder bs level (e .offset)) (entriesOf bs at) x inside in
           let s = member-split (entriesOf bs at) (f .0) (f .1) in
           opened-entry level at w (s .0) (f .0) (s .1) (s .2) (ih (f .0 .offset) (way-down level at w (s .0) (f .0) (s .1) (s .2)) (f .2)) .1
+
+  -- where the test says no at an entry, neither the block that it names nor any block met under that is opened
+  pub unopened-below : (level at : ℕ) (w : Way bs root (suc level) at) (front : List Entry) (e : Entry) (back : List Entry) → entriesOf bs at ≡ front ++ (e ∷ back)
+      → mayMatch (e .key .bytes) (nextKey back (upperOf bs root (suc level) at w)) q ≡ false → (x : ℕ) → List·Memᴰ x (preorder bs level (e .offset)) → Opened bs root q x → ⊥
+  unopened-below level at w front e back split closed x m o =
+      let named = opened-above level (e .offset) (way-down level at w front e back split) x m o in
+      let c = opened-entry level at w front e back split named .0 in
+      false-not-true (sym closed ∙ CanMatch⇒mayMatch (e .key .bytes) (nextKey back (upperOf bs root (suc level) at w)) q c)

@@ -21,7 +21,7 @@ use Rattle.query.specs.Opening.{upTo}
 use Rattle.query.proofs.QueryLaws.{matches-convex}
 use Rattle.checker.specs.Tree.{levelAt, under}
 use Rattle.theorems.specs.Index.{Kept, preorder, Opened, LeadsTo, InVain, QueryBytes}
-use Rattle.checker.proofs.TreeLaws.{Tree, level-at}
+use Rattle.checker.proofs.TreeLaws.{level-at}
 use Rattle.checker.proofs.TreeWays.{Way, block-way}
 use Rattle.theorems.proofs.Events.{searchEvents, opensIn}
 use Rattle.theorems.proofs.TreePreorder.{preorder⇒ordinary}
@@ -78,27 +78,28 @@ module _ (bs : List Block) (root : ℕ) (k : SearchTree bs root) (q : Query) (l 
             false-not-true (sym (ap not (member-any (λ r. matches q (r .bytes)) (under bs l x) r i hit)) ∙ h .1);
       }
 
-  test-not⇒match : (x : ℕ) → levelAt bs x ≡ l → inVain bs q l x ≡ false → any (λ r. matches q (r .bytes)) (under bs l x) ≡ true
+  untested⇒match : (x : ℕ) → levelAt bs x ≡ l → inVain bs q l x ≡ false → any (λ r. matches q (r .bytes)) (under bs l x) ≡ true
   unfolding inVain
-  test-not⇒match x p n = go (any (λ r. matches q (r .bytes)) (under bs l x)) (sym (ap (λ (b : Bool). b && not (any (λ r. matches q (r .bytes)) (under bs l x))) (eq-eqb (levelAt bs x) l p)) ∙ n)
+  untested⇒match x p n = go (any (λ r. matches q (r .bytes)) (under bs l x)) (sym (ap (λ (b : Bool). b && not (any (λ r. matches q (r .bytes)) (under bs l x))) (eq-eqb (levelAt bs x) l p)) ∙ n)
     where
       go : (b : Bool) → not b ≡ false → b ≡ true
       go true e = refl
       go false e = sym e
 
-  InVain⇒test : (x : ℕ) → inVain bs q l x ≡ false → InVain bs q l x → ⊥
-  InVain⇒test x n v =
-      let level = ap (levelAt bs) (sym (v .starts)) ∙ level-at bs root (k .tree) (v .block) (v .member) ∙ v .leveled in
-      let r = any-member (λ r. matches q (r .bytes)) (under bs l x) (test-not⇒match x level n) in
-      v .vain (r .0)
-      (subst (λ (n : ℕ). LeadsTo bs n (r .0)) (v .starts)
-      (under⇒leads bs root (k .tree) l (v .block) (v .member) (v .leveled) (r .0) (subst (λ (n : ℕ). List·Memᴰ (r .0) (under bs l n)) (sym (v .starts)) (r .1))))
-      (r .2)
-
-  -- ---- between two opened blocks
-
   InVain-level : (x : ℕ) → InVain bs q l x → levelAt bs x ≡ l
   InVain-level x v = ap (levelAt bs) (sym (v .starts)) ∙ level-at bs root (k .tree) (v .block) (v .member) ∙ v .leveled
+
+  InVain-under : (x : ℕ) → InVain bs q l x → (r : Text) → List·Memᴰ r (under bs l x) → matches q (r .bytes) ≡ true → ⊥
+  InVain-under x v r m hit =
+      let inside = subst (λ (n : ℕ). List·Memᴰ r (under bs l n)) (sym (v .starts)) m in
+      v .vain r (subst (λ (n : ℕ). LeadsTo bs n r) (v .starts) (under⇒leads bs root (k .tree) l (v .block) (v .member) (v .leveled) r inside)) hit
+
+  untested⇒not-InVain : (x : ℕ) → inVain bs q l x ≡ false → InVain bs q l x → ⊥
+  untested⇒not-InVain x n v =
+      let r = any-member (λ r. matches q (r .bytes)) (under bs l x) (untested⇒match x (InVain-level x v) n) in
+      InVain-under x v (r .0) (r .1) (r .2)
+
+  -- ---- between two opened blocks
 
   module _ (below : l < levelAt bs root) where
     -- a block of a lower level is not the root
@@ -163,11 +164,7 @@ module _ (bs : List Block) (root : ℕ) (k : SearchTree bs root) (q : Query) (l 
           let r = some .0 in
           let inside = subst (List·Memᴰ r) (sym (some .2)) (List·Memᴰ·head refl) in
           let hit = between-matches x y z first second (InVain-level x (a .2)) (InVain-level z (c .2)) (way-to x (a .2) (a .0)) v (way-to z (c .2) (c .0)) (a .1) (c .1) r inside in
-          let own = b .2 in
-          own .vain r
-          (subst (λ (n : ℕ). LeadsTo bs n r) (own .starts)
-          (under⇒leads bs root (k .tree) l (own .block) (own .member) (own .leveled) r (subst (λ (n : ℕ). List·Memᴰ r (under bs l n)) (sym (own .starts)) inside)))
-          hit
+          InVain-under y (b .2) r inside hit
 
       pub vain-few : length vain ≤ 2
       vain-few = few-elements vain no-third
@@ -180,7 +177,7 @@ module _ (bs : List Block) (root : ℕ) (k : SearchTree bs root) (q : Query) (l 
         kept =
             kept-decided (InVain bs q l) (inVain bs q l) opened
             (λ (x : ℕ) (m : List·Memᴰ x opened). test⇒InVain x (kept-member (Opened bs root q) (preorder bs (levelAt bs root) root) opened exact x m .0))
-            (λ (x : ℕ) (m : List·Memᴰ x opened). InVain⇒test x)
+            (λ (x : ℕ) (m : List·Memᴰ x opened). untested⇒not-InVain x)
 
 -- in particular of those that the search opens
 pub searched-in-vain : (bs : List Block) (root : ℕ) → SearchTree bs root → (q : Query) → KeysAreBytes bs → QueryBytes q → (level : ℕ) → level < levelAt bs root
