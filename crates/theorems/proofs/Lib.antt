@@ -31,3 +31,10 @@ pub mod WalkSteps
 pub mod SearchTheorems
 pub mod WalkGrows
 pub mod SearchLocal
+-- The blocks that the search opens: exactly those of the rule, and few in vain.
+pub mod KeptLaws
+pub mod RuleWays
+pub mod OpenedExactly
+pub mod LeadsLaws
+pub mod TwoInVain
+pub mod OpenedFile
