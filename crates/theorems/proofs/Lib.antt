@@ -38,3 +38,4 @@ pub mod OpenedExactly
 pub mod LeadsLaws
 pub mod TwoInVain
 pub mod OpenedFile
+pub mod Demand3

@@ -1,15 +1,15 @@
 -- The search opens exactly the blocks that the rule opens, in walk order: the root first, each once.
 -- Assumes nothing.
-use mathlib.Core.Path.{_≡_, refl, sym, ap, _∙_, subst}
+use mathlib.Core.Path.{_≡_, refl, sym, _∙_, subst}
 use mathlib.Core.Bool.{Bool, true, false, cond}
-use mathlib.Core.List.{List, [], _∷_, _++_, flatMap, map, List·Memᴰ}
+use mathlib.Core.List.{List, [], _∷_, _++_, flatMap, List·Memᴰ}
 use mathlib.Core.Option.{Option, none}
 use Prim.Native.Nat.{ℕ, zero, suc}
 use lib.Seq.{append-snoc}
 use Rattle.byte_order.specs.Order.{AreBytes}
 use Rattle.outcome.proofs.ListsLaws.{Ascending}
 use Rattle.outcome.proofs.RisingLaws.{split-member}
-use Rattle.block.specs.Payload.{Text, Entry}
+use Rattle.block.specs.Payload.{Entry}
 use Rattle.block.specs.Block.{Block}
 use Rattle.query.specs.Query.{Query}
 use Rattle.query.specs.Opening.{mayMatch}
@@ -20,24 +20,14 @@ use Rattle.checker.specs.Tree.{entriesOf, recordsAt, levelAt, leaves}
 use Rattle.theorems.specs.Index.{Kept, no-more, taken, Once, preorder, Opened, the-root, QueryBytes}
 use Rattle.checker.proofs.TreeLaws.{Tree}
 use Rattle.checker.proofs.TreeWays.{Way, at-root, turnsOf, way-block, met-entries}
-use Rattle.theorems.proofs.Events.{Event, opens, finds, eventsOver, eventsOf, searchEvents, opensIn}
+use Rattle.theorems.proofs.EventsLaws.{opensIn-append, opensIn-finds}
+use Rattle.theorems.proofs.Events.{Event, opens, eventsOver, eventsOf, searchEvents, opensIn}
 use Rattle.theorems.proofs.TreePreorder.{preorder-distinct}
 use Rattle.theorems.proofs.TreeCuts.{upperBound, upperOf}
 use Rattle.theorems.proofs.KeptLaws.{kept-append, kept-none, kept-once}
 use Rattle.theorems.proofs.RuleWays.{way-down, entry-opened, unopened-below}
 
 -- ---- the blocks opened in events
-
-pub opensIn-append : (xs ys : List Event) → opensIn (xs ++ ys) ≡ opensIn xs ++ opensIn ys
-unfolding opensIn
-opensIn-append [] ys = refl
-opensIn-append (opens offset ∷ xs) ys = ap (λ (l : List ℕ). offset ∷ l) (opensIn-append xs ys)
-opensIn-append (finds r ∷ xs) ys = opensIn-append xs ys
-
-pub opensIn-finds : (rs : List Text) → opensIn (map finds rs) ≡ []
-unfolding opensIn
-opensIn-finds [] = refl
-opensIn-finds (r ∷ rs) = opensIn-finds rs
 
 -- the root is opened
 pub root-opened : (bs : List Block) (root : ℕ) (q : Query) → Opened bs root q root

@@ -37,6 +37,12 @@ unfoldable pub preorder : List Block → (level at : ℕ) → List ℕ
 preorder bs zero at = at ∷ []
 preorder bs (suc level) at = at ∷ flatMap (λ e. preorder bs level (e .offset)) (entriesOf bs at)
 
+-- xs are the starts of all ordinary blocks, each once
+pub record AllBlocks (bs : List Block) (xs : List ℕ) : Type 0 where
+  pub all : (b : Block) → List·Memᴰ b bs → b .frame .level ≤ 63 → List·Memᴰ (b .frame .start) xs
+  pub only : (x : ℕ) → List·Memᴰ x xs → (b : Block) × List·Memᴰ b bs × (b .frame .start ≡ x) × (b .frame .level ≤ 63)
+  pub once : Once xs
+
 -- The rule opens the block at an offset, whose upper bound is this: the root, which has none; or a block that an entry of an opened index
 -- block names, where some byte string between its bounds matches. The entry stands between the entries `front` and `back`; its key is
 -- the lower bound.
