@@ -37,7 +37,7 @@ unfoldable pub nextKey : List Entry → Option (List ℕ) → Option (List ℕ)
 nextKey [] above = above
 nextKey (next ∷ back) above = some (next .key .bytes)
 
--- the block of a sound frame that has this full size and a level from `least` to `most`; else the refusal `number` at `place`
+-- the block of a sound frame: another full size, or a level not from `least` to `most`, is the refusal `number` at `place`; then the payload
 unfoldable pub fittingBlock : (file : List ℕ) (number place least most size : ℕ) → Frame → Outcome Block
 fittingBlock file number place least most size f =
     must (eqb (f .size) size && (leb least (f .level) && leb (f .level) most)) number place >> blockIn file f

@@ -1,6 +1,6 @@
 -- Demand 3: the index search of an accepted file, whole.
 -- Assumes nothing.
-use mathlib.Core.Path.{_≡_, sym, subst}
+use mathlib.Core.Path.{_≡_, sym, _∙_, subst}
 use mathlib.Core.Logic.{_↔_}
 use mathlib.Core.List.{List}
 use Prim.Native.Nat.{ℕ, _*_, _≤_, _<_}
@@ -15,7 +15,7 @@ use Rattle.reader.specs.Read.{matching}
 use Rattle.search.specs.Search.{searchOf, searchAnswer}
 use Rattle.checker.specs.Tree.{levelAt}
 use Rattle.checker.specs.Check.{acceptOf}
-use Rattle.theorems.specs.Index.{Kept, preorder, AllBlocks, Opened, QueryBytes, Searched}
+use Rattle.theorems.specs.Index.{preorder, AllBlocks, QueryBytes, walkOrder, RuleOpens, Searched}
 use Rattle.theorems.proofs.Events.{searchEvents, opensIn}
 use Rattle.theorems.proofs.TreePreorder.{ordinary⇒preorder, preorder⇒ordinary, preorder-distinct}
 use Rattle.theorems.proofs.KeptLaws.{Distinct⇒Once}
@@ -26,8 +26,9 @@ use Rattle.theorems.proofs.OpenedFile.{accepted-exactly, accepted-uniqu
 
 module _ (file : List ℕ) (bs : List Block) (accepted : acceptOf file ≡ answer bs) where
   -- going down from the root in entry order with no test meets every ordinary block once, and nothing else
-  pub preorder-all : AllBlocks bs (preorder bs (levelAt bs (numberAt file 16)) (numberAt file 16))
-  preorder-all =
+  pub walk-order-all : AllBlocks bs (walkOrder file bs)
+  unfolding walkOrder
+  walk-order-all =
       let k = accepted⇒SearchTree file bs accepted in
       record {
         all = ordinary⇒preorder bs (numberAt file 16) (k .tree);
@@ -41,6 +42,7 @@ module _ (file : List ℕ) (bs : List Block) (accepted : acceptOf file ≡ answe
     searched places room opened-fit matches-fit =
         record {
           number = reads.number file bs accepted q places room opened-fit matches-fit;
+          place = reads.place file bs accepted q places room opened-fit matches-fit;
           same-number = reads.same-number file bs accepted q places room opened-fit matches-fit;
           same-place = reads.same-place file bs accepted q places room opened-fit matches-fit;
           same-matches = reads.same-matches file bs accepted q places room opened-fit matches-fit;
@@ -52,15 +54,22 @@ module _ (file : List ℕ) (bs : List Block) (accepted : acceptOf file ≡ answe
           in-vain = accepted-in-vain file bs accepted bytes q asked;
         }
 
-    -- Demand 3. There is one list of blocks that the rule opens: all blocks in walk order with exactly the opened ones kept. With a place
-    -- for each of them, and two places for each match, the search is not refused, equals reading front to back and opens these blocks.
-    pub demand3 : (opened : List ℕ) × Kept (Opened bs (numberAt file 16) q) (preorder bs (levelAt bs (numberAt file 16)) (numberAt file 16)) opened
+    -- Demand 3. The rule determines the blocks to be opened: all blocks in walk order with exactly the opened ones kept. With a place for each
+    -- of them, and two places for each match, the search is not refused, equals reading front to back and opens these blocks.
+    pub demand3 : (opened : List ℕ) × RuleOpens file bs q opened
         × ((places room : ℕ) → length opened ≤ places → 2 * length (matching q (recordsOf bs)) ≤ room → Searched file bs q places room opened)
+    unfolding RuleOpens walkOrder
     demand3 = (opensIn (searchEvents bs (numberAt file 16) q), accepted-exactly file bs accepted bytes q asked, searched)
 
+    -- no other list is meant
+    pub rule-unique : (opened other : List ℕ) → RuleOpens file bs q opened → RuleOpens file bs q other → opened ≡ other
+    unfolding RuleOpens walkOrder
+    rule-unique opened other e f = accepted-unique file bs accepted bytes q asked opened e ∙ sym (accepted-unique file bs accepted bytes q asked other f)
+
     -- the exact edge of room, where `opened` are the blocks that the rule opens
-    module _ (opened : List ℕ) (exactly : Kept (Opened bs (numberAt file 16) q) (preorder bs (levelAt bs (numberAt file 16)) (numberAt file 16)) opened) (places room : ℕ) where
+    module _ (opened : List ℕ) (exactly : RuleOpens file bs q opened) (places room : ℕ) where
       same : opensIn (searchEvents bs (numberAt file 16) q) ≡ opened
+      unfolding RuleOpens walkOrder
       same = sym (accepted-unique file bs accepted bytes q asked opened exactly)
 
       -- with room for the results: 26 exactly if the opened list has fewer places than blocks that the rule opens

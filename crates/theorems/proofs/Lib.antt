@@ -1,4 +1,4 @@
--- The proofs of what specs/ claims: the examples, and that the check accepts exactly the files that keep the rules.
+-- The proofs of what specs/ claims: the examples, that the check accepts exactly the files that keep the rules, and demand 3.
 pub mod Examples
 pub mod FillLaws
 pub mod ItemRuleLaws

@@ -1,18 +1,18 @@
 -- A search that is answered depends only on the file's length, its header and the blocks on the opened list.
 -- Assumes nothing.
-use mathlib.Core.Path.{_≡_, refl, sym, ap, _∙_, subst}
+use mathlib.Core.Path.{_≡_, refl, sym, ap, _∙_}
 use mathlib.Core.Bool.{Bool, true, false, _&&_, cond}
 use mathlib.Core.List.{List, [], _∷_, List·Memᴰ, List·Memᴰ·head, Memᴰ·append-right}
 use mathlib.Core.Option.{Option, none}
-use Prim.Native.Nat.{ℕ, zero, suc, _+_}
+use Prim.Native.Nat.{ℕ, zero, suc}
 use lib.Dec.{leb, ltb, eqb}
-use lib.ListN.{length, take}
+use lib.ListN.{length}
 use Rattle.outcome.specs.Outcome.{Outcome, answer, _>>=_}
 use Rattle.outcome.specs.Items.{part}
 use Rattle.outcome.proofs.OutcomeLaws.{answer-injective, bind-answer, bind⁻¹, kept}
 use Rattle.header.specs.declared.Header.{Header}
 use Rattle.header.specs.Header.{headerOf, blocksFrom}
-use Rattle.header.proofs.HeaderLaws.{is-header, header-local}
+use Rattle.header.proofs.HeaderLaws.{header-local}
 use Rattle.block.specs.declared.Frame.{Frame}
 use Rattle.block.specs.Frame.{soundFrameAt}
 use Rattle.block.specs.Payload.{Entry}
@@ -117,18 +117,19 @@ module _ (file other : List ℕ) (long : length other ≡ length file) where
 
 -- ---- the search
 
-module _ (file other : List ℕ) (q : Query) (places room : ℕ) (h : Header) (s : Found) (accepted : headerOf file ≡ answer h) (found : searchOf file q places room ≡ answer s)
-    (same : SameWhereOpened file other h s) where
+module _ (file other : List ℕ) (q : Query) (places room : ℕ) (s : Found) (found : searchOf file q places room ≡ answer s) (same : SameWhereOpened file other s) where
+  -- Locality: such a file gets the same answer.
   pub search-local : searchOf other q places room ≡ answer s
-  unfolding searchOf blocksFrom
-  search-local =
-      let extent = is-header file h accepted .is-extent in
-      let header = header-local file other h accepted (same .long) (subst (λ (n : ℕ). take (24 + n) other ≡ take (24 + n) file) extent (same .header)) in
-      bind-answer (headerOf other) (walk other) h header
-      ∙ walkFrom-local file other (same .long) q places room (blocksFrom h) (h .root) (h .rootsize) s (sym (bind-answer (headerOf file) (walk file) h accepted) ∙ found) (same .blocks)
+  unfolding searchOf
+  search-local = let read = bind⁻¹ (headerOf file) (walk file) s found in go (read .0) (read .1) (read .2)
     where
       walk : List ℕ → Header → Outcome Found
-      walk f x = walkFrom f q places room (blocksFrom x) (x .root) (x .rootsize)
+      walk f h = walkFrom f q places room (blocksFrom h) (h .root) (h .rootsize)
+
+      go : (h : Header) → headerOf file ≡ answer h → walk file h ≡ answer s → (headerOf other >>= walk other) ≡ answer s
+      go h has-header walked =
+          bind-answer (headerOf other) (walk other) h (header-local file other h has-header (same .long) (same .header))
+          ∙ walkFrom-local file other (same .long) q places room (blocksFrom h) (h .root) (h .rootsize) s walked (same .blocks)
 
   -- so the answer and every place of both lists are the same
   pub search-local-answer : (searchAnswer (searchOf other q places room) ≡ searchAnswer (searchOf file q places room))

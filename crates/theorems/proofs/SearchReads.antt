@@ -53,6 +53,9 @@ module _ (file : List ℕ) (bs : List Block) (accepted : acceptOf file ≡ answe
   pub number : searchAnswer (searchOf file q places room) .number ≡ 0
   number = reported .number
 
+  pub place : searchAnswer (searchOf file q places room) .place ≡ 0
+  place = reported .place
+
   -- equal to reading front to back
   pub same-number : searchAnswer (searchOf file q places room) .number ≡ readAnswer (readOf file q room) .number
   same-number = reported .number ∙ sym (ap (λ a. a .number) (read-reported .0))

@@ -1,6 +1,6 @@
--- Demand 3's words: the blocks that the index search must open and the records that it must find, as relations and not as a walk.
--- `bs` is the list of the file's blocks in file order, and `root` the root's offset.
-use Prim.Native.Nat.{ℕ, zero, suc, _*_, _≤_, _<_}
+-- Demand 3's words. The opening rule and what a block leads to are relations; the one walk here, `preorder`, makes no test and only gives
+-- the order. `bs` is the list of the file's blocks in file order, and `root` the root's offset.
+use Prim.Native.Nat.{ℕ, zero, suc, _≤_, _<_}
 use mathlib.Core.Path.{_≡_}
 use mathlib.Core.Bool.{true}
 use mathlib.Core.List.{List, [], _∷_, _++_, flatMap, List·Memᴰ}
@@ -72,15 +72,25 @@ pub record InVain (bs : List Block) (q : Query) (level at : ℕ) : Type 0 where
 
 -- ---- demand 3
 
--- start and prefix are byte strings, as every query's are
+-- Start and prefix are byte strings. They and the file are slices of u8, so this holds of every call; the stop needn't be bytes, since no
+-- matching string is made from it.
 pub record QueryBytes (q : Query) : Type 0 where
   pub start : AreBytes (q .start)
   pub prefix : AreBytes (q .prefix)
 
--- The search of a file with these blocks, where `opened` are the blocks that the rule opens, in walk order.
+-- all blocks of a file in walk order, down from the root that the header names
+unfoldable pub walkOrder : (file : List ℕ) (bs : List Block) → List ℕ
+walkOrder file bs = preorder bs (levelAt bs (numberAt file 16)) (numberAt file 16)
+
+-- `opened` are the blocks that the rule opens, in walk order
+unfoldable pub RuleOpens : (file : List ℕ) (bs : List Block) → Query → (opened : List ℕ) → Type 0
+RuleOpens file bs q opened = Kept (Opened bs (numberAt file 16) q) (walkOrder file bs) opened
+
+-- What is claimed of the search of a file with these blocks, where `opened` are the blocks that the rule opens.
 pub record Searched (file : List ℕ) (bs : List Block) (q : Query) (places room : ℕ) (opened : List ℕ) : Type 0 where
   -- not refused
   pub number : searchAnswer (searchOf file q places room) .number ≡ 0
+  pub place : searchAnswer (searchOf file q places room) .place ≡ 0
   -- equal to reading front to back: number, place, count of matches and every place of the result list
   pub same-number : searchAnswer (searchOf file q places room) .number ≡ readAnswer (readOf file q room) .number
   pub same-place : searchAnswer (searchOf file q places room) .place ≡ readAnswer (readOf file q room) .place
