@@ -40,6 +40,6 @@ blockAt file at = soundFrameAt file at >>= blockIn file
 unfoldable pub blockStep : List ℕ → ℕ → Outcome (Step Block)
 blockStep file at = blockAt file at >>= λ b. answer (record { item = b; next = at + b .frame .size })
 
--- the blocks that fill the file from an offset to its end, front to back, or the first refusal
+-- the blocks that fill the file from an offset to its end, front to back, or the first refusal; every block takes at least a byte
 unfoldable pub blocksAt : List ℕ → ℕ → Outcome (List Block)
 blocksAt file at = itemsFrom (blockStep file) (length file) (length file - at) at

@@ -51,7 +51,8 @@ unfoldable pub rising : List (List ℕ) → Bool
 rising [] = true
 rising (x ∷ xs) = risingFrom x xs
 
--- One or more items that fill the payload from `at` to its end (11, 12, 15), whose byte strings rise (the refusal `unsorted`).
+-- One or more items that fill the payload from `at` to its end (11, 12, 15), whose byte strings rise (the refusal `unsorted`). Every item
+-- takes at least a byte, so `end - at` is fuel enough.
 unfoldable pub payloadAt : {A : Type 0} (step : ℕ → Outcome (Step A)) (textOf : A → Text) (unsorted place end at : ℕ) → Outcome (List A)
 payloadAt step textOf unsorted place end at = do
   must (ltb at end) 15 place

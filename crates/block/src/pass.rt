@@ -32,7 +32,7 @@ pub fn block_at(file: &[u8], at: usize) -> BlockOutcome
 }
 
 // The block that a sound frame encloses.
-fn block_in(file: &[u8], f: Frame) -> BlockOutcome
+pub fn block_in(file: &[u8], f: Frame) -> BlockOutcome
     requires { ⌜ (f .body < f .end) × (f .end ≤ length (now file)) ⌝ }
     ensures { λ r. ⌜ answers.block (f .start) r ≡ answers.tallied (blocks.blockIn (now (file .entry)) f) ⌝ }
 {

@@ -34,20 +34,21 @@ unfoldable pub ascending : (least : ℕ) → List ℕ → Outcome (Unit {0})
 ascending least [] = answer tt
 ascending least (at ∷ rest) = must (leb least at) 22 at >> ascending (suc at) rest
 
--- 23: the records of each data block are at most those of the next data block
+-- every record of a is at most every record of b
 unfoldable pub allAtMost : Block → Block → Bool
 allAtMost a b = all (λ r. all (λ s. atMost (r .bytes) (s .bytes)) (b .records)) (a .records)
 
--- the data blocks that come behind a
+-- 23 for a and the data blocks behind it, each against the one before
 unfoldable pub neighboursOf : Block → List Block → Outcome (Unit {0})
 neighboursOf a [] = answer tt
 neighboursOf a (b ∷ bs) = must (allAtMost a b) 23 (b .frame .start) >> neighboursOf b bs
 
+-- 23: the records of each data block are at most those of the next
 unfoldable pub neighbours : List Block → Outcome (Unit {0})
 neighbours [] = answer tt
 neighbours (a ∷ bs) = neighboursOf a bs
 
--- 24: every key of the block fits what its entry's block leads to
+-- 24: every entry of the block keeps the key rule
 unfoldable pub keysFit : List Block → Block → Bool
 keysFit bs b = all (λ e. keyFits bs (e .key .bytes) (under bs (b .frame .level - 1) (e .offset))) (b .entries)
 

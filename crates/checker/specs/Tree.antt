@@ -13,7 +13,7 @@ use Rattle.block.specs.Survey.{ordinary, recordsOf}
 
 -- ---- the block at an offset
 
--- the entries, the records and the level of the block that starts at an offset; nothing where none starts there
+-- the entries, the records and the level of the block that starts at an offset; no entries, no records and level 0 where none starts there
 unfoldable pub entriesOf : List Block → ℕ → List Entry
 entriesOf bs at = flatMap (λ b. cond (eqb (b .frame .start) at) (b .entries) []) bs
 

@@ -7,11 +7,11 @@ use Prim.Native.Nat.{ℕ, zero, suc, _+_, _-_, _*_, _/_, _≤_, _<_}
 use native.Mathlib.Nat.{sub-zero}
 use native.Mathlib.Omega.{arith}
 use borrow.Author.Fill.{fill-more}
-use borrow.Author.Tests.{le-leb, lt-leb}
-use lib.Dec.{leb}
+use borrow.Author.Tests.{le-leb, lt-leb, lt-ltb, le-ltb}
+use lib.Dec.{leb, ltb}
 use lib.ListN.{length, getD, set, take, drop, replicate, length-append, length-replicate, length-set, List·getD-append}
 use lib.Seq.{drop-length, take-append-seam, drop-append-seam, set-append-seam, getD-append-add, append-snoc}
-use Rattle.output_list.specs.OutputList.{padded, zeros, hasRoom, withPair}
+use Rattle.output_list.specs.OutputList.{padded, zeros, hasPlace, withNumber, hasRoom, withPair}
 
 -- ---- zeros
 
@@ -115,6 +115,26 @@ pub cleared-all : (old list : List ℕ) (i : ℕ) → Cleared old list i → len
 cleared-all old list i done h =
     let all : i ≡ length old = omega arith in
     rw (done .holds, all, drop-length) (append-nil (zeros (length old)))
+
+-- ---- one number
+
+pub place-none : (list : List ℕ) (count number : ℕ) → length list ≤ count → (false ≡ hasPlace list count) × (list ≡ withNumber list count number)
+unfolding hasPlace withNumber
+place-none list count number h =
+    let full : ltb count (length list) ≡ false = le-ltb count (length list) h in
+    (sym full, sym (ap (λ (b : Bool). cond b (set list count number) list) full))
+
+pub place-some : (list : List ℕ) (count number : ℕ) → count < length list → (true ≡ hasPlace list count) × (set list count number ≡ withNumber list count number)
+unfolding hasPlace withNumber
+place-some list count number h =
+    let room : ltb count (length list) ≡ true = lt-ltb count (length list) h in
+    (sym room, sym (ap (λ (b : Bool). cond b (set list count number) list) room))
+
+-- a number behind the numbers
+pub withNumber-padded : (room : ℕ) (l : List ℕ) (count number : ℕ) → length l ≡ count → count < room → withNumber (padded room l) count number ≡ padded room (l ++ (number ∷ []))
+withNumber-padded room l count number e h =
+    let long = length-padded room l (omega arith) in
+    sym (place-some (padded room l) count number (omega arith) .1) ∙ ap (λ (n : ℕ). set (padded room l) n number) (sym e) ∙ set-padded room l number (omega arith)
 
 -- ---- pairs
 

@@ -3,7 +3,7 @@
 use Prim.Native.Nat.{ℕ, _+_, _-_, _*_}
 use mathlib.Core.Bool.{Bool, cond}
 use mathlib.Core.List.{List, [], _++_}
-use lib.Dec.{leb}
+use lib.Dec.{leb, ltb}
 use lib.ListN.{length, set, replicate}
 
 -- a list of `room` places that holds these numbers at the front and zeros behind
@@ -13,6 +13,14 @@ padded room numbers = numbers ++ replicate (room - length numbers) 0
 -- a list of `room` places that holds nothing but zeros
 unfoldable pub zeros : ℕ → List ℕ
 zeros room = padded room []
+
+-- there is room for a number behind `count` numbers
+unfoldable pub hasPlace : List ℕ → ℕ → Bool
+hasPlace list count = ltb count (length list)
+
+-- the list with a number stored behind `count` numbers, where there is room, or as it is
+unfoldable pub withNumber : List ℕ → (count number : ℕ) → List ℕ
+withNumber list count number = cond (hasPlace list count) (set list count number) list
 
 -- there is room for a pair behind `count` pairs
 unfoldable pub hasRoom : List ℕ → ℕ → Bool

@@ -1,7 +1,7 @@
 // Lent lists of answers: the numbers put stand at the front, and zeros behind them.
 ghost use mathlib.Core.Path.{_≡_};
 ghost use lib.ListN.{length};
-ghost use Rattle.output_list.specs.OutputList.{zeros, hasRoom, withPair};
+ghost use Rattle.output_list.specs.OutputList.{zeros, hasPlace, withNumber, hasRoom, withPair};
 
 // Every place of the list becomes 0.
 pub fn clear(list: &mut [u64])
@@ -12,6 +12,17 @@ pub fn clear(list: &mut [u64])
         list[i] = 0;
         i += 1;
     }
+}
+
+// Stores a number behind the `count` numbers at the front, where there is room; answers whether there was.
+pub fn put(list: &mut [u64], count: usize, number: u64) -> bool
+    ensures { λ r. ⌜ (r ≡ hasPlace (now (list .entry)) count) × (now (list .exit) ≡ withNumber (now (list .entry)) count number) ⌝ }
+{
+    if list.len() <= count {
+        return false;
+    }
+    list[count] = number;
+    true
 }
 
 // Stores a pair behind the `count` pairs at the front, where there is room; answers whether there was.

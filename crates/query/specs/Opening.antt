@@ -29,7 +29,7 @@ unfoldable pub admitsPrefix : List ℕ → List ℕ → Bool
 admitsPrefix x prefix = atMost x prefix || begins prefix x
 
 -- The test. The greatest of lower bound, start and prefix is the least candidate: it must begin with the prefix, be at most the
--- upper bound and be less than the stop. No end of a prefix is computed.
+-- upper bound and be less than the stop. This is said of each of the three, so that none need be chosen. No end of a prefix is computed.
 unfoldable pub mayMatch : List ℕ → Option (List ℕ) → Query → Bool
 mayMatch lower upper q =
     reaches lower upper (q .stop)

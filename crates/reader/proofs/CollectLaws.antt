@@ -2,7 +2,7 @@
 -- Assumes nothing.
 use mathlib.Core.Path.{_≡_, refl, sym, ap, _∙_}
 use mathlib.Core.List.{List, [], flatMap}
-use Prim.Native.Nat.{ℕ, zero, suc, _-_, _≤_, _<_}
+use Prim.Native.Nat.{ℕ, zero, suc, _+_, _-_, _≤_, _<_}
 use native.Mathlib.Omega.{arith}
 use lib.ListN.{length}
 use Rattle.outcome.specs.Outcome.{Outcome, answer, refused}
@@ -26,16 +26,17 @@ module _ {A : Type 0} (step : (place at : ℕ) → Outcome (Step A)) (texts : A 
     pub fuel : ℕ
     pub enough : end - at ≤ fuel
     pub leads : (place : ℕ) → putAll first (matching q (textsFrom place (end - from) from)) ≡ putAll stored (matching q (textsFrom place fuel at))
-    pub few : stored .count ≤ at
+    -- at most one match for each byte
+    pub few : stored .count + (end - at) ≤ first .count + (end - from)
     pub long : length (stored .list) ≡ length (first .list)
 
-  pub collected-start : first .count ≤ from → Collected from first
-  collected-start h = record { fuel = end - from; enough = omega arith; leads = λ place. refl; few = h; long = refl }
+  pub collected-start : Collected from first
+  collected-start = record { fuel = end - from; enough = omega arith; leads = λ place. refl; few = omega arith; long = refl }
 
   -- one item more
   pub collected-more : (at : ℕ) (stored : Stored) → Collected at stored → at < end
       → (s : Step A) → ((place : ℕ) → step place at ≡ answer s) → at < s .next
-      → (later : Stored) → later ≡ putAll stored (matching q (texts (s .item))) → later .count ≤ s .next → length (later .list) ≡ length (stored .list)
+      → (later : Stored) → later ≡ putAll stored (matching q (texts (s .item))) → later .count + (end - s .next) ≤ stored .count + (end - at) → length (later .list) ≡ length (stored .list)
       → Collected (s .next) later
   unfolding flatMap
   collected-more at stored p h s e forward later is few long = more (p .fuel) (p .enough) (p .leads)
@@ -52,7 +53,7 @@ module _ {A : Type 0} (step : (place at : ℕ) → Outcome (Step A)) (texts : A 
                 ∙ ap (putAll stored) (matching-append q (texts (s .item)) (textsFrom place fuel (s .next)))
                 ∙ putAll-append stored (matching q (texts (s .item))) (matching q (textsFrom place fuel (s .next)))
                 ∙ ap (λ (t : Stored). putAll t (matching q (textsFrom place fuel (s .next)))) (sym is);
-            few = few;
+            few = let so-far = p .few in omega arith;
             long = long ∙ p .long;
           }
 

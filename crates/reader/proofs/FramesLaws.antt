@@ -71,6 +71,18 @@ module _ (file : List ℕ) (from : ℕ) (q : Query) (first : Stored) where
 
   -- the frame f was read at `at`
   module _ (at : ℕ) (stored : Stored) (p : FramesCollected at stored) (h : at < length file) (f : Frame) (e : frameAt file at ≡ answer f) where
+    -- there are fewer matches, with those of the block, than a file of this length has bytes
+    pub frames-room : (limit : ℕ) → first .count + length file < limit → stored .count + (length (take (f .end) file) - (f .body + 1)) < limit
+    frames-room limit short =
+        let l = frame⇒Framed file at f e in
+        let number = l .number in
+        let some = l .some in
+        let sized = l .sized in
+        let within = l .within in
+        let cut = length-take (f .end) file in
+        let so-far = p .few in
+        omega arith
+
     -- the matching records of a data block are put
     pub frames-data : f .level ≡ 0 → (later : Stored) → later ≡ putAll stored (matching q (recordsFrom (f .start) (take (f .end) file) (f .body + 1)))
         → FramesCollected (at + f .size) later

@@ -1,5 +1,6 @@
 // Putting the matching records of a file on a result list. The file's blocks have been tested before.
-ghost use Prim.Native.Nat.{ℕ, _≤_};
+ghost use Prim.Native.Nat.{ℕ, _+_, _-_, _^_, _<_};
+ghost use lib.ListN.{length};
 ghost use mathlib.Core.Path.{_≡_};
 ghost use Rattle.query.specs.Query.{queryOf};
 ghost use Rattle.reader.specs.Read.{matching};
@@ -10,7 +11,7 @@ use block::payload::TextStep;
 use block::payload::text_at;
 
 // Puts the matching records from an offset to the end of `s` behind `count` matches; answers how many matches there are then.
-fn collect_records(
+pub fn collect_records(
     s: &[u8],
     from: usize,
     start: &[u8],
@@ -20,7 +21,7 @@ fn collect_records(
     results: &mut [u64],
     count: usize,
 ) -> usize
-    requires { ⌜ count ≤ from ⌝ }
+    requires { ⌜ count + (length (now s) - from) < 2 ^ 64 ⌝ }
     ensures { λ r. ⌜ ((place : ℕ) → _≡_ {A = Stored} (record { count = r; list = now (results .exit) }) (putAll (record { count = count; list = now (results .entry) }) (matching (queryOf (now (start .entry)) «stop_given» (now (stop .entry)) (now (prefix .entry))) (recordsFrom place (now (s .entry)) from)))) ⌝ }
 {
     let mut at = from;

@@ -7,7 +7,7 @@ ghost use Rattle.header.specs.Header.{blocksFrom};
 ghost use Rattle.query.specs.Query.{queryOf};
 ghost use Rattle.reader.specs.Read.{readBlocks, readOf, readAnswer, readList};
 
-mod collect;
+pub mod collect;
 pub mod record;
 
 use crate::collect::collect;

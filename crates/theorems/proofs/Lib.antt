@@ -1,4 +1,4 @@
--- The proofs of what specs/ claims: the examples, and that the check accepts exactly the files that keep the rules.
+-- The proofs of what specs/ claims: the examples, that the check accepts exactly the files that keep the rules, and demand 3.
 pub mod Examples
 pub mod FillLaws
 pub mod ItemRuleLaws
@@ -20,3 +20,23 @@ pub mod TreeLevels
 pub mod TreeCuts
 pub mod TreeBounds
 pub mod TreeFile
+-- The search of an accepted file.
+pub mod Events
+pub mod EventsLaws
+pub mod SearchEvents
+pub mod SearchFinds
+pub mod SearchRoom
+pub mod SearchReads
+-- The search on any bytes.
+pub mod WalkSteps
+pub mod SearchTheorems
+pub mod WalkGrows
+pub mod SearchLocal
+-- The blocks that the search opens: exactly those of the rule, and few in vain.
+pub mod KeptLaws
+pub mod RuleWays
+pub mod OpenedExactly
+pub mod LeadsLaws
+pub mod TwoInVain
+pub mod OpenedFile
+pub mod Demand3

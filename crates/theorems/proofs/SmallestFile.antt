@@ -54,5 +54,8 @@ unfolding countOf
 answered (answer bs) e = (bs, refl)
 answered (refused number place) e = absurd (omega arith)
 
+pub smallest-accepted : (bs : List Block) × (acceptOf smallestFile ≡ answer bs)
+smallest-accepted = answered (acceptOf smallestFile) two-blocks
+
 pub smallest-keeps : (bs : List Block) × Rules smallestFile bs
-smallest-keeps = let a = answered (acceptOf smallestFile) two-blocks in (a .0, accepted⇒Rules smallestFile (a .0) (a .1))
+smallest-keeps = let a = smallest-accepted in (a .0, accepted⇒Rules smallestFile (a .0) (a .1))

@@ -16,16 +16,12 @@ use Rattle.block.specs.Payload.{Text, Entry}
 use Rattle.block.specs.Block.{Block}
 use Rattle.block.specs.Survey.{recordsOf}
 use Rattle.checker.specs.Tree.{entriesOf, recordsAt, levelAt, leaves, under}
+use Rattle.search.specs.Search.{nextKey}
 use Rattle.theorems.specs.Rules.{Sorted, one-string}
 use Rattle.checker.proofs.TreeLaws.{Tree, records-at, leaves-data, leaves-some}
 use Rattle.checker.proofs.TreeWays.{Way, at-root, by-entry, Turn, turnsOf, leavesBefore, leavesBehind, pre, post, records-cut, Met, way-block, met-entries}
 
 -- ---- bounds
-
--- the upper bound of an entry's block, where `above` is that of the index block: the next entry's key, for the last entry `above`
-unfoldable pub nextKey : List Entry → Option (List ℕ) → Option (List ℕ)
-nextKey [] above = above
-nextKey (next ∷ back) above = some (next .key .bytes)
 
 -- The bounds of the block to which turns lead, the last one first. The lower bound is the entry's key; the root has none, and the least
 -- byte string stands for it.

@@ -16,9 +16,10 @@ use Rattle.outcome.proofs.CountLaws.{keep-flatMap, keep-none}
 use Rattle.block.specs.Payload.{Text, Entry}
 use Rattle.block.specs.Block.{Block}
 use Rattle.checker.specs.Tree.{entriesOf, recordsAt, levelAt, leaves, under}
+use Rattle.theorems.specs.Index.{preorder}
 use Rattle.checker.proofs.TreeLaws.{Tree, level-at, child, leaves-some}
 use Rattle.checker.proofs.TreeWays.{Way, leavesBefore, leavesBehind, leaves-cut, leaves-within, pre, post, way-block}
-use Rattle.theorems.proofs.TreePreorder.{preorder, preorder-met, preorder⇒ordinary, ordinary⇒preorder}
+use Rattle.theorems.proofs.TreePreorder.{preorder-met, preorder⇒ordinary, ordinary⇒preorder}
 
 -- the blocks of level l met going down from the block of a level at an offset, in walk order
 unfoldable pub blocksOfLevel : List Block → (l level at : ℕ) → List ℕ

@@ -13,13 +13,9 @@ use Rattle.outcome.proofs.RisingLaws.{split-member, ascending-left, ascending-r
 use Rattle.block.specs.Payload.{Entry}
 use Rattle.block.specs.Block.{Block}
 use Rattle.checker.specs.Tree.{entriesOf, levelAt, leaves}
+use Rattle.theorems.specs.Index.{preorder}
 use Rattle.checker.proofs.TreeLaws.{Tree, level-at, same-start, Child, child, leaves-some}
 use Rattle.checker.proofs.TreeWays.{Way, at-root, by-entry, block-way}
-
--- the offsets of all blocks met going down from the block of this level at an offset, each block before those that its entries name
-unfoldable pub preorder : List Block → (level at : ℕ) → List ℕ
-preorder bs zero at = at ∷ []
-preorder bs (suc level) at = at ∷ flatMap (λ e. preorder bs level (e .offset)) (entriesOf bs at)
 
 -- the block comes first
 pub preorder-first : (bs : List Block) (level at : ℕ) → List·Memᴰ at (preorder bs level at)

@@ -1,5 +1,6 @@
 -- The rules of the format, each in the paper's own terms and in no order: what a file of the format is. Nothing here passes over the
--- file or scans a payload: blocks tile the file, and items fill a payload.
+-- file or scans a payload: blocks tile the file, and items fill a payload. Shared with the check are the value of a number, CRC, SHA, the
+-- order of byte strings, and the descriptions of the tree: `levelAt`, `namings`, `leaves`, `under`, `recordsOf`, `payloads`.
 use Prim.Native.Nat.{ℕ, _+_, _-_, _^_, _≤_, _<_}
 use mathlib.Core.Path.{_≡_}
 use mathlib.Core.Logic.{_≢_}
@@ -52,7 +53,7 @@ pub data Sorted : List (List ℕ) → Type 0 where
   no-string : Sorted []
   one-string : {x : List ℕ} {xs : List (List ℕ)} → ((y : List ℕ) → List·Memᴰ y xs → atMost x y ≡ true) → Sorted xs → Sorted (x ∷ xs)
 
--- the frame f stands at `at` in the file: a number L, L bytes of which the first is the level, at least that one, and their CRC
+-- the frame f stands at `at` in the file: a number L of at least 1, L bytes, the first of them the level byte, and their CRC
 pub record FrameIn (file : List ℕ) (at : ℕ) (f : Frame) : Type 0 where
   pub starts : f .start ≡ at
   pub numbered : NumberIn file at (f .body) (f .end - f .body)

@@ -1,7 +1,7 @@
 -- `reader::collect::collect` meets its contract. The loop's invariant is `FramesCollected`: going on from here gives what the whole gives.
 -- Assumes nothing.
 use mathlib.Core.Path.{sym, ap, _∙_}
-use Prim.Native.Nat.{_-_}
+use Prim.Native.Nat.{_-_, _^_}
 use native.Mathlib.Omega.{arith}
 use borrow.Author.Needs.{needs}
 use denote.Ref.{now}
@@ -11,7 +11,7 @@ use Rattle.block.specs.Answers.{frame}
 use Rattle.block.proofs.FrameLaws.{frame⇒Framed}
 use Rattle.query.specs.Query.{queryOf}
 use Rattle.reader.proofs.CollectLaws.{collected-start}
-use Rattle.reader.proofs.FramesLaws.{FramesCollected, frames-data, frames-other, frames-end, frames-refused}
+use Rattle.reader.proofs.FramesLaws.{FramesCollected, frames-room, frames-data, frames-other, frames-end, frames-refused}
 use Rattle.reader.proofs.collect.collect.Statement.{statement}
 use Rattle.reader.proofs.collect.collect.Tie as tie
 
@@ -22,7 +22,7 @@ abbrev μ-loop : tie.MeasureT-loop
 μ-loop file from start stop-given stop prefix results₀ at₀ found₀ results at found = length file - at
 
 loop-holds : tie.Need-loop-holds Inv-loop μ-loop
-loop-holds c = collected-start _ _ _ _ _ _ (omega arith)
+loop-holds c = collected-start _ _ _ _ _ _
 
 frame-at-requires : tie.Need-frame-at-requires Inv-loop μ-loop
 frame-at-requires c κs = search needs
@@ -72,14 +72,7 @@ slice-aggregate-collect-records c =
 
 collect-records-requires : tie.Need-collect-records-requires Inv-loop μ-loop
 unfolding frame
-collect-records-requires c κs =
-    let l = frame⇒Framed (now (c .before .before .before .before .before .before .before .before .before .before .before .before .before .before .before .before .before .args .file)) (c .before .before .before .before .before .before .before .before .before .before .before .loop .at) _ (sym (c .before .before .before .before .before .before .before .before .before .frame-at .ensures) ∙ ap (frame (c .before .before .before .before .before .before .before .before .before .before .before .loop .at)) (c .before .before .before .before .before .before .before .frame .given .1)) in
-    let number = l .number in
-    let some = l .some in
-    let sized = l .sized in
-    let within = l .within in
-    let few = c .before .before .before .before .before .before .before .before .before .before .before .loop .inv .few in
-    omega arith
+collect-records-requires c κs = frames-room _ _ _ _ _ _ (c .before .before .before .before .before .before .before .before .before .before .before .loop .inv) (c .before .before .before .before .before .before .before .before .before .before .loop-test .taken) _ (sym (c .before .before .before .before .before .before .before .before .before .frame-at .ensures) ∙ ap (frame (c .before .before .before .before .before .before .before .before .before .before .before .loop .at)) (c .before .before .before .before .before .before .before .frame .given .1)) (2 ^ 64) (omega (arith, c .before .before .before .before .before .before .before .before .before .before .before .before .before .before .before .before .before .good))
 
 loop-less : tie.Need-loop-less Inv-loop μ-loop
 unfolding frame

@@ -20,7 +20,7 @@ abbrev μ-loop : tie.MeasureT-loop
 μ-loop s from start stop-given stop prefix results₀ count at₀ found₀ results at found = length s - at
 
 loop-holds : tie.Need-loop-holds Inv-loop μ-loop
-loop-holds c = collected-start _ _ _ _ _ _ (c .before .before .before .before .before .pre)
+loop-holds c = collected-start _ _ _ _ _ _
 
 text-at-requires : tie.Need-text-at-requires Inv-loop μ-loop
 text-at-requires c κs = search needs
@@ -69,7 +69,8 @@ put-pair-requires c κs = search needs
 add-found : tie.Need-add-found Inv-loop μ-loop
 add-found c =
     let few = c .before .before .before .before .before .before .before .before .before .before .before .before .loop .inv .few in
-    omega (arith, c .before .before .before .before .before .before .before .before .before .before .before .before .before .before .before .before .before .before .good)
+    let room = c .before .before .before .before .before .before .before .before .before .before .before .before .before .before .before .before .before .before .pre in
+    omega arith
 
 loop-less : tie.Need-loop-less Inv-loop μ-loop
 unfolding text

@@ -1,0 +1,2 @@
+-- The meaning of the index search.
+pub mod Search

@@ -1,0 +1,98 @@
+-- The index search: the walk down from the root, on any bytes. The first fault met decides.
+use Prim.Native.Nat.{ℕ, zero, suc, _+_, _*_}
+use mathlib.Core.Bool.{_&&_, cond}
+use mathlib.Core.List.{List, [], _∷_, _++_}
+use mathlib.Core.Option.{Option, none, some}
+use lib.Dec.{leb, ltb, eqb}
+use lib.ListN.{length}
+use Rattle.outcome.specs.Outcome.{Outcome, answer, _>>=_, _>>_, must, numberOf, placeOf, countOf, listOf}
+use Rattle.header.specs.declared.Header.{Header}
+use Rattle.header.specs.Header.{headerOf, blocksFrom}
+use Rattle.block.specs.declared.Frame.{Frame}
+use Rattle.block.specs.Frame.{soundFrameAt}
+use Rattle.block.specs.Payload.{Text, Entry}
+use Rattle.block.specs.Block.{Block, blockIn}
+use Rattle.query.specs.Query.{Query}
+use Rattle.query.specs.Opening.{mayMatch}
+use Rattle.reader.specs.Read.{matching, numbersOf}
+use Rattle.search.specs.declared.SearchAnswer.{SearchAnswer}
+
+-- what the walk has opened and found so far: the offsets of the blocks, and the records, both in walk order
+pub record Found : Type 0 where
+  pub opened : List ℕ
+  pub matches : List Text
+
+unfoldable pub nothing : Found
+nothing = record { opened = []; matches = [] }
+
+unfoldable pub withOpened : ℕ → Found → Found
+withOpened offset s = record { opened = s .opened ++ (offset ∷ []); matches = s .matches }
+
+unfoldable pub withMatch : Text → Found → Found
+withMatch r s = record { opened = s .opened; matches = s .matches ++ (r ∷ []) }
+
+-- The upper bound of an entry's block, where these entries follow it: the key of the next entry in the same index block; the last
+-- entry has the upper bound of the index block that it stands in.
+unfoldable pub nextKey : List Entry → Option (List ℕ) → Option (List ℕ)
+nextKey [] above = above
+nextKey (next ∷ back) above = some (next .key .bytes)
+
+-- the block of a sound frame: another full size, or a level not from `least` to `most`, is the refusal `number` at `place`; then the payload
+unfoldable pub fittingBlock : (file : List ℕ) (number place least most size : ℕ) → Frame → Outcome Block
+fittingBlock file number place least most size f =
+    must (eqb (f .size) size && (leb least (f .level) && leb (f .level) most)) number place >> blockIn file f
+
+-- The block that an offset and a full size name, with every test of one block: the offset lies from `from`, where blocks begin, to
+-- before the file's end; number, 13, 10, 14; size and level; payload, 16 or 21. `number` and `place` are the refusal for a wrong
+-- offset, size or level.
+unfoldable pub namedBlock : (file : List ℕ) (from number place least most offset size : ℕ) → Outcome Block
+namedBlock file from number place least most offset size = do
+  must (leb from offset && ltb offset (length file)) number place
+  f ← soundFrameAt file offset
+  fittingBlock file number place least most size f
+
+-- 26 if the opened list, of so many places, has none left for the block; then the block's tests
+unfoldable pub openBlock : (file : List ℕ) (places from number place least most offset size : ℕ) → Found → Outcome Block
+openBlock file places from number place least most offset size s =
+    must (ltb (length (s .opened)) places) 26 0 >> namedBlock file from number place least most offset size
+
+-- the matches of a data block on a result list of so many places: 27 at a match that finds no two places left
+unfoldable pub addMatches : (room : ℕ) → List Text → Found → Outcome Found
+addMatches room [] s = answer s
+addMatches room (r ∷ rs) s = must (leb (2 * length (s .matches) + 2) room) 27 0 >> addMatches room rs (withMatch r s)
+
+-- the entries of an index block in order: the block of an entry is visited where its bounds admit a match; `above` is the index block's
+-- upper bound
+unfoldable pub overEntries : Query → (visit : Entry → Option (List ℕ) → Found → Outcome Found) (above : Option (List ℕ)) → List Entry → Found → Outcome Found
+overEntries q visit above [] s = answer s
+overEntries q visit above (e ∷ es) s =
+    cond (mayMatch (e .key .bytes) (nextKey es above) q) (visit e (nextKey es above) s) (answer s) >>= overEntries q visit above es
+
+-- the walk, with so many places on the opened list and on the result list; blocks begin at `from`
+module _ (file : List ℕ) (q : Query) (places room from : ℕ) where
+  -- down from an opened block of this level with this upper bound
+  unfoldable pub walkOf : (level : ℕ) (b : Block) (upper : Option (List ℕ)) → Found → Outcome Found
+  walkOf zero b upper s = addMatches room (matching q (b .records)) s
+  walkOf (suc level) b upper s =
+      overEntries q
+      (λ e bound t. openBlock file places from 19 (b .frame .start) level level (e .offset) (e .size) t >>= λ c. walkOf level c bound (withOpened (e .offset) t))
+      upper (b .entries) s
+
+  -- down from the root, which has no upper bound
+  unfoldable pub walkFrom : (root rootsize : ℕ) → Outcome Found
+  walkFrom root rootsize = openBlock file places from 17 0 1 63 root rootsize nothing >>= λ b. walkOf (b .frame .level) b none (withOpened root nothing)
+
+-- the search: refusals 1 to 9, then the walk from the root that the header names
+unfoldable pub searchOf : (file : List ℕ) (q : Query) (places room : ℕ) → Outcome Found
+searchOf file q places room = headerOf file >>= λ h. walkFrom file q places room (blocksFrom h) (h .root) (h .rootsize)
+
+-- what `search` answers, and what its lists hold
+unfoldable pub searchAnswer : Outcome Found → SearchAnswer
+searchAnswer o =
+    record { number = numberOf o; place = placeOf o; matches = countOf (λ s. length (s .matches)) o; opened = countOf (λ s. length (s .opened)) o }
+
+unfoldable pub openedList : ℕ → Outcome Found → List ℕ
+openedList places o = listOf (λ s. s .opened) places o
+
+unfoldable pub resultList : ℕ → Outcome Found → List ℕ
+resultList room o = listOf (λ s. numbersOf (s .matches)) room o
