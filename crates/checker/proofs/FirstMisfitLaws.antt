@@ -11,8 +11,7 @@ use borrow.Author.Tests.{eqb-true, eqb-false, ltb-true, ltb-false, leb-true, le-
 use Rattle.outcome.specs.Outcome.{answer, _>>_, must}
 use Rattle.outcome.specs.Lists.{all}
 use Rattle.outcome.proofs.OutcomeLaws.{kept, broken}
-use Rattle.outcome.proofs.ListsLaws.{Ascending, below-member, flatMap-member, member-flatMap}
-use Rattle.outcome.proofs.ListsLaws.{keep-member, member-keep}
+use Rattle.outcome.proofs.ListsLaws.{Ascending, below-member, flatMap-member, member-flatMap, all-member, keep-member, member-keep}
 use Rattle.outcome.proofs.RisingLaws.{member-split, split-member, ascending-keep}
 use Rattle.block.specs.Payload.{Entry}
 use Rattle.block.specs.Block.{Block, isOrdinary}
@@ -20,7 +19,7 @@ use Rattle.block.specs.Survey.{ordinary}
 use Rattle.checker.specs.Tree.{entriesOf, levelAt, under, keyFits}
 use Rattle.checker.specs.Check.{each, keysFit}
 use Rattle.checker.specs.Keys.{earlier, placeSaid}
-use Rattle.checker.proofs.NeighbourLaws.{all-each, said-none, said-place}
+use Rattle.checker.proofs.NeighbourLaws.{said-none, said-place}
 use Rattle.checker.proofs.MisfitLaws.{leastOf, misfitOf, misfits}
 use Rattle.checker.proofs.TreeLaws.{Tree, entries-at}
 use Rattle.checker.proofs.TreeWays.{Way, at-root, by-entry, Met, way-block, met-entries, block-way}
@@ -137,7 +136,7 @@ false-all : {A : Type 0} (test : A → Bool) (xs : List A) (x : A) → List·Mem
 false-all test xs x m e = go (all test xs) refl
   where
     go : (b : Bool) → all test xs ≡ b → b ≡ false
-    go true p = absurd (true-not-false (test x) (all-each test xs p x m) e)
+    go true p = absurd (true-not-false (test x) (all-member test xs p x m) e)
     go false p = refl
 
 -- a block of the file with a key that does not fit

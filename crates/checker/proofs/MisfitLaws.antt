@@ -11,7 +11,7 @@ use Rattle.byte_order.specs.Order.{atMost}
 use Rattle.byte_order.proofs.OrderLaws.{nil-atMost, atMost-trans}
 use Rattle.outcome.specs.Outcome.{answer}
 use Rattle.outcome.specs.Lists.{all}
-use Rattle.outcome.proofs.ListsLaws.{Ascending, flatMap-append}
+use Rattle.outcome.proofs.ListsLaws.{Ascending, flatMap-append, all-member, member-all}
 use Rattle.block.specs.Payload.{Text, Entry, risingFrom}
 use Rattle.block.specs.Block.{Block, blocksAt}
 use Rattle.block.specs.Survey.{recordsOf}
@@ -22,7 +22,7 @@ use Rattle.checker.specs.Lookup.{entriesIn}
 use Rattle.checker.specs.Keys.{bytesOf, earlier, fitsBetween, entryKeys, overKeys, opened, keysOf, leafKeys}
 use Rattle.checker.proofs.SpanLaws.{lastBytes, lastBytes-append, Spans}
 use Rattle.checker.proofs.WalkLaws.{recordsAll, Met, met-last, met-entry, met-opened, walk-met, walk-entries}
-use Rattle.checker.proofs.NeighbourLaws.{all-each, each-all, same-tests, from-each, last-of}
+use Rattle.checker.proofs.NeighbourLaws.{same-tests, from-each, last-of}
 use Rattle.checker.proofs.TreeLaws.{Tree, entries-at, records-at, Child, child}
 use Rattle.checker.proofs.TreeWays.{Way, by-entry, leavesBefore, pre, records-cut, way-block}
 use Rattle.checker.proofs.TreeWays.{Met as MetBlock}
@@ -68,10 +68,10 @@ all-last key d [] h = sym (nil-atMost key)
 all-last key d (x ∷ xs) h = same-tests (all (λ r. atMost (r .bytes) key) (x ∷ xs)) (atMost (lastBytes (x .bytes) xs) key) forth back
   where
     forth : all (λ r. atMost (r .bytes) key) (x ∷ xs) ≡ true → atMost (lastBytes (x .bytes) xs) key ≡ true
-    forth e = let l = last-of x xs in ap (λ (b : List ℕ). atMost b key) (l .2) ∙ all-each (λ r. atMost (r .bytes) key) (x ∷ xs) e (l .0) (l .1)
+    forth e = let l = last-of x xs in ap (λ (b : List ℕ). atMost b key) (l .2) ∙ all-member (λ r. atMost (r .bytes) key) (x ∷ xs) e (l .0) (l .1)
 
     back : atMost (lastBytes (x .bytes) xs) key ≡ true → all (λ r. atMost (r .bytes) key) (x ∷ xs) ≡ true
-    back e = each-all (λ r. atMost (r .bytes) key) (x ∷ xs) (λ r m. atMost-trans (r .bytes) (lastBytes (x .bytes) xs) key (from-each d (x ∷ xs) h r m) e)
+    back e = member-all (λ r. atMost (r .bytes) key) (x ∷ xs) (λ r m. atMost-trans (r .bytes) (lastBytes (x .bytes) xs) key (from-each d (x ∷ xs) h r m) e)
 
 and-swap : (a b : Bool) → (a && b) ≡ (b && a)
 and-swap true true = refl

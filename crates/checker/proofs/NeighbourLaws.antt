@@ -13,6 +13,7 @@ use Rattle.byte_order.proofs.OrderLaws.{atMost-refl, atMost-trans, nil-atMost}
 use Rattle.outcome.specs.Outcome.{answer, refused, _>>_, must}
 use Rattle.outcome.specs.Lists.{all}
 use Rattle.outcome.proofs.OutcomeLaws.{kept, broken}
+use Rattle.outcome.proofs.ListsLaws.{both⁻¹, all-member, member-all}
 use Rattle.block.specs.Payload.{Text, rising, risingFrom}
 use Rattle.block.specs.Block.{Block}
 use Rattle.checker.specs.Tree.{recordsAt}
@@ -20,26 +21,6 @@ use Rattle.checker.specs.Check.{allAtMost, neighboursOf, neighbours}
 use Rattle.checker.specs.Keys.{placeSaid}
 use Rattle.checker.proofs.SpanLaws.{lastBytes}
 use Rattle.checker.proofs.WalkLaws.{firstFits, outOf, recordsAll}
-
--- ---- lists of tests
-
-pub all-each : {A : Type 0} (test : A → Bool) (xs : List A) → all test xs ≡ true → (x : A) → List·Memᴰ x xs → test x ≡ true
-unfolding all
-all-each test [] h x m = absurd (List·Memᴰ·not-nil m)
-all-each {A} test (y ∷ ys) h x m = go (test y) refl h (λ (k : all test ys ≡ true) (i : List·Memᴰ x ys). all-each test ys k x i)
-  where
-    go : (b : Bool) → test y ≡ b → (b && all test ys) ≡ true → (all test ys ≡ true → List·Memᴰ x ys → test x ≡ true) → test x ≡ true
-    go true e k rest = here (List·Memᴰ·cases-cons m)
-      where
-        here : (x ≡ y) ⊎ List·Memᴰ x ys → test x ≡ true
-        here (inl same) = ap test same ∙ e
-        here (inr inside) = rest k inside
-    go false e k rest = absurd (let z : _≡_ {A = ℕ} 0 1 = cc in omega arith)
-
-pub each-all : {A : Type 0} (test : A → Bool) (xs : List A) → ((x : A) → List·Memᴰ x xs → test x ≡ true) → all test xs ≡ true
-unfolding all
-each-all test [] h = refl
-each-all test (x ∷ xs) h = ap (λ (b : Bool). b && all test xs) (h x (List·Memᴰ·head refl)) ∙ each-all test xs (λ y m. h y (List·Memᴰ·tail m))
 
 -- two tests that imply each other
 pub same-tests : (a b : Bool) → (a ≡ true → b ≡ true) → (b ≡ true → a ≡ true) → a ≡ b
@@ -50,22 +31,17 @@ same-tests false false h k = refl
 
 -- ---- records that rise
 
--- both of a pair
-both : (a b : Bool) → (a && b) ≡ true → (a ≡ true) × (b ≡ true)
-both true b h = (refl, h)
-both false b h = absurd (let z : _≡_ {A = ℕ} 0 1 = cc in omega arith)
-
 -- in rising records each is at most the last, and the last is at most what all are at most
 from-last : (x : List ℕ) (rs : List Text) → risingFrom x (map (λ r. r .bytes) rs) ≡ true → atMost x (lastBytes x rs) ≡ true
 unfolding risingFrom lastBytes
 from-last x [] h = atMost-refl x
-from-last x (r ∷ rs) h = let p = both (atMost x (r .bytes)) (risingFrom (r .bytes) (map (λ q. q .bytes) rs)) h in atMost-trans x (r .bytes) (lastBytes (r .bytes) rs) (p .0) (from-last (r .bytes) rs (p .1))
+from-last x (r ∷ rs) h = let p = both⁻¹ (atMost x (r .bytes)) (risingFrom (r .bytes) (map (λ q. q .bytes) rs)) h in atMost-trans x (r .bytes) (lastBytes (r .bytes) rs) (p .0) (from-last (r .bytes) rs (p .1))
 
 pub from-each : (x : List ℕ) (rs : List Text) → risingFrom x (map (λ r. r .bytes) rs) ≡ true → (r : Text) → List·Memᴰ r rs → atMost (r .bytes) (lastBytes x rs) ≡ true
 unfolding risingFrom lastBytes
 from-each x [] h r m = absurd (List·Memᴰ·not-nil m)
 from-each x (q ∷ rs) h r m =
-    let p = both (atMost x (q .bytes)) (risingFrom (q .bytes) (map (λ s. s .bytes) rs)) h in
+    let p = both⁻¹ (atMost x (q .bytes)) (risingFrom (q .bytes) (map (λ s. s .bytes) rs)) h in
     go (List·Memᴰ·cases-cons m) (p .1) (λ (i : List·Memᴰ r rs). from-each (q .bytes) rs (p .1) r i)
   where
     go : (r ≡ q) ⊎ List·Memᴰ r rs → risingFrom (q .bytes) (map (λ s. s .bytes) rs) ≡ true → (List·Memᴰ r rs → atMost (r .bytes) (lastBytes (q .bytes) rs) ≡ true) → atMost (r .bytes) (lastBytes (q .bytes) rs) ≡ true
@@ -76,7 +52,7 @@ from-first : (x : List ℕ) (rs : List Text) → risingFrom x (map (λ r. r .byt
 unfolding risingFrom
 from-first x [] h r m = absurd (List·Memᴰ·not-nil m)
 from-first x (q ∷ rs) h r m =
-    let p = both (atMost x (q .bytes)) (risingFrom (q .bytes) (map (λ s. s .bytes) rs)) h in
+    let p = both⁻¹ (atMost x (q .bytes)) (risingFrom (q .bytes) (map (λ s. s .bytes) rs)) h in
     go (List·Memᴰ·cases-cons m) (p .0) (λ (i : List·Memᴰ r rs). from-first (q .bytes) rs (p .1) r i)
   where
     go : (r ≡ q) ⊎ List·Memᴰ r rs → atMost x (q .bytes) ≡ true → (List·Memᴰ r rs → atMost (q .bytes) (r .bytes) ≡ true) → atMost x (r .bytes) ≡ true
@@ -101,7 +77,7 @@ all-pairs (x ∷ xs) (y ∷ ys) some more h k = same-tests (all (λ r. all (λ s
     forth e =
         let l = last-of x xs in
         ap (λ (b : List ℕ). atMost b (y .bytes)) (l .2)
-        ∙ all-each (λ s. atMost (l .0 .bytes) (s .bytes)) (y ∷ ys) (all-each (λ r. all (λ s. atMost (r .bytes) (s .bytes)) (y ∷ ys)) (x ∷ xs) e (l .0) (l .1)) y (List·Memᴰ·head refl)
+        ∙ all-member (λ s. atMost (l .0 .bytes) (s .bytes)) (y ∷ ys) (all-member (λ r. all (λ s. atMost (r .bytes) (s .bytes)) (y ∷ ys)) (x ∷ xs) e (l .0) (l .1)) y (List·Memᴰ·head refl)
 
     low : (r : Text) → (r ≡ x) ⊎ List·Memᴰ r xs → atMost (r .bytes) (lastBytes (x .bytes) xs) ≡ true
     low r (inl same) = ap (λ (s : Text). atMost (s .bytes) (lastBytes (x .bytes) xs)) same ∙ from-last (x .bytes) xs h
@@ -112,8 +88,8 @@ all-pairs (x ∷ xs) (y ∷ ys) some more h k = same-tests (all (λ r. all (λ s
     high s (inr inside) = from-first (y .bytes) ys k s inside
 
     back : atMost (lastBytes (x .bytes) xs) (y .bytes) ≡ true → all (λ r. all (λ s. atMost (r .bytes) (s .bytes)) (y ∷ ys)) (x ∷ xs) ≡ true
-    back e = each-all (λ r. all (λ s. atMost (r .bytes) (s .bytes)) (y ∷ ys)) (x ∷ xs)
-        (λ r m. each-all (λ s. atMost (r .bytes) (s .bytes)) (y ∷ ys)
+    back e = member-all (λ r. all (λ s. atMost (r .bytes) (s .bytes)) (y ∷ ys)) (x ∷ xs)
+        (λ r m. member-all (λ s. atMost (r .bytes) (s .bytes)) (y ∷ ys)
         (λ s n. atMost-trans (r .bytes) (lastBytes (x .bytes) xs) (s .bytes) (low r (List·Memᴰ·cases-cons m)) (atMost-trans (lastBytes (x .bytes) xs) (y .bytes) (s .bytes) e (high s (List·Memᴰ·cases-cons n)))))
 
 -- ---- neighbours
@@ -196,7 +172,7 @@ rising-append : (d : List ℕ) (xs ys : List Text) → risingFrom d (map (λ r. 
 unfolding risingFrom lastBytes
 rising-append d [] ys h k = k
 rising-append d (x ∷ xs) ys h k =
-    let p = both (atMost d (x .bytes)) (risingFrom (x .bytes) (map (λ r. r .bytes) xs)) h in
+    let p = both⁻¹ (atMost d (x .bytes)) (risingFrom (x .bytes) (map (λ r. r .bytes) xs)) h in
     ap (λ (b : Bool). b && risingFrom (x .bytes) (map (λ r. r .bytes) (xs ++ ys))) (p .0) ∙ rising-append (x .bytes) xs ys (p .1) k
 
 first-rising : (d : List ℕ) (rs : List Text) → firstFits d rs ≡ true → rising (map (λ r. r .bytes) rs) ≡ true → risingFrom d (map (λ r. r .bytes) rs) ≡ true

@@ -2,8 +2,8 @@
 -- Assumes nothing.
 use mathlib.Core.Path.{_≡_, refl, sym, ap, _∙_, subst}
 use mathlib.Core.Logic.{_≢_, _⊎_, inl, inr}
-use mathlib.Core.Bool.{Bool, true, false, _&&_, _||_, cond}
-use mathlib.Core.List.{List, [], _∷_, map, flatMap, List·Memᴰ, List·Memᴰ·head, List·Memᴰ·tail, List·Memᴰ·not-nil, List·Memᴰ·cases-cons, Memᴰ·of-map}
+use mathlib.Core.Bool.{Bool, true, false, _&&_, cond}
+use mathlib.Core.List.{List, [], _∷_, map, flatMap, List·Memᴰ, List·Memᴰ·not-nil, List·Memᴰ·cases-cons, Memᴰ·of-map}
 use Prim.Native.Nat.{ℕ, suc, _+_, _≤_}
 use native.Mathlib.Omega.{arith}
 use lib.Dec.{eqb, leb}
@@ -13,10 +13,9 @@ use Rattle.byte_order.specs.Order.{begins}
 use Rattle.sha256.specs.Sha256.{sha256}
 use Rattle.outcome.specs.Outcome.{Outcome, answer, refused, _>>_, must}
 use Rattle.outcome.specs.Items.{part}
-use Rattle.outcome.specs.Lists.{keep, any}
+use Rattle.outcome.specs.Lists.{keep}
 use Rattle.outcome.proofs.OutcomeLaws.{kept⁻¹, after-answer, after-refused}
-use Rattle.outcome.proofs.ListsLaws.{Ascending}
-use Rattle.outcome.proofs.ListsLaws.{keep-member, member-keep}
+use Rattle.outcome.proofs.ListsLaws.{Ascending, both⁻¹, all-member, any-member, keep-member, member-keep}
 use Rattle.outcome.proofs.RisingLaws.{member-below}
 use Rattle.block.specs.Frame.{frameAt}
 use Rattle.block.specs.Payload.{Text, Entry, rising, risingFrom}
@@ -33,7 +32,7 @@ use Rattle.checker.specs.Walk.{levelOf, walkOf, noKeys, behindOf, Ready}
 use Rattle.checker.proofs.AscentLaws.{Named, ascent-leaves}
 use Rattle.checker.proofs.SpanLaws.{lastBytes}
 use Rattle.checker.proofs.WalkLaws.{outOf, Met, walk-met}
-use Rattle.checker.proofs.NeighbourLaws.{all-each, DataBlock, neighbours-walk, ordered-rising, said-none, said-place}
+use Rattle.checker.proofs.NeighbourLaws.{DataBlock, neighbours-walk, ordered-rising, said-none, said-place}
 use Rattle.checker.proofs.MisfitLaws.{walk-misfit}
 use Rattle.checker.proofs.FirstMisfitLaws.{keys-first}
 use Rattle.checker.proofs.TreeLaws.{Tree, level-at, records-at}
@@ -53,27 +52,14 @@ each-kept rule number (y ∷ ys) h x m =
     go e (inl same) rest = ap rule same ∙ e
     go e (inr inside) rest = rest inside
 
-any-one : {A : Type 0} (test : A → Bool) (xs : List A) → any test xs ≡ true → (x : A) × List·Memᴰ x xs × (test x ≡ true)
-unfolding any
-any-one test [] h = absurd (let z : _≡_ {A = ℕ} 0 1 = cc in omega arith)
-any-one {A} test (x ∷ xs) h = go (test x) refl h (any-one test xs)
-  where
-    go : (b : Bool) → test x ≡ b → (b || any test xs) ≡ true → (any test xs ≡ true → (y : A) × List·Memᴰ y xs × (test y ≡ true)) → (y : A) × List·Memᴰ y (x ∷ xs) × (test y ≡ true)
-    go true e k rest = (x, List·Memᴰ·head refl, e)
-    go false e k rest = let r = rest k in (r .0, List·Memᴰ·tail (r .1), r .2)
-
-both : (a b : Bool) → (a && b) ≡ true → (a ≡ true) × (b ≡ true)
-both true b h = (refl, h)
-both false b h = absurd (let z : _≡_ {A = ℕ} 0 1 = cc in omega arith)
-
 names⁻¹ : (bs : List Block) (level : ℕ) (e : Entry) → names bs level e ≡ true
     → (c : Block) × List·Memᴰ c bs × (c .frame .start ≡ e .offset) × (c .frame .size ≡ e .size) × (c .frame .level + 1 ≡ level)
 unfolding names ordinary
 names⁻¹ bs level e h =
-    let r = any-one (λ c. (eqb (c .frame .start) (e .offset) && eqb (c .frame .size) (e .size)) && eqb (c .frame .level + 1) level) (ordinary bs) h in
+    let r = any-member (λ c. (eqb (c .frame .start) (e .offset) && eqb (c .frame .size) (e .size)) && eqb (c .frame .level + 1) level) (ordinary bs) h in
     let c = r .0 in
-    let p = both (eqb (c .frame .start) (e .offset) && eqb (c .frame .size) (e .size)) _ (r .2) in
-    let q = both (eqb (c .frame .start) (e .offset)) _ (p .0) in
+    let p = both⁻¹ (eqb (c .frame .start) (e .offset) && eqb (c .frame .size) (e .size)) _ (r .2) in
+    let q = both⁻¹ (eqb (c .frame .start) (e .offset)) _ (p .0) in
     (c, keep-member (λ b. isOrdinary (b .frame .level)) bs c (r .1) .0, eqb-true _ _ (q .0), eqb-true _ _ (q .1), eqb-true _ _ (p .1))
 
 -- offsets that pass 22 ascend
@@ -108,7 +94,7 @@ module _ (file : List ℕ) (from root : ℕ) (bs : List Block) (ready : Ready fi
   named b m e n =
       let few = entry⇒index file (b .frame .start) b (read-at b m .read) e n .1 in
       names⁻¹ bs (b .frame .level) e
-      (all-each (names bs (b .frame .level)) (b .entries)
+      (all-member (names bs (b .frame .level)) (b .entries)
       (each-kept (entriesFit bs) 19 (ordinary bs) (ready .fit) b (member-keep (λ c. isOrdinary (c .frame .level)) bs b m (le-leb (b .frame .level) 63 few))) e n)
 
   rightly : (b : Block) → List·Memᴰ b bs → b .frame .level ≤ 63 → namings bs (b .frame .start) ≡ cond (eqb (b .frame .start) root) 0 1
