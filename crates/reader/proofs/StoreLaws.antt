@@ -111,14 +111,15 @@ module _ (room : ℕ) where
   unfolding numbersOf flatMap
   nothing = sym (padded-nil room) ∙ ap (λ (l : List Text). padded room (numbersOf l)) (sym (take-nil (room / 2)))
 
-  put-behind : (seen ms : List Text) → putAll (holding seen) ms ≡ holding (seen ++ ms)
+  -- matches put behind others
+  pub stored-behind : (seen ms : List Text) → putAll (holding seen) ms ≡ holding (seen ++ ms)
   unfolding putAll
-  put-behind seen [] = ap holding (sym (append-nil seen))
-  put-behind seen (m ∷ ms) = ap (λ (s : Stored). putAll s ms) (put-one seen m) ∙ put-behind (seen ++ (m ∷ [])) ms ∙ ap holding (append-snoc seen m ms)
+  stored-behind seen [] = ap holding (sym (append-nil seen))
+  stored-behind seen (m ∷ ms) = ap (λ (s : Stored). putAll s ms) (put-one seen m) ∙ stored-behind (seen ++ (m ∷ [])) ms ∙ ap holding (append-snoc seen m ms)
 
   -- matches put on zeros: all are counted, and those that there is room for stand at the front
   pub stored : (ms : List Text) → putAll (record { count = 0; list = zeros room }) ms ≡ record { count = length ms; list = padded room (numbersOf (take (room / 2) ms)) }
-  stored ms = ap (λ (l : List ℕ). putAll (record { count = 0; list = l }) ms) nothing ∙ put-behind [] ms
+  stored ms = ap (λ (l : List ℕ). putAll (record { count = 0; list = l }) ms) nothing ∙ stored-behind [] ms
 
   -- with two places for each match, all stand there
   pub stored-all : (ms : List Text) → 2 * length ms ≤ room → putAll (record { count = 0; list = zeros room }) ms ≡ record { count = length ms; list = padded room (numbersOf ms) }

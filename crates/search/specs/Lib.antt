@@ -1,2 +1,3 @@
 -- The meaning of the index search.
 pub mod Search
+pub mod Steps

@@ -1,4 +1,25 @@
 // The index search: the walk down from the root, on any bytes.
+ghost use Prim.Native.Nat.{_^_, _≤_};
+ghost use mathlib.Core.Path.{_≡_};
+ghost use lib.ListN.{length};
+ghost use Rattle.output_list.specs.OutputList.{zeros};
+ghost use Rattle.header.specs.Header.{blocksFrom};
+ghost use Rattle.query.specs.Query.{queryOf};
+ghost use Rattle.search.specs.Search.{walkFrom, searchOf, searchAnswer, openedList, resultList};
+ghost use Rattle.search.specs.Steps.{Reaches, StaysWithin};
+
+mod bound;
+mod opening;
+mod walk;
+
+use crate::bound::Bound;
+use crate::opening::Opening;
+use crate::opening::open;
+use crate::walk::Progress;
+use crate::walk::Reached;
+use crate::walk::walk;
+use header::Header;
+use header::HeaderOutcome;
 
 // Number and place of a refusal, both 0 without one, how many records match, and how many blocks were opened.
 #[repr(C)]
@@ -7,4 +28,117 @@ pub struct SearchAnswer {
     pub place: u64,
     pub matches: u64,
     pub opened: u64,
+}
+
+// Searches the file through its index. The opened list holds the offset of each block opened, in walk order, root first; the result list
+// offset and length of each match; behind them zeros. After a refusal both hold zeros.
+pub fn search(
+    file: &[u8],
+    start: &[u8],
+    stop_given: bool,
+    stop: &[u8],
+    prefix: &[u8],
+    opened: &mut [u64],
+    results: &mut [u64],
+) -> SearchAnswer
+    ensures { λ r. ⌜ r ≡ searchAnswer (searchOf (now (file .entry)) (queryOf (now (start .entry)) «stop_given» (now (stop .entry)) (now (prefix .entry))) (length (now (opened .entry))) (length (now (results .entry)))) ⌝ }
+    ensures { λ r. ⌜ now (opened .exit) ≡ openedList (length (now (opened .entry))) (searchOf (now (file .entry)) (queryOf (now (start .entry)) «stop_given» (now (stop .entry)) (now (prefix .entry))) (length (now (opened .entry))) (length (now (results .entry)))) ⌝ }
+    ensures { λ r. ⌜ now (results .exit) ≡ resultList (length (now (results .entry))) (searchOf (now (file .entry)) (queryOf (now (start .entry)) «stop_given» (now (stop .entry)) (now (prefix .entry))) (length (now (opened .entry))) (length (now (results .entry)))) ⌝ }
+{
+    output_list::clear(opened);
+    output_list::clear(results);
+    let reached = search_file(file, start, stop_given, stop, prefix, opened, results);
+    match reached {
+        Reached::Going(p) => SearchAnswer {
+            number: 0,
+            place: 0,
+            matches: p.found as u64,
+            opened: p.used as u64,
+        },
+        Reached::Stopped { number, place } => {
+            output_list::clear(opened);
+            output_list::clear(results);
+            SearchAnswer {
+                number,
+                place,
+                matches: 0,
+                opened: 0,
+            }
+        },
+    }
+}
+
+// The search with both lists all zeros before; after a refusal they hold anything.
+fn search_file(
+    file: &[u8],
+    start: &[u8],
+    stop_given: bool,
+    stop: &[u8],
+    prefix: &[u8],
+    opened: &mut [u64],
+    results: &mut [u64],
+) -> Reached
+    requires { ⌜ (now opened ≡ zeros (length (now opened))) × (now results ≡ zeros (length (now results))) ⌝ }
+    ensures { λ r. ⌜ Reaches r (now (opened .exit)) (now (results .exit)) (searchOf (now (file .entry)) (queryOf (now (start .entry)) «stop_given» (now (stop .entry)) (now (prefix .entry))) (length (now (opened .entry))) (length (now (results .entry)))) ⌝ }
+{
+    let made = Header::read(file);
+    match made {
+        HeaderOutcome::Bad(n) => Reached::Stopped {
+            number: n,
+            place: 0,
+        },
+        HeaderOutcome::Good(h) => search_tree(
+            file,
+            h,
+            start,
+            stop_given,
+            stop,
+            prefix,
+            opened,
+            results,
+        ),
+    }
+}
+
+// The search behind the header: opens the root and walks down from it.
+fn search_tree(
+    file: &[u8],
+    h: Header,
+    start: &[u8],
+    stop_given: bool,
+    stop: &[u8],
+    prefix: &[u8],
+    opened: &mut [u64],
+    results: &mut [u64],
+) -> Reached
+    requires { ⌜ (length (now file) ≤ 2 ^ 30) × (blocksFrom h ≤ length (now file)) × (now opened ≡ zeros (length (now opened))) × (now results ≡ zeros (length (now results))) ⌝ }
+    ensures { λ r. ⌜ Reaches r (now (opened .exit)) (now (results .exit)) (walkFrom (now (file .entry)) (queryOf (now (start .entry)) «stop_given» (now (stop .entry)) (now (prefix .entry))) (length (now (opened .entry))) (length (now (results .entry))) (blocksFrom h) (h .root) (h .rootsize)) ⌝ }
+{
+    let from = Header::AROUND + h.extent as usize;
+    let root = open(file, from, 17, 0, 1, 63, h.root, h.rootsize, opened, 0);
+    match root {
+        Opening::Refused { number, place } => Reached::Stopped { number, place },
+        Opening::Sound(f) => {
+            let none = Bound {
+                given: false,
+                at: 0,
+                size: 0,
+            };
+            let begun = Progress { used: 1, found: 0 };
+            walk(
+                file,
+                from,
+                f,
+                f.level,
+                none,
+                start,
+                stop_given,
+                stop,
+                prefix,
+                opened,
+                results,
+                begun,
+            )
+        },
+    }
 }

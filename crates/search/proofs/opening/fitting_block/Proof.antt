@@ -1,0 +1,52 @@
+-- `search::opening::fitting_block` meets its contract: size and level, then the block in the frame.
+-- Assumes nothing.
+use mathlib.Core.Path.{sym, ap, _∙_}
+use borrow.Author.Needs.{needs}
+use denote.Ref.{now}
+use Rattle.block.specs.Answers.{block}
+use Rattle.search.specs.Steps.{openingSaid}
+use Rattle.search.proofs.OpeningLaws.{fitting-size, fitting-low, fitting-high, fitting-unsound, fitting-sound}
+use Rattle.search.proofs.opening.fitting_block.Statement.{statement}
+use Rattle.search.proofs.opening.fitting_block.Tie as tie
+
+returns : tie.Need-returns
+unfolding openingSaid
+returns c = fitting-size (now (c .before .before .args .file)) (c .before .before .args .number) (c .before .before .args .place) (c .before .before .args .least) (c .before .before .args .most) (c .before .before .args .size) (c .before .before .args .f) (c .if1 .taken)
+
+returns-2 : tie.Need-returns-2
+unfolding openingSaid
+returns-2 c = fitting-low (now (c .before .before .before .before .args .file)) (c .before .before .before .before .args .number) (c .before .before .before .before .args .place) (c .before .before .before .before .args .least) (c .before .before .before .before .args .most) (c .before .before .before .before .args .size) (c .before .before .before .before .args .f) (c .before .before .if1 .left) (c .if2 .taken)
+
+returns-3 : tie.Need-returns-3
+unfolding openingSaid
+returns-3 c = fitting-high (now (c .before .before .before .before .before .before .args .file)) (c .before .before .before .before .before .before .args .number) (c .before .before .before .before .before .before .args .place) (c .before .before .before .before .before .before .args .least) (c .before .before .before .before .before .before .args .most) (c .before .before .before .before .before .before .args .size) (c .before .before .before .before .before .before .args .f) (c .before .before .before .before .if1 .left) (c .before .before .if2 .left) (c .if3 .taken)
+
+block-in-requires : tie.Need-block-in-requires
+block-in-requires c κs = search needs
+
+enum-known-inside : tie.Need-enum-known-inside
+enum-known-inside c = search needs
+
+enum-known-inside-2 : tie.Need-enum-known-inside-2
+enum-known-inside-2 c = search needs
+
+returns-4 : tie.Need-returns-4
+unfolding openingSaid block
+returns-4 c = fitting-unsound (now (c .before .before .before .before .before .before .before .before .before .before .args .file)) (c .before .before .before .before .before .before .before .before .before .before .args .number) (c .before .before .before .before .before .before .before .before .before .before .args .place) (c .before .before .before .before .before .before .before .before .before .before .args .least) (c .before .before .before .before .before .before .before .before .before .before .args .most) (c .before .before .before .before .before .before .before .before .before .before .args .size) (c .before .before .before .before .before .before .before .before .before .before .args .f) (c .before .before .before .before .before .before .before .before .if1 .left) (c .before .before .before .before .before .before .if2 .left) (c .before .before .before .before .if3 .left) _ _ (sym (c .before .before .before .block-in .ensures) ∙ ap (block (c .before .before .before .before .before .before .before .before .before .before .args .f .start)) (c .before .inside .given .1))
+
+returns-5 : tie.Need-returns-5
+unfolding openingSaid block
+returns-5 c = fitting-sound (now (c .before .before .before .before .before .before .before .before .before .before .args .file)) (c .before .before .before .before .before .before .before .before .before .before .args .number) (c .before .before .before .before .before .before .before .before .before .before .args .place) (c .before .before .before .before .before .before .before .before .before .before .args .least) (c .before .before .before .before .before .before .before .before .before .before .args .most) (c .before .before .before .before .before .before .before .before .before .before .args .size) (c .before .before .before .before .before .before .before .before .before .before .args .f) (c .before .before .before .before .before .before .before .before .if1 .left) (c .before .before .before .before .before .before .if2 .left) (c .before .before .before .before .if3 .left) _ _ (sym (c .before .before .before .block-in .ensures) ∙ ap (block (c .before .before .before .before .before .before .before .before .before .before .args .f .start)) (c .before .inside2 .given .1))
+
+pub fitting-block-spec : {M : Type 1} → statement M
+fitting-block-spec =
+    tie.close
+    (tie.spec
+    returns
+    returns-2
+    returns-3
+    block-in-requires
+    enum-known-inside
+    enum-known-inside-2
+    returns-4
+    returns-5)

@@ -1,0 +1,106 @@
+// Opening a block: every test of one block.
+ghost use Prim.Native.Nat.{_≤_, _<_};
+ghost use mathlib.Core.Path.{_≡_};
+ghost use lib.ListN.{length};
+ghost use mathlib.Core.List.{List};
+ghost use Rattle.output_list.specs.OutputList.{withNumber};
+ghost use Rattle.search.specs.Search.{Found, fittingBlock, namedBlock, openBlock};
+ghost use Rattle.search.specs.Steps.{openingSaid, frameOf};
+use block::Frame;
+use block::framing::FrameOutcome;
+use block::framing::sound_frame_at;
+use block::pass::BlockOutcome;
+use block::pass::block_in;
+
+pub enum Opening {
+    // The frame of a block that passed every test.
+    Sound(Frame),
+    Refused { number: u64, place: u64 },
+}
+
+// The block with this offset and full size and a level from `least` to `most`; `number` and `place` are the refusal where there is none.
+pub fn named_block(
+    file: &[u8],
+    from: usize,
+    number: u64,
+    place: u64,
+    least: u8,
+    most: u8,
+    offset: u64,
+    size: u64,
+) -> Opening
+    ensures { λ r. ⌜ openingSaid r ≡ frameOf (namedBlock (now (file .entry)) from number place least most offset size) ⌝ }
+{
+    if offset < from as u64 {
+        return Opening::Refused { number, place };
+    }
+    if file.len() as u64 <= offset {
+        return Opening::Refused { number, place };
+    }
+    let found = sound_frame_at(file, offset as usize);
+    match found {
+        FrameOutcome::Refused(n) => Opening::Refused {
+            number: n,
+            place: offset,
+        },
+        FrameOutcome::Found(f) => fitting_block(file, f, number, place, least, most, size),
+    }
+}
+
+// The block of a sound frame, where size and level fit.
+fn fitting_block(
+    file: &[u8],
+    f: Frame,
+    number: u64,
+    place: u64,
+    least: u8,
+    most: u8,
+    size: u64,
+) -> Opening
+    requires { ⌜ (f .body < f .end) × (f .end ≤ length (now file)) ⌝ }
+    ensures { λ r. ⌜ openingSaid r ≡ frameOf (fittingBlock (now (file .entry)) number place least most size f) ⌝ }
+{
+    let start = f.start as u64;
+    if f.size as u64 != size {
+        return Opening::Refused { number, place };
+    }
+    if f.level < least {
+        return Opening::Refused { number, place };
+    }
+    if most < f.level {
+        return Opening::Refused { number, place };
+    }
+    let inside = block_in(file, f);
+    match inside {
+        BlockOutcome::Refused(n) => Opening::Refused {
+            number: n,
+            place: start,
+        },
+        BlockOutcome::Sound { frame, records: _ } => Opening::Sound(frame),
+    }
+}
+
+// The same for the next block to be opened, behind `used` others: its offset goes on the list; 26 where no place is left.
+pub fn open(
+    file: &[u8],
+    from: usize,
+    number: u64,
+    place: u64,
+    least: u8,
+    most: u8,
+    offset: u64,
+    size: u64,
+    opened: &mut [u64],
+    used: usize,
+) -> Opening
+    ensures { λ r. ⌜ ((s : Found) → used ≡ length (s .opened) → openingSaid r ≡ frameOf (openBlock (now (file .entry)) (length (now (opened .entry))) from number place least most offset size s)) ⌝ }
+    ensures { λ _. ⌜ now (opened .exit) ≡ withNumber (now (opened .entry)) used offset ⌝ }
+{
+    if !output_list::put(opened, used, offset) {
+        return Opening::Refused {
+            number: 26,
+            place: 0,
+        };
+    }
+    named_block(file, from, number, place, least, most, offset, size)
+}
