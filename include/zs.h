@@ -19,6 +19,7 @@ extern "C" {
 
 typedef struct { uint64_t number, place, matches; } zs_read_answer;
 typedef struct { uint64_t number, place, blocks, records; } zs_checked;
+typedef struct { uint64_t number, place, matches, opened; } zs_found;
 typedef struct { uint64_t offset, length; } zs_part;
 
 /* Reads the file front to back. The result list receives offset and length of each record that matches, in file order, and zeros
@@ -30,6 +31,13 @@ zs_read_answer zs_read(const uint8_t *file, size_t file_len, const uint8_t *star
 /* Checks the whole file, and counts its ordinary blocks and its records. The work list needs a place for each ordinary block, else
  * the number is 18 (where nothing before it applies). Whatever it held before, it is all zeros after every call. */
 zs_checked zs_check(const uint8_t *file, size_t file_len, uint64_t *work, size_t work_len);
+
+/* Searches the file through its index. The opened list receives the offset of each block opened, in walk order, root first, and zeros
+ * behind; the result list is that of zs_read. 26: no place is left for a block to open; 27: no two places are left for a match. Any bytes
+ * may be searched; that every match is found is promised for files that zs_check accepts. */
+zs_found zs_search(const uint8_t *file, size_t file_len, const uint8_t *start, size_t start_len, bool stop_given,
+                   const uint8_t *stop, size_t stop_len, const uint8_t *prefix, size_t prefix_len, uint64_t *opened,
+                   size_t opened_len, uint64_t *results, size_t results_len);
 
 /* Where the part of `length` bytes from `offset` on lies; 0, 0 where it isn't within the file. */
 zs_part zs_record(const uint8_t *file, size_t file_len, uint64_t offset, uint64_t length);

@@ -1,5 +1,5 @@
 #!/usr/bin/env bash
-# Makes the stored cases with the independent reader: DIR/data/ and DIR/stdout, for the calls that crates/archives knows.
+# Makes the stored cases with the independent reader: DIR/data/ and DIR/stdout.
 #   scripts/make-corpus.sh crates/archives
 set -eu
 if [ $# -ne 1 ]; then
@@ -10,4 +10,4 @@ mkdir -p "$1"
 folder=$(cd "$1" && pwd)
 cd "$(dirname "$0")/../cli"
 PATH="$PATH:${CARGO_HOME:-$HOME/.cargo}/bin"
-cargo run --offline --quiet --bin make-archives -- "$folder" read check record
+cargo run --offline --quiet --bin make-archives -- "$folder"

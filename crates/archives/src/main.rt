@@ -3,6 +3,7 @@ ghost use Rattle.io.specs.Counts.{Counts};
 
 mod cases;
 mod check;
+mod index_search;
 mod lists;
 mod print;
 mod read;
@@ -30,6 +31,7 @@ fn answer(file: &[u8], stored: &[u8], case: Case) {
     match call {
         1 => read::run(file, stored, case),
         2 => check::run(file, case),
+        3 => index_search::run(file, stored, case),
         4 => record::run(file, case),
         _ => print::number(b" unknown call ", call as u64),
     }

@@ -8,8 +8,10 @@ ghost use Rattle.query.specs.Query.{queryOf};
 ghost use Rattle.reader.specs.Read.{readOf, readAnswer, readList};
 ghost use Rattle.reader.specs.Record.{isWithin, partStart, partLength};
 ghost use Rattle.checker.specs.Check.{checkOf, checkAnswer};
+ghost use Rattle.search.specs.Search.{searchOf, searchAnswer, openedList, resultList};
 use checker::CheckAnswer;
 use reader::ReadAnswer;
+use search::SearchAnswer;
 
 // A part of the file: the offset of its first byte, and its length.
 #[repr(C)]
@@ -41,6 +43,24 @@ pub extern "C" fn zs_check(file: &[u8], work: &mut [u64]) -> CheckAnswer
     ensures { λ r. ⌜ now (work .exit) ≡ zeros (length (now (work .entry))) ⌝ }
 {
     checker::check(file, work)
+}
+
+// Searches the file through its index (`search::search`).
+#[no_mangle]
+pub extern "C" fn zs_search(
+    file: &[u8],
+    start: &[u8],
+    stop_given: bool,
+    stop: &[u8],
+    prefix: &[u8],
+    opened: &mut [u64],
+    results: &mut [u64],
+) -> SearchAnswer
+    ensures { λ r. ⌜ r ≡ searchAnswer (searchOf (now (file .entry)) (queryOf (now (start .entry)) «stop_given» (now (stop .entry)) (now (prefix .entry))) (length (now (opened .entry))) (length (now (results .entry)))) ⌝ }
+    ensures { λ r. ⌜ now (opened .exit) ≡ openedList (length (now (opened .entry))) (searchOf (now (file .entry)) (queryOf (now (start .entry)) «stop_given» (now (stop .entry)) (now (prefix .entry))) (length (now (opened .entry))) (length (now (results .entry)))) ⌝ }
+    ensures { λ r. ⌜ now (results .exit) ≡ resultList (length (now (results .entry))) (searchOf (now (file .entry)) (queryOf (now (start .entry)) «stop_given» (now (stop .entry)) (now (prefix .entry))) (length (now (opened .entry))) (length (now (results .entry)))) ⌝ }
+{
+    search::search(file, start, stop_given, stop, prefix, opened, results)
 }
 
 // Where the part of `size` bytes from `offset` on lies; offset and size 0 where it isn't within the file.
