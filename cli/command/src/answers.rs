@@ -72,7 +72,7 @@ impl Places {
 
 /// Checks a file.
 pub fn check(file: &[u8]) -> Result<Contents, Failure> {
-    let length = file.len().min(LONGEST);
+    let length = readable(file);
     let mut work = Places::new(length / USUAL_BLOCK + 64, length / SMALLEST_BLOCK);
     loop {
         let answer = zs_library::check(file, &mut work.zeros()?);
@@ -126,7 +126,7 @@ pub fn read(
     known: Option<Contents>,
     limit: Option<u64>,
 ) -> Result<Answer, Failure> {
-    let first = file.len().min(LONGEST) / 16 + FIRST_PLACES;
+    let first = readable(file) / 16 + FIRST_PLACES;
     let mut results = Places::new(first, most_results(file, known, limit));
     loop {
         let mut pairs = results.zeros()?;
@@ -143,17 +143,25 @@ fn refused<T>(number: u64, place: u64) -> Result<T, Failure> {
     Err(Failure::Refused(Refusal { number, place }))
 }
 
+/// How many bytes may be looked at: a file above the limit is refused by its length, whatever its lists.
+fn readable(file: &[u8]) -> usize {
+    match file.len() {
+        length if length > LONGEST => 0,
+        length => length,
+    }
+}
+
 /// An accepted file opens each of its blocks at most once.
 fn most_opened(file: &[u8], known: Option<Contents>) -> usize {
     match known {
         Some(contents) => places(contents.blocks),
-        None => file.len().min(LONGEST) / USUAL_BLOCK + FIRST_PLACES,
+        None => readable(file) / USUAL_BLOCK + FIRST_PLACES,
     }
 }
 
 /// Two places for each record, or for each byte where the records were never counted; no more than the limit asks for.
 fn most_results(file: &[u8], known: Option<Contents>, limit: Option<u64>) -> usize {
-    let records = known.map_or(file.len().min(LONGEST) as u64, |contents| contents.records);
+    let records = known.map_or(readable(file) as u64, |contents| contents.records);
     places(limit.unwrap_or(records).min(records).saturating_mul(2))
 }
 

@@ -66,7 +66,7 @@ pub fn all() -> Vec<Sample> {
 fn contacts() -> Vec<u8> {
     let mut random = Random::new(1955);
     let mut records: Vec<Vec<u8>> = (0..1400).map(|_| contact(&mut random)).collect();
-    records.extend((0..60).map(|number| unlisted(number)));
+    records.extend((0..60).map(unlisted));
     records.extend(vec![REPEATED.as_bytes().to_vec(); TIMES_REPEATED]);
     let about =
         br#"{"about": "contacts that nobody has", "record": "name TAB number", "text": "Latin-1"}"#;
