@@ -27,8 +27,8 @@ const VALIDATE_EXAMPLES: &str = "Examples:
 
 const DUMP_EXAMPLES: &str = "S, P and T take the escapes \\t \\n \\r \\\\ and \\x00 to \\xff. Bytes are compared as unsigned numbers.
 
-By default a record is followed by a line end. A record that contains the terminator makes the output ambiguous: binary records need
---length-prefixed.
+By default a record is followed by a line end. A record that contains the terminator makes the
+output ambiguous: binary records need --length-prefixed.
 
 Examples:
   zs dump contacts.zs                                  every record, one to a line
@@ -38,14 +38,17 @@ Examples:
   zs dump contacts.zs --terminator '\\x00' | xargs -0 -n 1 echo
   zs dump contacts.zs --length-prefixed u64le -o out   out appears once it is whole";
 
-const INFO_EXAMPLES: &str = "The file is checked first. Metadata that is JSON is shown as it is stored, other metadata as a string with escapes.
+const INFO_EXAMPLES: &str =
+    "The file is checked first. Metadata that is JSON is shown as it is stored, other metadata as a
+string with escapes.
 
 Examples:
   zs info contacts.zs
   zs info -m contacts.zs           the metadata alone, as it is stored";
 
-const EXPLAIN_EXAMPLES: &str = "Each line is a block that the search opened, in that order: its first byte, its level (0 is data), and the bounds between which its
-records lie. A block is opened where some byte string between its bounds could match.
+const EXPLAIN_EXAMPLES: &str = "Each line is a block that the search opened, in that order: its first byte, its level (0 is data),
+and the bounds between which its records lie. A block is opened where some byte string between its
+bounds could match. It is opened in vain where it leads to no match.
 
 Examples:
   zs explain contacts.zs --prefix 'Ada '
@@ -146,8 +149,7 @@ pub struct Selection {
 /// Whether the file is checked first.
 #[derive(Args)]
 pub struct Trust {
-    /// Answer without checking the file first. That every match is found is promised for checked files only, and nobody may change
-    /// the file meanwhile
+    /// Answer without checking first: matches may be missed, and nobody may change the file meanwhile
     #[arg(long)]
     pub unchecked: bool,
 }

@@ -43,7 +43,11 @@ fn load(path: &Path, longest_read: u64) -> io::Result<Input> {
     let file = File::open(path)?;
     let about = file.metadata()?;
     if about.is_file() && about.len() > longest_read {
-        return Ok(Input::Mapped(zs_library::map(&file)?));
+        let mapping = zs_library::map(&file)?;
+        // A file that was cut meanwhile is read after all.
+        if mapping.len() as u64 > longest_read {
+            return Ok(Input::Mapped(mapping));
+        }
     }
     // One byte more than the longest file is enough to be refused.
     let mut bytes = Vec::new();

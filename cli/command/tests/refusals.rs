@@ -221,3 +221,22 @@ fn a_file_that_asks_for_endless_openings_is_refused() {
         assert!(run.err.contains(": refused 20 at "), "{}", run.err);
     }
 }
+
+#[test]
+fn a_wrong_key_hides_records_from_unchecked_searches_only() {
+    // The second key is above the record that it leads to.
+    let blocks = vec![
+        Plan::data(&["a"]),
+        Plan::data(&["b"]),
+        Plan::index(1, &[("a", 0), ("c", 1)]),
+    ];
+    let folder = Folder::new();
+    let file = folder.write("key.zs", &Image::new(blocks).bytes());
+    let count = |way: &[&str]| zs(&[&["dump", &file, "--prefix=b", "--count"][..], way].concat());
+    assert_eq!(count(&[]).status, 1);
+    assert!(count(&[]).err.contains(": refused 24 at "));
+    let unchecked = count(&["--unchecked"]);
+    assert_eq!((unchecked.status, unchecked.text().as_str()), (0, "0\n"));
+    assert!(unchecked.err.contains("promised for checked files only"));
+    assert_eq!(count(&["--unchecked", "--scan"]).text(), "1\n");
+}
