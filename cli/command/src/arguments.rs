@@ -4,6 +4,7 @@ use std::path::PathBuf;
 
 use clap::builder::{OsStringValueParser, TypedValueParser};
 use clap::{Args, Parser, Subcommand, ValueEnum};
+use zs_library::Query;
 
 use crate::escapes::{resolved, Bytes};
 
@@ -144,6 +145,17 @@ pub struct Selection {
     /// Only records that begin with P
     #[arg(long, value_name = "P", value_parser = escaped())]
     pub prefix: Option<Bytes>,
+}
+
+impl Selection {
+    pub fn query<'a>(&'a self) -> Query<'a> {
+        let bytes = |given: &'a Option<Bytes>| given.as_ref().map(|given| given.0.as_slice());
+        Query {
+            start: bytes(&self.start).unwrap_or(&[]),
+            stop: bytes(&self.stop),
+            prefix: bytes(&self.prefix).unwrap_or(&[]),
+        }
+    }
 }
 
 /// Whether the file is checked first.

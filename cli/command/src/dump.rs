@@ -5,22 +5,19 @@ use std::io::{self, Write};
 use std::os::unix::fs::MetadataExt;
 use std::path::Path;
 
-use zs_library::Query;
-
-use crate::answers::{check, read, search, Answer, Contents};
-use crate::arguments::{Dump, Length, Selection, Trust};
-use crate::escapes::Bytes;
-use crate::failure::{complain, Failure};
-use crate::input::{self, Input};
+use crate::answers::{read, search, Answer};
+use crate::archive::Archive;
+use crate::arguments::{Dump, Length};
+use crate::failure::Failure;
 use crate::{output, progress};
 
 /// Writes nothing before the whole answer is known.
 pub fn run(asked: &Dump) -> Result<(), Failure> {
     spare_the_archive(asked)?;
-    let (input, known) = opened(&asked.file, &asked.trust)?;
-    let file = input.bytes();
+    let archive = Archive::opened(&asked.file, &asked.trust)?;
+    let (file, known) = (archive.bytes(), archive.known);
     let answer = progress::during("reading", &asked.file, file.len(), || {
-        let query = query(&asked.selection);
+        let query = asked.selection.query();
         match asked.scan {
             true => read(file, &query, known, asked.max_results),
             false => search(file, &query, known, asked.max_results),
@@ -31,33 +28,6 @@ pub fn run(asked: &Dump) -> Result<(), Failure> {
         true => output::write(target, &|out| writeln!(out, "{}", answer.count())),
         false => output::write(target, &|out| records(asked, file, &answer, out)),
     }
-}
-
-/// The file, checked unless that isn't wanted.
-pub fn opened(path: &Path, trust: &Trust) -> Result<(Input, Option<Contents>), Failure> {
-    if trust.unchecked {
-        complain(&format!(
-            "{}: not checked; that every match is found is promised for checked files only",
-            path.display()
-        ));
-        return Ok((input::mapped(path)?, None));
-    }
-    let input = input::read(path)?;
-    let bytes = input.bytes();
-    let contents = progress::during("checking", path, bytes.len(), || check(bytes))?;
-    Ok((input, Some(contents)))
-}
-
-pub fn query(selection: &Selection) -> Query<'_> {
-    Query {
-        start: given(&selection.start).unwrap_or(&[]),
-        stop: given(&selection.stop),
-        prefix: given(&selection.prefix).unwrap_or(&[]),
-    }
-}
-
-fn given(argument: &Option<Bytes>) -> Option<&[u8]> {
-    argument.as_ref().map(|bytes| bytes.0.as_slice())
 }
 
 /// An archive isn't replaced by its own records.

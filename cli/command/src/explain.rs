@@ -3,22 +3,22 @@
 use std::collections::BTreeMap;
 
 use crate::answers::{search, Contents};
+use crate::archive::Archive;
 use crate::arguments::Explain;
-use crate::dump::{opened, query};
 use crate::escapes::shown;
 use crate::failure::Failure;
-use crate::validate::counted;
+use crate::output::{self, counted};
+use crate::progress;
 use crate::walk::{walked, Opened};
-use crate::{output, progress};
 
 /// Longer bounds are cut for display.
 const LONGEST_BOUND: usize = 40;
 
 pub fn run(asked: &Explain) -> Result<(), Failure> {
-    let (input, known) = opened(&asked.file, &asked.trust)?;
-    let file = input.bytes();
+    let archive = Archive::opened(&asked.file, &asked.trust)?;
+    let (file, known) = (archive.bytes(), archive.known);
     let answer = progress::during("searching", &asked.file, file.len(), || {
-        search(file, &query(&asked.selection), known, None)
+        search(file, &asked.selection.query(), known, None)
     })?;
     let blocks = walked(file, &answer);
     let root_level = blocks.first().map_or(0, |root| root.level);

@@ -1,18 +1,18 @@
 //! `zs info`: what a file is, as JSON.
 
-use crate::answers::{check, Contents};
+use crate::answers::Contents;
+use crate::archive::checked;
 use crate::arguments::Info;
 use crate::escapes::shown;
 use crate::failure::Failure;
 use crate::json::{quoted, value};
 use crate::layout::{block, header, Header};
-use crate::{input, output, progress};
+use crate::output;
 
 /// Checks the file first, so that what is shown is true of it.
 pub fn run(asked: &Info) -> Result<(), Failure> {
-    let input = input::read(&asked.file)?;
+    let (input, contents) = checked(&asked.file)?;
     let file = input.bytes();
-    let contents = progress::during("checking", &asked.file, file.len(), || check(file))?;
     let unreadable = || {
         Failure::Trouble(format!(
             "{}: the header can't be shown",

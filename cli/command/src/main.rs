@@ -4,13 +4,15 @@
 //! arguments and files on one side, lines and records on the other.
 //!
 //! * [`arguments`] and [`escapes`]: what a person asks for.
-//! * [`input`], [`answers`], [`refusals`]: bytes, the library's answers with lists that grow, and refusals in words.
+//! * [`input`], [`archive`], [`answers`], [`refusals`]: bytes, checked or not, the library's answers with lists that grow, and
+//!   refusals in words.
 //! * [`validate`], [`dump`], [`info`], [`explain`]: one module for each command.
 //! * [`output`], [`progress`], [`failure`]: where answers go, signs of life, and what went wrong.
 //! * [`layout`], [`walk`], [`json`]: fields and bounds for display only.
 #![forbid(unsafe_code)]
 
 mod answers;
+mod archive;
 mod arguments;
 mod dump;
 mod escapes;

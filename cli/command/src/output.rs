@@ -27,6 +27,14 @@ pub fn print(text: &str) -> Result<(), Failure> {
     write(None, &|out| out.write_all(text.as_bytes()))
 }
 
+/// A number and what it counts.
+pub fn counted(number: u64, one: &str, more: &str) -> String {
+    match number {
+        1 => format!("1 {one}"),
+        _ => format!("{number} {more}"),
+    }
+}
+
 fn told(name: &str, outcome: io::Result<()>) -> Result<(), Failure> {
     outcome.map_err(|error| match error.kind() {
         ErrorKind::BrokenPipe => Failure::ReaderGone,

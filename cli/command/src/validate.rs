@@ -2,10 +2,10 @@
 
 use std::path::Path;
 
-use crate::answers::check;
+use crate::archive::checked;
 use crate::arguments::Validate;
 use crate::failure::{complain, Failure, Status};
-use crate::{input, output, progress};
+use crate::output::{self, counted};
 
 /// Goes on behind a bad file; the worst status is that of the command.
 pub fn run(asked: &Validate) -> Status {
@@ -27,11 +27,8 @@ pub fn run(asked: &Validate) -> Status {
 
 /// Prints the verdict on a file, be it good or bad.
 fn verdict(file: &Path) -> Result<(), Failure> {
-    let input = input::read(file)?;
-    let bytes = input.bytes();
-    let checked = progress::during("checking", file, bytes.len(), || check(bytes));
-    match checked {
-        Ok(contents) => output::print(&format!(
+    match checked(file) {
+        Ok((_, contents)) => output::print(&format!(
             "{}: valid, {} in {}\n",
             file.display(),
             counted(contents.records, "record", "records"),
@@ -43,13 +40,5 @@ fn verdict(file: &Path) -> Result<(), Failure> {
             }
             Err(failure)
         }
-    }
-}
-
-/// A number and what it counts.
-pub fn counted(number: u64, one: &str, more: &str) -> String {
-    match number {
-        1 => format!("1 {one}"),
-        _ => format!("{number} {more}"),
     }
 }
