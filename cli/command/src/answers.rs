@@ -13,7 +13,7 @@ use crate::refusals::Refusal;
 const SMALLEST_BLOCK: usize = 11;
 /// Blocks of a usual file are longer than this, so its work list is long enough at once.
 const USUAL_BLOCK: usize = 512;
-/// Places of the lists of a first search: a lookup opens few blocks and finds few records.
+/// Places of a first list: a lookup opens few blocks and finds few records.
 const FIRST_PLACES: usize = 1024;
 
 /// What an accepted file holds.
@@ -100,8 +100,10 @@ pub fn search(
     limit: Option<u64>,
 ) -> Result<Answer, Failure> {
     let mut known = known;
-    let mut opened = Places::new(FIRST_PLACES, most_opened(file, known));
-    let mut results = Places::new(FIRST_PLACES, most_results(file, known, limit));
+    let first = known.map_or(FIRST_PLACES, |contents| places(contents.blocks));
+    let mut opened = Places::new(first, most_opened(file, known));
+    let first = first_results(file, query, known);
+    let mut results = Places::new(first, most_results(file, known, limit));
     loop {
         let (mut walked, mut pairs) = (opened.zeros()?, results.zeros()?);
         let answer = zs_library::search(file, query, &mut walked, &mut pairs);
@@ -126,7 +128,7 @@ pub fn read(
     known: Option<Contents>,
     limit: Option<u64>,
 ) -> Result<Answer, Failure> {
-    let first = readable(file) / 16 + FIRST_PLACES;
+    let first = first_results(file, query, known).max(readable(file) / 16);
     let mut results = Places::new(first, most_results(file, known, limit));
     loop {
         let mut pairs = results.zeros()?;
@@ -156,6 +158,16 @@ fn most_opened(file: &[u8], known: Option<Contents>) -> usize {
     match known {
         Some(contents) => places(contents.blocks),
         None => readable(file) / USUAL_BLOCK + FIRST_PLACES,
+    }
+}
+
+/// A lookup in a file that wasn't checked is to be quick. Behind a check, which takes longer anyway, a longer list saves calls.
+fn first_results(file: &[u8], query: &Query, known: Option<Contents>) -> usize {
+    let all = query.start.is_empty() && query.stop.is_none() && query.prefix.is_empty();
+    match known {
+        Some(contents) if all => places(contents.records.saturating_mul(2)),
+        Some(_) => readable(file) / 64 + FIRST_PLACES,
+        None => FIRST_PLACES,
     }
 }
 

@@ -64,6 +64,31 @@ fn dump_gives_every_record() {
         assert_eq!((run.status, run.err.as_str()), (0, ""));
         assert!(run.out == lines(&whole));
     }
+    let run = zs(&["dump", "--unchecked", CONTACTS]);
+    assert_eq!((run.status, run.err.lines().count()), (0, 1));
+    assert!(run.out == lines(&whole));
+}
+
+#[test]
+fn lists_grow_until_they_are_long_enough() {
+    // More blocks than any first list has places for.
+    let records: Vec<String> = (0..3000).map(|number| format!("{number:04}")).collect();
+    let groups: Vec<&[String]> = records.chunks(1).collect();
+    let mut many = Tree::new(&groups);
+    many.fan_out = vec![40];
+    let folder = Folder::new();
+    let file = folder.write("many.zs", &many.bytes());
+    let verdict = format!("{file}: valid, 3000 records in 3078 blocks\n");
+    assert_eq!(zs(&["validate", &file]).text(), verdict);
+    for way in ["--start=", "--start=0001", "--scan", "--unchecked"] {
+        let run = zs(&["dump", &file, "--count", way]);
+        let due = if way == "--start=0001" {
+            "2999\n"
+        } else {
+            "3000\n"
+        };
+        assert_eq!((run.status, run.text().as_str()), (0, due), "{way}");
+    }
 }
 
 #[test]
