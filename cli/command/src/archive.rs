@@ -1,0 +1,47 @@
+//! An archive as the commands meet it: its bytes, checked first unless that isn't wanted.
+
+use std::path::Path;
+
+use crate::answers::{check, Contents};
+use crate::arguments::Trust;
+use crate::failure::{complain, Failure};
+use crate::input::{self, Input};
+use crate::progress;
+
+/// The bytes of an archive, and what the check found in them if there was one.
+pub struct Archive {
+    input: Input,
+    pub known: Option<Contents>,
+}
+
+impl Archive {
+    pub fn opened(path: &Path, trust: &Trust) -> Result<Self, Failure> {
+        let (input, known) = match trust.unchecked {
+            true => (unchecked(path)?, None),
+            false => checked(path).map(|(input, contents)| (input, Some(contents)))?,
+        };
+        Ok(Archive { input, known })
+    }
+
+    pub fn bytes(&self) -> &[u8] {
+        self.input.bytes()
+    }
+}
+
+/// Reads and checks a file.
+pub fn checked(path: &Path) -> Result<(Input, Contents), Failure> {
+    let input = input::read(path)?;
+    let bytes = input.bytes();
+    let contents = progress::during("checking", path, bytes.len(), || check(bytes))?;
+    Ok((input, contents))
+}
+
+/// Maps a file, and says what isn't promised of it.
+fn unchecked(path: &Path) -> Result<Input, Failure> {
+    let input = input::mapped(path)?;
+    let name = path.display();
+    complain(&format!(
+        "{name}: not checked; that every match is found is promised for checked files only"
+    ));
+    Ok(input)
+}
