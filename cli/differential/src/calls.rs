@@ -43,7 +43,7 @@ fn checks(random: &mut Random, file: &[u8], calls: &mut Vec<Asked>) -> bool {
     answer.number == 0
 }
 
-/// Searches, the same way with both lists.
+/// Searches, the same way with both lists. A refused one gets lists that end before, at and behind the fault.
 fn searches(random: &mut Random, file: &[u8], query: &Query, calls: &mut Vec<Asked>) {
     let answer = search(file, query, AMPLE, AMPLE);
     let mut ask = |opened, results, room| {
@@ -65,11 +65,30 @@ fn searches(random: &mut Random, file: &[u8], query: &Query, calls: &mut Vec<Ask
             ask(opened + random.below(3), results - 1, Room::ResultsShort);
         }
     } else {
+        let opened = least(|places| search(file, query, places, AMPLE).number != 26);
+        let results = least(|places| search(file, query, AMPLE, places).number != 27);
         ask(AMPLE, AMPLE, Room::Any);
+        ask(opened, results, Room::Any);
+        if opened > 0 {
+            ask(opened - 1, results, Room::Any);
+        }
     }
     if random.once_in(2) {
         ask(random.below(12), random.below(12), Room::Any);
     }
+}
+
+/// The least number of places that is enough, `AMPLE` where none is.
+fn least(enough: impl Fn(usize) -> bool) -> usize {
+    let (mut low, mut high) = (0, AMPLE);
+    while low < high {
+        let middle = (low + high) / 2;
+        match enough(middle) {
+            true => high = middle,
+            false => low = middle + 1,
+        }
+    }
+    low
 }
 
 /// Reads, the same way with the result list.

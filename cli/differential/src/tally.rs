@@ -32,9 +32,9 @@ pub struct Column {
     pub answered: u64,
     /// Those of them with matches.
     pub matched: u64,
-    /// Cases on accepted files with the opened or the work list one place short.
+    /// Refusals 18 or 26 on accepted files, by a work list or opened list that is one place short.
     pub first_short: u64,
-    /// Cases on accepted files with the result list one place short.
+    /// Refusals 27 on accepted files, by a result list that is one place short.
     pub results_short: u64,
 }
 
@@ -81,8 +81,8 @@ impl Tally {
                 column.answered += 1;
                 column.matched += matched;
             }
-            Room::FirstShort => column.first_short += 1,
-            Room::ResultsShort => column.results_short += 1,
+            Room::FirstShort => column.first_short += u64::from([18, 26].contains(&number)),
+            Room::ResultsShort => column.results_short += u64::from(number == 27),
             Room::Exact | Room::Any => {}
         }
         if level >= 2 && room == Room::Plenty && matches!(call, Call::Search { .. }) {
@@ -101,44 +101,42 @@ impl Tally {
     /// What the run falls short of.
     pub fn missing(&self) -> Vec<String> {
         let mut missing = Vec::new();
-        let mut must = |holds: bool, what: String| {
-            if !holds {
-                missing.push(what);
-            }
-        };
         for (call, column, numbers) in [
             ("check", &self.check, CHECK),
             ("read", &self.read, READ),
             ("search", &self.search, SEARCH),
         ] {
-            for number in numbers {
-                let count = column.numbers[*number];
-                must(count >= LEAST, format!("{call} {number}: {count} times"));
+            let few = numbers.iter().filter(|n| column.numbers[**n] < LEAST);
+            missing.extend(few.map(|n| format!("{call} {n}: {} times", column.numbers[*n])));
+        }
+        for (enough, what) in [
+            (self.records.iter().all(|n| *n >= LEAST), "records"),
+            (self.deep >= LEAST_DEEP, "searches below two levels"),
+            (
+                self.deep_matched * 3 >= self.deep,
+                "matches below two levels",
+            ),
+            (
+                self.check.first_short == self.check.answered,
+                "short work lists",
+            ),
+            (
+                self.search.first_short == self.search.answered,
+                "short opened lists",
+            ),
+            (
+                self.search.results_short == self.search.matched,
+                "short result lists of searches",
+            ),
+            (
+                self.read.results_short == self.read.matched,
+                "short result lists of reads",
+            ),
+        ] {
+            if !enough {
+                missing.push(what.to_string());
             }
         }
-        let deep = (self.deep, self.deep_matched);
-        must(
-            deep.0 >= LEAST_DEEP && deep.1 * 3 >= deep.0,
-            format!("deep searches: {deep:?}"),
-        );
-        must(
-            self.check.first_short == self.check.answered,
-            "work lists one short".to_string(),
-        );
-        must(
-            self.search.first_short == self.search.answered,
-            "opened lists one short".to_string(),
-        );
-        for column in [&self.read, &self.search] {
-            must(
-                column.results_short == column.matched,
-                "result lists one short".to_string(),
-            );
-        }
-        must(
-            self.records.iter().all(|count| *count >= LEAST),
-            format!("records {:?}", self.records),
-        );
         missing
     }
 }

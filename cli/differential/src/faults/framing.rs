@@ -32,7 +32,10 @@ fn past_end(random: &mut Random, image: &mut Image, block: usize) {
     let last = image.blocks.len() - 1;
     match random.below(5) {
         0 => {
-            let far = [1 << 20, 1 << 32, (1 << 63) - 1, (1 << 63) - 9, 1 << 62];
+            // The right number with a high bit set, or one near the highest.
+            let right = image.blocks[block].payload(&image.places()).len() as u64 + 1;
+            let high = right + random.pick(&[1 << 16, 1 << 32, 1 << 62]);
+            let far = [high, high, (1 << 63) - 1, (1 << 63) - 9];
             image.blocks[block].number = Some(encoded(random.pick(&far)));
         }
         1 => {

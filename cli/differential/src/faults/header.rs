@@ -3,6 +3,9 @@
 use zs_reference::maker::random::Random;
 use zs_reference::maker::Image;
 
+/// Set above a right number, these are lost where it is taken as one of 16 or 32 bits, or as a signed one.
+const HIGH_BITS: [u64; 4] = [1 << 16, 1 << 31, 1 << 32, 1 << 63];
+
 const UNFINISHED: [u8; 8] = *b"\xabZStoBe\x01";
 
 /// The file with a fault in its header.
@@ -59,13 +62,8 @@ fn too_short(random: &mut Random, image: &mut Image) -> Vec<u8> {
             return file;
         }
         2 => {
-            let huge = [
-                u64::MAX,
-                u64::MAX - 7,
-                u64::MAX - 23,
-                u64::MAX - 24,
-                1 << 63,
-            ];
+            let high = (header - 24) as u64 | random.pick(&HIGH_BITS);
+            let huge = [u64::MAX, u64::MAX - 7, u64::MAX - 23, u64::MAX - 24, high];
             image.header_length = Some(random.pick(&huge));
         }
         _ => image.header_length = Some((length - 23 + random.below(30)) as u64),
@@ -96,7 +94,9 @@ fn wrong_length(random: &mut Random, image: &mut Image) {
         1 => image.header_cut = Some(random.below(80)),
         2 => image.metadata_length = Some(room + 1 + random.below(3) as u64),
         _ => {
-            image.metadata_length = Some(random.pick(&[u64::MAX, u64::MAX - 79, 1 << 63, 1 << 32]))
+            let high = image.metadata.len() as u64 | random.pick(&HIGH_BITS);
+            let huge = [u64::MAX, u64::MAX - 79, 1 << 63, high, high];
+            image.metadata_length = Some(random.pick(&huge));
         }
     }
 }
@@ -114,10 +114,11 @@ fn codec(random: &mut Random, image: &mut Image) {
 fn wrong_total(random: &mut Random, image: &mut Image) -> Vec<u8> {
     let mut file = image.bytes();
     let length = file.len() as u64;
-    match random.below(4) {
+    match random.below(5) {
         0 => image.total = Some(random.pick(&[length - 1, length + 1])),
-        1 => image.total = Some(random.pick(&[0, u64::MAX, length << 32, length | 1 << 63])),
-        2 => {
+        1 => image.total = Some(random.pick(&[0, u64::MAX, length << 32])),
+        2 => image.total = Some(length | random.pick(&HIGH_BITS)),
+        3 => {
             file.extend(random.string(20));
             return file;
         }

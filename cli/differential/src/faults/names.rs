@@ -14,21 +14,22 @@ pub fn root(random: &mut Random, image: &mut Image) {
     let place = image.places().get(root).copied().unwrap_or_default();
     let end = image.bytes().len() as u64;
     let huge = random.pick(&[u64::MAX, u64::MAX - 8, 1 << 63, 1 << 32]);
-    image.root = match random.below(7) {
+    image.root = match random.below(8) {
         0 => off_by_little(random, root),
         // The size as L has it, without number and CRC.
         1 => Target::Beside(root, 0, -9),
         2 => Target::Exactly(random.pick(&[0, 1, 16, image.blocks_at() - 1]), place.size),
         3 => Target::Exactly(random.pick(&[end - 1, end, end + 1, huge]), place.size),
         4 => Target::Exactly(place.offset, random.pick(&[0, huge])),
-        5 => Target::Exactly(place.offset.wrapping_add(1 << 32), place.size),
+        5 => Target::Beside(root, random.pick(&[1 << 16, 1 << 32, i64::MIN]), 0),
+        6 => Target::Beside(root, 0, random.pick(&[1 << 8, 1 << 16, 1 << 32, i64::MIN])),
         _ => Target::Block(random.below(blocks)),
     };
 }
 
 /// A name that is off by a little.
 fn off_by_little(random: &mut Random, block: usize) -> Target {
-    let shift = random.pick(&[-2, -1, 1, 2, 8]);
+    let shift = random.pick(&[-2, -1, 1, 2, 8, 1 << 8, 1 << 16, 1 << 32]);
     match random.once_in(2) {
         true => Target::Beside(block, shift, 0),
         false => Target::Beside(block, 0, shift),

@@ -78,10 +78,8 @@ fn change_number(
 pub fn cut(random: &mut Random, image: &mut Image) {
     let places = image.places();
     if random.once_in(3) {
-        let most = random.pick(&[1, 4, 1 << 40, (1 << 62) - 1]);
-        return change_number(random, image, |random, value| {
-            encoded(value + 1 + random.below(most) as u64)
-        });
+        let more = random.pick(&[1, 2, 4, 1 << 8, 1 << 16, 1 << 32, 1 << 62]);
+        return change_number(random, image, |_, value| encoded(value + more));
     }
     if let Some(block) = some_block(random, image, is_ordinary) {
         let plan = &mut image.blocks[block];
