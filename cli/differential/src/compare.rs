@@ -6,6 +6,9 @@ use zs_library as library;
 use zs_reference::maker::random::Random;
 use zs_reference::reader::{self, Query};
 
+/// So many places of a list are told one by one.
+const MOST_TOLD: usize = 3;
+
 /// What a case came to.
 #[derive(Debug, Clone, Default)]
 pub struct Outcome {
@@ -41,11 +44,17 @@ impl Outcome {
         }
     }
 
-    /// Compares every place of a list, and its guards.
+    /// Compares every place of a list, and its guards. The first places that differ are told.
     fn same_list(&mut self, what: &str, due: &[u64], given: &Lent<u64>) {
+        self.same("places", due.len() as u64, given.part().len() as u64);
         let places = due.iter().zip(given.part()).enumerate();
-        for (place, (due, given)) in places {
-            self.same(&format!("{what} list, place {place}"), *due, *given);
+        let unequal: Vec<_> = places.filter(|(_, (due, given))| due != given).collect();
+        for (place, (due, given)) in unequal.iter().take(MOST_TOLD) {
+            self.same(&format!("{what} list, place {place}"), **due, **given);
+        }
+        if unequal.len() > MOST_TOLD {
+            let line = format!("{what} list: {} places in all", unequal.len());
+            self.differences.push(line);
         }
         self.must(given.guarded(), &format!("{what} list: written outside"));
     }

@@ -98,17 +98,23 @@ impl Tally {
         counted.sum::<u64>() + self.records.iter().sum::<u64>()
     }
 
-    /// What the run falls short of.
-    pub fn missing(&self) -> Vec<String> {
-        let mut missing = Vec::new();
+    /// Numbers that a call can give and didn't give often enough.
+    fn rare_numbers(&self) -> Vec<String> {
+        let mut rare = Vec::new();
         for (call, column, numbers) in [
             ("check", &self.check, CHECK),
             ("read", &self.read, READ),
             ("search", &self.search, SEARCH),
         ] {
             let few = numbers.iter().filter(|n| column.numbers[**n] < LEAST);
-            missing.extend(few.map(|n| format!("{call} {n}: {} times", column.numbers[*n])));
+            rare.extend(few.map(|n| format!("{call} {n}: {} times", column.numbers[*n])));
         }
+        rare
+    }
+
+    /// What the run falls short of.
+    pub fn missing(&self) -> Vec<String> {
+        let mut missing = self.rare_numbers();
         for (enough, what) in [
             (self.records.iter().all(|n| *n >= LEAST), "records"),
             (self.deep >= LEAST_DEEP, "searches below two levels"),

@@ -1,6 +1,6 @@
 //! Faults of names: the root 17, entries 19, and how often a block is named 20.
 
-use super::{is_index, some_block, some_entries};
+use super::{entries_of, is_index, some_block, some_entries};
 use zs_reference::maker::random::Random;
 use zs_reference::maker::{Entry, Image, Plan, Target};
 
@@ -29,7 +29,18 @@ pub fn root(random: &mut Random, image: &mut Image) {
 
 /// A name that is off by a little.
 fn off_by_little(random: &mut Random, block: usize) -> Target {
-    let shift = random.pick(&[-2, -1, 1, 2, 8, 1 << 8, 1 << 16, 1 << 32]);
+    let shift = random.pick(&[-2, -1, 1, 2, 8]);
+    shifted(random, block, shift)
+}
+
+/// A name that is off by a multiple of 2^8 or 2^32.
+fn off_by_much(random: &mut Random, block: usize) -> Target {
+    let shift = random.pick(&[1 << 8, 1 << 32, 1 << 32]);
+    shifted(random, block, shift)
+}
+
+/// The block's name with its offset or its size shifted.
+fn shifted(random: &mut Random, block: usize, shift: i64) -> Target {
     match random.once_in(2) {
         true => Target::Beside(block, shift, 0),
         false => Target::Beside(block, 0, shift),
@@ -38,24 +49,18 @@ fn off_by_little(random: &mut Random, block: usize) -> Target {
 
 /// 19: an entry that names no fitting block, instead of a right one or besides.
 pub fn entry(random: &mut Random, image: &mut Image) {
-    let blocks = image.blocks.len();
-    let blocks_at = image.blocks_at();
-    let end = image.bytes().len() as u64;
-    let block = random.below(blocks);
-    let place = image.places()[block];
-    let far = random.pick(&[0, 1, blocks_at - 1, end, end + 1, (1 << 63) - 1]);
-    let target = match random.below(5) {
-        0 => off_by_little(random, block),
-        1 => Target::Exactly(far, place.size),
-        2 => Target::Exactly(
-            place.offset,
-            random.pick(&[0, place.size - 9, (1 << 63) - 1]),
-        ),
-        3 => Target::Exactly(blocks_at + random.below(40) as u64, place.size),
-        _ => Target::Block(block),
+    let (index, here) = match some_block(random, image, is_index) {
+        Some(index) => (index, random.next() as usize),
+        None => return,
     };
-    if let Some(entries) = some_entries(random, image) {
-        let here = random.below(entries.len());
+    let own = entries_of(image, index).map(|entries| entries[here % entries.len()].target);
+    let block = match own {
+        Some(Target::Block(block)) if !random.once_in(3) => block,
+        _ => random.below(image.blocks.len()),
+    };
+    let target = unfit(random, image, block);
+    if let Some(entries) = entries_of(image, index) {
+        let here = here % entries.len();
         match random.once_in(2) {
             true => entries[here].target = target,
             false => {
@@ -63,6 +68,22 @@ pub fn entry(random: &mut Random, image: &mut Image) {
                 entries.insert(here, Entry { key, target });
             }
         }
+    }
+}
+
+/// A name that is like that of the block but, most times, of none.
+fn unfit(random: &mut Random, image: &Image, block: usize) -> Target {
+    let blocks_at = image.blocks_at();
+    let end = image.bytes().len() as u64;
+    let place = image.places()[block];
+    let far = random.pick(&[0, 1, blocks_at - 1, end, end + 1, (1 << 63) - 1]);
+    match random.below(7) {
+        0 => off_by_little(random, block),
+        1 | 2 => off_by_much(random, block),
+        3 => Target::Exactly(far, place.size),
+        4 => Target::Exactly(place.offset, random.pick(&[0, place.size - 9, far])),
+        5 => Target::Exactly(blocks_at + random.below(40) as u64, place.size),
+        _ => Target::Block(random.below(image.blocks.len())),
     }
 }
 
