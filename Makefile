@@ -1,8 +1,12 @@
 # test: everything that must hold, as the gate runs it.   demo: build and run the main job.
-.PHONY: test demo
+# fuzz: compare both readers until stopped; ARGS="--seed 7 --cases 1000000" repeats a run.
+.PHONY: test demo fuzz
 
 test:
 	@scripts/test.sh
 
 demo:
 	@scripts/demo.sh
+
+fuzz:
+	@scripts/fuzz.sh $(ARGS)

@@ -1,6 +1,7 @@
 #!/usr/bin/env bash
 # Checks the layout of the sources, proves every crate from nothing, tries the must-fail edits and runs the programs;
-# then tests the independent reader, and holds the stored cases to those that it makes.
+# then tests the independent reader, compares both readers on drawn files and prints how many cases that were, and holds the stored
+# cases to those that the independent reader makes.
 # `rt ci` removes target/, so whatever is built from the proved libraries comes after it.
 set -eu
 cd "$(dirname "$0")/.."
@@ -11,7 +12,8 @@ rt fmt --check
 echo "1 passed, 0 failed"
 rt ci
 rt staticlib zs >/dev/null
-(cd cli && cargo test --offline --quiet)
+(cd cli && cargo test --offline --quiet --workspace --exclude zs-differential)
+(cd cli && cargo test --offline --quiet -p zs-differential -- --nocapture)
 
 made=$(mktemp -d)
 trap 'rm -rf "$made"' EXIT

@@ -6,10 +6,12 @@
 //! * [`random`] makes trees and damage from a seed.
 
 mod image;
+mod keys;
 mod layout;
 pub mod random;
 mod tree;
 
 pub use image::{Content, Entry, Image, Plan, Target};
+pub use keys::Keys;
 pub use layout::{encoded, Place};
-pub use tree::{Keys, Placing, Tree};
+pub use tree::{Placing, Tree};

@@ -1,7 +1,8 @@
 //! Trees, queries and damage drawn from a seed, the same ones each time.
 
 use super::image::{Content, Image, Target};
-use super::tree::{Keys, Placing, Tree};
+use super::keys::Keys;
+use super::tree::{Placing, Tree};
 use crate::reader::Query;
 
 /// Bytes that strings are made of: few, so that equal strings and beginnings are common.

@@ -1,6 +1,7 @@
 //! Sound files: records grouped in data blocks, and an index over them.
 
 use super::image::{Content, Entry, Image, Plan, Target};
+use super::keys::Keys;
 use super::random::Random;
 
 /// No index block has a higher level.
@@ -13,6 +14,8 @@ pub struct Tree {
     pub groups: Vec<Vec<Vec<u8>>>,
     /// Entries per index block on level 1, 2 and so on; the last one serves all levels above.
     pub fan_out: Vec<usize>,
+    /// Where given, index blocks have from one entry up to those, drawn from this seed.
+    pub ragged: Option<u64>,
     /// The root's level is at least this.
     pub root_level: u8,
     /// How keys are chosen.
@@ -25,21 +28,6 @@ pub struct Tree {
     pub metadata: Vec<u8>,
     /// Header bytes to be ignored.
     pub extra: Vec<u8>,
-}
-
-/// How an entry's key is chosen. Each way keeps the key rule.
-#[derive(Debug, Clone, Copy, PartialEq, Eq)]
-pub enum Keys {
-    /// The first record that the block leads to.
-    FirstRecord,
-    /// The shortest beginning of that record which keeps the rule.
-    Separator,
-    /// The last record before that one; empty where there is none.
-    LastBefore,
-    /// Empty where there is no record before, else the first record.
-    EmptyFirst,
-    /// Any of the above, and others between, drawn from this seed.
-    Mixed(u64),
 }
 
 /// Where index blocks stand in the file.
@@ -55,6 +43,8 @@ pub enum Placing {
     AheadOfChildren,
     /// All of them behind the first data block.
     BehindFirst,
+    /// Each anywhere, drawn from this seed.
+    Scattered(u64),
 }
 
 /// A block of the tree, not yet placed.
@@ -72,6 +62,7 @@ impl Tree {
         Tree {
             groups: groups.iter().map(group).collect(),
             fan_out: vec![usize::MAX],
+            ragged: None,
             root_level: 1,
             keys: Keys::FirstRecord,
             placing: Placing::After,
@@ -125,10 +116,9 @@ impl Tree {
         while level < 1 || row.len() > 1 || level < self.root_level.min(HIGHEST_LEVEL) {
             level += 1;
             let mut above = Vec::new();
-            for children in row.chunks(self.entries_on(level)) {
+            for children in self.shared_out(row, level) {
                 above.push(nodes.len());
                 let group = children.first().map_or(0, |child| nodes[*child].group);
-                let children = children.to_vec();
                 nodes.push(Node {
                     level,
                     children,
@@ -138,6 +128,23 @@ impl Tree {
             row = above;
         }
         nodes
+    }
+
+    /// The children of each index block on a level.
+    fn shared_out(&self, mut row: Vec<usize>, level: u8) -> Vec<Vec<usize>> {
+        let most = self.entries_on(level);
+        let mut random = self
+            .ragged
+            .map(|seed| Random::new(seed ^ u64::from(level)))
+            .filter(|_| level < HIGHEST_LEVEL);
+        let mut shares = Vec::new();
+        while !row.is_empty() {
+            let entries = random.as_mut().map_or(most, |r| 1 + r.below(most));
+            let rest = row.split_off(entries.min(row.len()));
+            shares.push(row);
+            row = rest;
+        }
+        shares
     }
 
     /// Entries per index block on a level. The highest level has room for all.
@@ -164,6 +171,7 @@ impl Tree {
             Placing::BehindFirst => (0..1).chain(index.rev()).chain(1..data).collect(),
             Placing::BehindChildren => below(nodes, root, false),
             Placing::AheadOfChildren => below(nodes, root, true),
+            Placing::Scattered(seed) => scattered(seed, data, nodes.len()),
         }
     }
 
@@ -209,15 +217,18 @@ impl Tree {
         let first = self.groups[group].first().cloned().unwrap_or_default();
         let last_group = self.groups[..group].last();
         let before = last_group.and_then(|records| records.last()).cloned();
-        match self.keys {
-            Keys::FirstRecord => first,
-            Keys::Separator => separator(before.as_deref(), &first),
-            Keys::LastBefore => before.unwrap_or_default(),
-            Keys::EmptyFirst if before.is_none() => Vec::new(),
-            Keys::EmptyFirst => first,
-            Keys::Mixed(seed) => mixed_key(seed ^ node as u64, before.as_deref(), first),
-        }
+        self.keys.choose(node, before, first)
     }
+}
+
+/// The data blocks in order, and each index block at a place drawn from the seed.
+fn scattered(seed: u64, data: usize, all: usize) -> Vec<usize> {
+    let mut random = Random::new(seed);
+    let mut order: Vec<usize> = (0..data).collect();
+    for node in data..all {
+        order.insert(random.below(order.len() + 1), node);
+    }
+    order
 }
 
 /// The blocks below and with `node`, parents ahead of or behind their children.
@@ -233,26 +244,4 @@ fn below(nodes: &[Node], node: usize, ahead: bool) -> Vec<usize> {
         order.push(node);
     }
     order
-}
-
-/// The shortest beginning of `first` that is at least `before`.
-fn separator(before: Option<&[u8]>, first: &[u8]) -> Vec<u8> {
-    let at_least = before.unwrap_or(&[]);
-    let beginnings = (0..=first.len()).map(|length| &first[..length]);
-    let shortest = beginnings.into_iter().find(|key| *key >= at_least);
-    shortest.unwrap_or(first).to_vec()
-}
-
-/// Some key between `before` and `first`, both allowed.
-fn mixed_key(seed: u64, before: Option<&[u8]>, first: Vec<u8>) -> Vec<u8> {
-    let mut random = Random::new(seed);
-    let before = before.unwrap_or(&[]).to_vec();
-    let mut longer = before.clone();
-    longer.push(random.next() as u8);
-    match random.below(4) {
-        0 => separator(Some(&before), &first),
-        1 => before,
-        2 if longer <= first => longer,
-        _ => first,
-    }
 }

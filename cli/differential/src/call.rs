@@ -1,0 +1,91 @@
+//! A call on a file: which function, with what, and how much room.
+
+use zs_reference::reader::Query;
+
+/// A call, as both readers get it.
+#[derive(Debug, Clone, PartialEq, Eq)]
+pub enum Call {
+    /// The check, with so many places on the work list.
+    Check {
+        /// Places of the work list.
+        work: usize,
+    },
+    /// Reading front to back.
+    Read {
+        /// What is asked for.
+        query: Query,
+        /// Places of the result list.
+        results: usize,
+    },
+    /// The search through the index.
+    Search {
+        /// What is asked for.
+        query: Query,
+        /// Places of the opened list.
+        opened: usize,
+        /// Places of the result list.
+        results: usize,
+    },
+    /// Handing back a record, and the separate yes or no.
+    Record {
+        /// Offset of the part.
+        offset: u64,
+        /// Its length.
+        length: u64,
+    },
+}
+
+/// How the lists of a call compare with what its answer needs.
+#[derive(Debug, Clone, Copy, PartialEq, Eq)]
+pub enum Room {
+    /// More than enough.
+    Plenty,
+    /// Just enough.
+    Exact,
+    /// The opened list, or the work list, is one place short.
+    FirstShort,
+    /// The result list is one place short.
+    ResultsShort,
+    /// Any number of places.
+    Any,
+}
+
+impl Call {
+    /// The call in words, for a saved case.
+    pub fn text(&self) -> String {
+        match self {
+            Call::Check { work } => format!("call: check\nwork places: {work}\n"),
+            Call::Read { query, results } => {
+                let query = query_text(query);
+                format!("call: read\n{query}result places: {results}\n")
+            }
+            Call::Search {
+                query,
+                opened,
+                results,
+            } => {
+                let query = query_text(query);
+                format!("call: search\n{query}opened places: {opened}\nresult places: {results}\n")
+            }
+            Call::Record { offset, length } => {
+                format!("call: record\noffset: {offset}\nlength: {length}\n")
+            }
+        }
+    }
+}
+
+fn query_text(query: &Query) -> String {
+    let stop = match &query.stop {
+        Some(stop) => hex(stop),
+        None => "not given".to_string(),
+    };
+    let (start, prefix) = (hex(&query.start), hex(&query.prefix));
+    format!("start: {start}\nstop: {stop}\nprefix: {prefix}\n")
+}
+
+fn hex(bytes: &[u8]) -> String {
+    match bytes.is_empty() {
+        true => "empty".to_string(),
+        false => bytes.iter().map(|byte| format!("{byte:02x}")).collect(),
+    }
+}

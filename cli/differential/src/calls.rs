@@ -1,0 +1,141 @@
+//! The calls to be made on a file.
+
+use crate::call::{Call, Room};
+use crate::queries::query;
+use zs_reference::maker::random::Random;
+use zs_reference::reader::{check, read, search, Query};
+
+/// Room for every answer, unless blocks are named in very many ways.
+const AMPLE: usize = 400;
+
+/// A call, and how its room compares with what it needs.
+pub type Asked = (Call, Room);
+
+/// All calls on a file, with queries near the given strings.
+pub fn calls(random: &mut Random, file: &[u8], strings: &[Vec<u8>]) -> Vec<Asked> {
+    let mut calls = Vec::new();
+    let accepted = checks(random, file, &mut calls);
+    let mut queries = vec![Query::default()];
+    for _ in 0..if accepted { 4 } else { 1 } {
+        queries.push(query(random, strings));
+    }
+    for query in &queries {
+        searches(random, file, query, &mut calls);
+        reads(random, file, query, &mut calls);
+    }
+    records(random, file, &mut calls);
+    calls
+}
+
+/// Checks with more places than needed, just enough, one short, and any number. Says whether the file is accepted.
+fn checks(random: &mut Random, file: &[u8], calls: &mut Vec<Asked>) -> bool {
+    let answer = check(file, AMPLE);
+    let mut ask = |work, room| calls.push((Call::Check { work }, room));
+    if answer.number == 0 {
+        let blocks = answer.blocks as usize;
+        ask(blocks + 1 + random.below(9), Room::Plenty);
+        ask(blocks, Room::Exact);
+        ask(blocks - 1, Room::FirstShort);
+    } else {
+        ask(AMPLE, Room::Any);
+    }
+    ask(random.below(40), Room::Any);
+    answer.number == 0
+}
+
+/// Searches, the same way with both lists. A refused one gets lists that end before, at and behind the fault.
+fn searches(random: &mut Random, file: &[u8], query: &Query, calls: &mut Vec<Asked>) {
+    let answer = search(file, query, AMPLE, AMPLE);
+    let mut ask = |opened, results, room| {
+        let query = query.clone();
+        let call = Call::Search {
+            query,
+            opened,
+            results,
+        };
+        calls.push((call, room));
+    };
+    if answer.number == 0 {
+        let (opened, results) = (answer.opened as usize, 2 * answer.matches as usize);
+        let (more, further) = (1 + random.below(9), 1 + random.below(9));
+        ask(opened + more, results + further, Room::Plenty);
+        ask(opened, results, Room::Exact);
+        ask(opened - 1, results + random.below(3), Room::FirstShort);
+        if results > 0 {
+            ask(opened + random.below(3), results - 1, Room::ResultsShort);
+        }
+    } else {
+        let opened = least(|places| search(file, query, places, AMPLE).number != 26);
+        let results = least(|places| search(file, query, AMPLE, places).number != 27);
+        ask(AMPLE, AMPLE, Room::Any);
+        ask(opened, results, Room::Any);
+        if opened > 0 {
+            ask(opened - 1, results, Room::Any);
+        }
+    }
+    if random.once_in(2) {
+        ask(random.below(12), random.below(12), Room::Any);
+    }
+}
+
+/// The least number of places that is enough, `AMPLE` where none is.
+fn least(enough: impl Fn(usize) -> bool) -> usize {
+    let (mut low, mut high) = (0, AMPLE);
+    while low < high {
+        let middle = (low + high) / 2;
+        match enough(middle) {
+            true => high = middle,
+            false => low = middle + 1,
+        }
+    }
+    low
+}
+
+/// Reads, the same way with the result list.
+fn reads(random: &mut Random, file: &[u8], query: &Query, calls: &mut Vec<Asked>) {
+    let answer = read(file, query, AMPLE);
+    let mut ask = |results, room| {
+        let query = query.clone();
+        calls.push((Call::Read { query, results }, room));
+    };
+    if answer.number == 0 {
+        let results = 2 * answer.matches as usize;
+        ask(results + 1 + random.below(9), Room::Plenty);
+        ask(results, Room::Exact);
+        if results > 0 {
+            ask(results - 1, Room::ResultsShort);
+        }
+    } else {
+        ask(random.pick(&[AMPLE, 0, 1, 4]), Room::Any);
+    }
+    if random.once_in(2) {
+        ask(random.below(12), Room::Any);
+    }
+}
+
+/// Parts of the file: a record that is found, parts about the end, and very far ones.
+fn records(random: &mut Random, file: &[u8], calls: &mut Vec<Asked>) {
+    let end = file.len() as u64;
+    let mut ask = |offset, length| calls.push((Call::Record { offset, length }, Room::Any));
+    let answer = read(file, &Query::default(), AMPLE);
+    if answer.matches > 0 {
+        let record = 2 * random.below(answer.matches as usize);
+        ask(answer.results[record], answer.results[record + 1]);
+    }
+    let back = random.below(20) as u64;
+    let near = end.saturating_sub(back) + random.below(3) as u64;
+    ask(near, (end + random.below(3) as u64).saturating_sub(near));
+    let offset = random.pick(&[0, 1, near, end, end + 1, 1 << 32, u64::MAX - back]);
+    let length = random.pick(&[
+        0,
+        1,
+        back,
+        end,
+        end + 1,
+        1 << 63,
+        u64::MAX - back,
+        !offset,
+        offset.wrapping_neg(),
+    ]);
+    ask(offset, length);
+}

@@ -1,0 +1,173 @@
+//! One case: both readers answer, and everything is compared.
+
+use crate::call::Call;
+use crate::lent::Lent;
+use zs_library as library;
+use zs_reference::maker::random::Random;
+use zs_reference::reader::{self, Query};
+
+/// So many places of a list are told one by one.
+const MOST_TOLD: usize = 3;
+
+/// What a case came to.
+#[derive(Debug, Clone, Default)]
+pub struct Outcome {
+    /// The refusal that is due, or 0; for a record 0 if it lies within the file and 1 if not.
+    pub number: u64,
+    /// How many matches are due.
+    pub matches: u64,
+    /// What differs, one line for each thing.
+    pub differences: Vec<String>,
+}
+
+impl Outcome {
+    fn of(number: u64, matches: u64) -> Self {
+        Outcome {
+            number,
+            matches,
+            differences: Vec::new(),
+        }
+    }
+
+    /// Compares one number.
+    fn same(&mut self, what: &str, due: u64, given: u64) {
+        if due != given {
+            let line = format!("{what}: due {due}, given {given}");
+            self.differences.push(line);
+        }
+    }
+
+    /// Notes a fault that is no wrong number.
+    fn must(&mut self, holds: bool, otherwise: &str) {
+        if !holds {
+            self.differences.push(otherwise.to_string());
+        }
+    }
+
+    /// Compares every place of a list, and its guards. The first places that differ are told.
+    fn same_list(&mut self, what: &str, due: &[u64], given: &Lent<u64>) {
+        self.same("places", due.len() as u64, given.part().len() as u64);
+        let places = due.iter().zip(given.part()).enumerate();
+        let unequal: Vec<_> = places.filter(|(_, (due, given))| due != given).collect();
+        for (place, (due, given)) in unequal.iter().take(MOST_TOLD) {
+            self.same(&format!("{what} list, place {place}"), **due, **given);
+        }
+        if unequal.len() > MOST_TOLD {
+            let line = format!("{what} list: {} places in all", unequal.len());
+            self.differences.push(line);
+        }
+        self.must(given.guarded(), &format!("{what} list: written outside"));
+    }
+}
+
+/// Makes a call with both readers and compares.
+pub fn compare(random: &mut Random, file: &[u8], call: &Call) -> Outcome {
+    let lent = Lent::bytes(random, file);
+    let mut outcome = match call {
+        Call::Check { work } => check(random, lent.part(), *work),
+        Call::Read { query, results } => read(random, lent.part(), query, *results),
+        Call::Search {
+            query,
+            opened,
+            results,
+        } => search(random, lent.part(), query, *opened, *results),
+        Call::Record { offset, length } => record(lent.part(), *offset, *length),
+    };
+    outcome.must(lent.unchanged(), "the file was changed");
+    outcome
+}
+
+fn check(random: &mut Random, file: &[u8], places: usize) -> Outcome {
+    let due = reader::check(file, places);
+    let mut work = Lent::list(random, places);
+    let given = library::check(file, work.part_mut());
+    let mut outcome = Outcome::of(due.number, 0);
+    outcome.same("number", due.number, given.number);
+    outcome.same("place", due.place, given.place);
+    outcome.same("blocks", due.blocks, given.blocks);
+    outcome.same("records", due.records, given.records);
+    outcome.same_list("work", &vec![0; places], &work);
+    outcome
+}
+
+fn read(random: &mut Random, file: &[u8], query: &Query, places: usize) -> Outcome {
+    let due = reader::read(file, query, places);
+    let mut results = Lent::list(random, places);
+    let asked = LentQuery::new(random, query);
+    let given = library::read(file, &asked.query(), results.part_mut());
+    let mut outcome = Outcome::of(due.number, due.matches);
+    outcome.same("number", due.number, given.number);
+    outcome.same("place", due.place, given.place);
+    outcome.same("matches", due.matches, given.matches);
+    outcome.same_list("result", &due.results, &results);
+    outcome.must(asked.unchanged(), "the query was changed");
+    outcome
+}
+
+fn search(
+    random: &mut Random,
+    file: &[u8],
+    query: &Query,
+    opened_places: usize,
+    result_places: usize,
+) -> Outcome {
+    let due = reader::search(file, query, opened_places, result_places);
+    let mut opened = Lent::list(random, opened_places);
+    let mut results = Lent::list(random, result_places);
+    let asked = LentQuery::new(random, query);
+    let given = library::search(file, &asked.query(), opened.part_mut(), results.part_mut());
+    let mut outcome = Outcome::of(due.number, due.matches);
+    outcome.same("number", due.number, given.number);
+    outcome.same("place", due.place, given.place);
+    outcome.same("matches", due.matches, given.matches);
+    outcome.same("opened", due.opened, given.opened);
+    outcome.same_list("opened", &due.opened_list, &opened);
+    outcome.same_list("result", &due.results, &results);
+    outcome.must(asked.unchanged(), "the query was changed");
+    outcome
+}
+
+fn record(file: &[u8], offset: u64, length: u64) -> Outcome {
+    let (due_offset, due_length) = reader::record(file, offset, length);
+    let within = reader::within(file, offset, length);
+    let given = library::record(file, offset, length);
+    let mut outcome = Outcome::of(u64::from(!within), 0);
+    outcome.same("part's offset", due_offset, given.offset);
+    outcome.same("part's length", due_length, given.size);
+    let given = library::within(file, offset, length);
+    outcome.same("within", u64::from(within), u64::from(given));
+    let due = file.get(due_offset as usize..(due_offset + due_length) as usize);
+    let given = library::bytes(file, offset, length);
+    outcome.must(due == Some(given), "part: other bytes");
+    outcome
+}
+
+/// A query with rubbish around its parts.
+struct LentQuery {
+    start: Lent<u8>,
+    stop: Option<Lent<u8>>,
+    prefix: Lent<u8>,
+}
+
+impl LentQuery {
+    fn new(random: &mut Random, query: &Query) -> Self {
+        LentQuery {
+            start: Lent::bytes(random, &query.start),
+            stop: query.stop.as_ref().map(|stop| Lent::bytes(random, stop)),
+            prefix: Lent::bytes(random, &query.prefix),
+        }
+    }
+
+    fn query(&self) -> library::Query<'_> {
+        library::Query {
+            start: self.start.part(),
+            stop: self.stop.as_ref().map(Lent::part),
+            prefix: self.prefix.part(),
+        }
+    }
+
+    fn unchanged(&self) -> bool {
+        let stop = self.stop.as_ref().map_or(true, Lent::unchanged);
+        self.start.unchanged() && stop && self.prefix.unchanged()
+    }
+}

@@ -1,0 +1,96 @@
+//! Drawings: a file and the calls on it, from a seed and a number.
+
+use crate::calls::{calls, Asked};
+use crate::damage::{damage, repair, Repair};
+use crate::faults::{faulty, NUMBERS};
+use crate::hostile::hostile;
+use crate::queries::strings_of;
+use crate::shapes::shape;
+use zs_reference::maker::random::{bend, Random};
+use zs_reference::maker::Image;
+use zs_reference::reader::{check, number};
+
+/// A file and the calls on it.
+#[derive(Debug, Clone)]
+pub struct Drawing {
+    /// The bytes of the file.
+    pub file: Vec<u8>,
+    /// The root's level, where the independent reader accepts the file.
+    pub accepted: Option<u8>,
+    /// The calls.
+    pub calls: Vec<Asked>,
+    /// Numbers for the rubbish around and in what is lent.
+    pub random: Random,
+}
+
+/// The drawing of this number. The same seed and number give the same one.
+pub fn drawing(seed: u64, number: u64) -> Drawing {
+    let mut random = Random::new(Random::new(seed ^ number.rotate_left(32)).next());
+    let (image, file) = image_and_file(&mut random, number);
+    let calls = calls(&mut random, &file, &strings_of(&image));
+    Drawing {
+        accepted: root_level(&file),
+        file,
+        calls,
+        random,
+    }
+}
+
+/// By turns: sound files, files with one fault, bent ones, damaged ones, and hostile ones.
+fn image_and_file(random: &mut Random, number: u64) -> (Image, Vec<u8>) {
+    match number % 10 {
+        0..=1 => unchanged(shape(random).image()),
+        2..=6 => faulty(random, fault_of(number)),
+        7 => bent(random),
+        8 => damaged(random),
+        _ => unchanged(hostile(random)),
+    }
+}
+
+/// The refusals by turns, over those numbers that get a file with a fault.
+fn fault_of(number: u64) -> u64 {
+    let turn = number / 10 * 5 + number % 10;
+    NUMBERS[(turn % NUMBERS.len() as u64) as usize]
+}
+
+fn unchanged(image: Image) -> (Image, Vec<u8>) {
+    let file = image.bytes();
+    (image, file)
+}
+
+/// One or two things changed; lengths, checksums and offsets follow.
+fn bent(random: &mut Random) -> (Image, Vec<u8>) {
+    let mut image = shape(random).image();
+    for _ in 0..1 + random.below(2) {
+        bend(random, &mut image);
+    }
+    unchanged(image)
+}
+
+/// Bytes changed, and most times checksums repaired behind that.
+fn damaged(random: &mut Random) -> (Image, Vec<u8>) {
+    let (image, mut file) = unchanged(shape(random).image());
+    for _ in 0..1 + random.below(3) {
+        damage(random, &mut file);
+    }
+    if !random.once_in(4) {
+        let what = Repair {
+            blocks: !random.once_in(4),
+            hash: !random.once_in(3),
+            total: !random.once_in(8),
+        };
+        repair(&mut file, what);
+    }
+    (image, file)
+}
+
+/// The root's level, if the file is accepted.
+fn root_level(file: &[u8]) -> Option<u8> {
+    if check(file, usize::MAX).number != 0 {
+        return None;
+    }
+    let offset = u64::from_le_bytes(file.get(16..24)?.try_into().ok()?);
+    let block = file.get(usize::try_from(offset).ok()?..)?;
+    let (_, digits) = number(block).ok()?;
+    block.get(digits).copied()
+}

@@ -1,0 +1,144 @@
+//! Faults of the header: 2 to 9.
+
+use zs_reference::maker::random::Random;
+use zs_reference::maker::Image;
+
+/// Set above a right number, these are lost where it is taken as one of 16 or 32 bits, or as a signed one.
+const HIGH_BITS: [u64; 4] = [1 << 16, 1 << 31, 1 << 32, 1 << 63];
+
+const UNFINISHED: [u8; 8] = *b"\xabZStoBe\x01";
+
+/// The file with a fault in its header.
+pub fn damaged(random: &mut Random, number: u64, mut image: Image) -> Vec<u8> {
+    match number {
+        2 => image.magic = UNFINISHED,
+        3 => return no_magic(random, &mut image),
+        4 => return too_short(random, &mut image),
+        5 => return wrong_crc(random, &mut image),
+        6 => wrong_length(random, &mut image),
+        7 => codec(random, &mut image),
+        8 => return wrong_total(random, &mut image),
+        _ => metadata(random, &mut image),
+    }
+    let mut file = image.bytes();
+    // An unfinished file may be anything behind its magic.
+    if number == 2 && random.once_in(2) {
+        file.truncate(8 + random.below(file.len()));
+    }
+    file
+}
+
+/// 3: other first bytes, or fewer than eight.
+fn no_magic(random: &mut Random, image: &mut Image) -> Vec<u8> {
+    match random.below(4) {
+        0 => image.magic = random.next().to_le_bytes(),
+        1 => image.magic = *b"\xabZSxxxx\x01",
+        2 => image.magic[random.below(8)] ^= 1 << random.below(8),
+        _ => {
+            if random.once_in(2) {
+                image.magic = UNFINISHED;
+            }
+            let mut file = image.bytes();
+            file.truncate(random.below(8));
+            return file;
+        }
+    }
+    image.bytes()
+}
+
+/// 4: fewer than 16 bytes, or a header that runs past the end.
+fn too_short(random: &mut Random, image: &mut Image) -> Vec<u8> {
+    let length = image.bytes().len();
+    let header = image.blocks_at() as usize;
+    match random.below(4) {
+        0 => {
+            let mut file = image.bytes();
+            file.truncate(8 + random.below(8));
+            return file;
+        }
+        1 => {
+            let mut file = image.bytes();
+            file.truncate(16 + random.below(header - 16));
+            return file;
+        }
+        2 => {
+            let high = (header - 24) as u64 | random.pick(&HIGH_BITS);
+            let huge = [u64::MAX, u64::MAX - 7, u64::MAX - 23, u64::MAX - 24, high];
+            image.header_length = Some(random.pick(&huge));
+        }
+        _ => image.header_length = Some((length - 23 + random.below(30)) as u64),
+    }
+    image.bytes()
+}
+
+/// 5: a wrong CRC, or a changed byte under a CRC that stays.
+fn wrong_crc(random: &mut Random, image: &mut Image) -> Vec<u8> {
+    match random.below(3) {
+        0 => image.header_crc_flips = 1 << random.below(64),
+        1 => image.header_crc_flips = random.next(),
+        _ => {
+            let header = image.blocks_at() as usize;
+            let mut file = image.bytes();
+            file[16 + random.below(header - 16)] ^= 1 << random.below(8);
+            return file;
+        }
+    }
+    image.bytes()
+}
+
+/// 6: H below 80, or M above H-80.
+fn wrong_length(random: &mut Random, image: &mut Image) {
+    let room = (image.metadata.len() + image.extra.len()) as u64;
+    match random.below(4) {
+        0 => image.header_cut = Some(random.pick(&[0, 1, 71, 72, 79])),
+        1 => image.header_cut = Some(random.below(80)),
+        2 => image.metadata_length = Some(room + 1 + random.below(3) as u64),
+        _ => {
+            let high = image.metadata.len() as u64 | random.pick(&HIGH_BITS);
+            let huge = [u64::MAX, u64::MAX - 79, 1 << 63, high, high];
+            image.metadata_length = Some(random.pick(&huge));
+        }
+    }
+}
+
+/// 7: another codec.
+fn codec(random: &mut Random, image: &mut Image) {
+    match random.below(3) {
+        0 => image.codec = *b"deflate\0\0\0\0\0\0\0\0\0",
+        1 => image.codec = *b"none            ",
+        _ => image.codec[random.below(16)] ^= 1 << random.below(8),
+    }
+}
+
+/// 8: another total length, or other bytes behind it than it says.
+fn wrong_total(random: &mut Random, image: &mut Image) -> Vec<u8> {
+    let mut file = image.bytes();
+    let length = file.len() as u64;
+    match random.below(5) {
+        0 => image.total = Some(random.pick(&[length - 1, length + 1])),
+        1 => image.total = Some(random.pick(&[0, u64::MAX, length << 32])),
+        2 => image.total = Some(length | random.pick(&HIGH_BITS)),
+        3 => {
+            file.extend(random.string(20));
+            return file;
+        }
+        _ => {
+            let header = image.blocks_at() as usize;
+            file.truncate(header + random.below(file.len() - header));
+            return file;
+        }
+    }
+    image.bytes()
+}
+
+/// 9: metadata that isn't in braces. Bytes behind it don't count.
+fn metadata(random: &mut Random, image: &mut Image) {
+    let choices: [&[u8]; 8] = [b"", b"{", b"}", b"}{", b"{} ", b" {}", b"[]", b"{\"a\": 1]"];
+    match random.below(3) {
+        0 => image.metadata_length = Some(random.below(image.metadata.len()) as u64),
+        _ => image.metadata = random.pick(&choices).to_vec(),
+    }
+    if random.once_in(2) {
+        image.extra = b"}".to_vec();
+    }
+}

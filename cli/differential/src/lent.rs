@@ -1,0 +1,62 @@
+//! What a call is lent: a part in the middle of a larger buffer, with guards on both sides.
+
+use zs_reference::maker::random::Random;
+
+/// Guards on each side.
+const GUARDS: usize = 4;
+
+/// A lent part and its guards, and a copy of all of it.
+#[derive(Debug)]
+pub struct Lent<T> {
+    all: Vec<T>,
+    kept: Vec<T>,
+}
+
+impl Lent<u64> {
+    /// A list of so many places, full of rubbish. No place is 0.
+    pub fn list(random: &mut Random, places: usize) -> Self {
+        let all = (0..places + 2 * GUARDS)
+            .map(|_| random.next() | 1)
+            .collect();
+        Lent::of(all)
+    }
+}
+
+impl Lent<u8> {
+    /// A byte string, with rubbish around it.
+    pub fn bytes(random: &mut Random, bytes: &[u8]) -> Self {
+        let mut all = random.next().to_le_bytes()[..GUARDS].to_vec();
+        all.extend(bytes);
+        all.extend(&random.next().to_le_bytes()[..GUARDS]);
+        Lent::of(all)
+    }
+}
+
+impl<T: Clone + PartialEq> Lent<T> {
+    fn of(all: Vec<T>) -> Self {
+        let kept = all.clone();
+        Lent { all, kept }
+    }
+
+    /// The part that is lent.
+    pub fn part(&self) -> &[T] {
+        &self.all[GUARDS..self.all.len() - GUARDS]
+    }
+
+    /// The same part, to be written.
+    pub fn part_mut(&mut self) -> &mut [T] {
+        let end = self.all.len() - GUARDS;
+        &mut self.all[GUARDS..end]
+    }
+
+    /// Whether the guards are as they were.
+    pub fn guarded(&self) -> bool {
+        let end = self.all.len() - GUARDS;
+        self.all[..GUARDS] == self.kept[..GUARDS] && self.all[end..] == self.kept[end..]
+    }
+
+    /// Whether everything is as it was.
+    pub fn unchanged(&self) -> bool {
+        self.all == self.kept
+    }
+}

@@ -1,0 +1,22 @@
+//! Compares the proved library with the independent reader.
+//!
+//! A seed and a number give a [`drawing`]: one file and all calls to be made on it. Each call is a case. Both readers answer it,
+//! [`compare`] looks at everything that they gave and at everything that they were lent, [`tally`] counts, and [`run`] saves what
+//! differs.
+
+#![forbid(unsafe_code)]
+#![warn(missing_docs)]
+
+pub mod call;
+pub mod calls;
+pub mod compare;
+pub mod damage;
+pub mod drawing;
+pub mod faults;
+pub mod hostile;
+pub mod lent;
+pub mod queries;
+pub mod run;
+pub mod shapes;
+pub mod strings;
+pub mod tally;

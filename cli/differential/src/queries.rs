@@ -1,0 +1,110 @@
+//! Queries biased to the bounds of a file.
+
+use crate::strings::near;
+use zs_reference::maker::random::Random;
+use zs_reference::maker::{Content, Image};
+use zs_reference::reader::Query;
+
+/// All records and keys of a file.
+pub fn strings_of(image: &Image) -> Vec<Vec<u8>> {
+    let mut strings = Vec::new();
+    for plan in &image.blocks {
+        match &plan.content {
+            Content::Bytes(_) => {}
+            Content::Records(records) => strings.extend(records.iter().cloned()),
+            Content::Entries(entries) => strings.extend(entries.iter().map(|e| e.key.clone())),
+        }
+    }
+    strings
+}
+
+/// A query near the given strings.
+pub fn query(random: &mut Random, strings: &[Vec<u8>]) -> Query {
+    let mut query = Query::default();
+    match random.below(10) {
+        0 => {}
+        1 => query.prefix = part(random, strings),
+        2 => query.start = part(random, strings),
+        3 => query.stop = Some(part(random, strings)),
+        4 => query = around(random, strings),
+        5 | 6 => query = range(random, strings),
+        7 => {
+            query.start = part(random, strings);
+            query.prefix = beginning(random, strings);
+        }
+        8 => {
+            query.stop = Some(part(random, strings));
+            query.prefix = beginning(random, strings);
+        }
+        _ => {
+            query = range(random, strings);
+            query.prefix = beginning(random, strings);
+        }
+    }
+    query
+}
+
+/// One of the strings or near one; sometimes empty, sometimes anything.
+fn part(random: &mut Random, strings: &[Vec<u8>]) -> Vec<u8> {
+    match random.below(16) {
+        0 => Vec::new(),
+        1 => random.string(3),
+        _ => {
+            let string = some(random, strings);
+            near(random, &string)
+        }
+    }
+}
+
+fn some(random: &mut Random, strings: &[Vec<u8>]) -> Vec<u8> {
+    strings
+        .get(random.below(strings.len()))
+        .cloned()
+        .unwrap_or_default()
+}
+
+/// A beginning of one of the strings, short more often than not.
+fn beginning(random: &mut Random, strings: &[Vec<u8>]) -> Vec<u8> {
+    let mut string = some(random, strings);
+    let length = match random.once_in(2) {
+        true => random.below(3),
+        false => random.below(string.len() + 1),
+    };
+    string.truncate(length);
+    string
+}
+
+/// Two parts, the lower one as start; once in a while the other way round.
+fn range(random: &mut Random, strings: &[Vec<u8>]) -> Query {
+    let (one, other) = (part(random, strings), part(random, strings));
+    let turned = random.once_in(12);
+    let (start, stop) = match (one <= other) != turned {
+        true => (one, other),
+        false => (other, one),
+    };
+    Query {
+        start,
+        stop: Some(stop),
+        prefix: Vec::new(),
+    }
+}
+
+/// One string alone: from itself, or just below, to just behind it.
+fn around(random: &mut Random, strings: &[Vec<u8>]) -> Query {
+    let string = some(random, strings);
+    let mut stop = string.clone();
+    stop.push(0x00);
+    let start = match random.once_in(2) {
+        true => string.clone(),
+        false => string[..string.len().saturating_sub(1)].to_vec(),
+    };
+    let prefix = match random.once_in(3) {
+        true => string,
+        false => Vec::new(),
+    };
+    Query {
+        start,
+        stop: Some(stop),
+        prefix,
+    }
+}

@@ -1,0 +1,142 @@
+//! What the makers of files promise: sound shapes are accepted and every unusual one comes up, and nothing depends on chance.
+
+use std::collections::BTreeSet;
+
+use zs_differential::damage::{repair, Repair};
+use zs_differential::drawing::drawing;
+use zs_differential::faults::{faulty, NUMBERS};
+use zs_differential::shapes::shape;
+use zs_reference::maker::random::Random;
+use zs_reference::maker::{Content, Entry, Image, Target};
+use zs_reference::reader::check;
+
+const AMPLE: usize = 1000;
+
+#[test]
+fn sound_shapes_are_accepted_and_none_is_missing() {
+    let mut random = Random::new(1);
+    let mut seen = BTreeSet::new();
+    for _ in 0..600 {
+        let image = shape(&mut random).image();
+        assert_eq!(check(&image.bytes(), AMPLE).number, 0, "{image:?}");
+        note_blocks(&image, &mut seen);
+        note_keys(&image, &mut seen);
+        note_records(&image, &mut seen);
+    }
+    assert_eq!(seen.len(), 15, "{seen:?}");
+}
+
+type Seen = BTreeSet<&'static str>;
+
+fn note(seen: &mut Seen, holds: bool, what: &'static str) {
+    if holds {
+        seen.insert(what);
+    }
+}
+
+/// Levels in file order: where index blocks and reserved blocks stand, and how high the tree is.
+fn note_blocks(image: &Image, seen: &mut Seen) {
+    let levels: Vec<u8> = image.blocks.iter().filter_map(|plan| plan.level).collect();
+    let first = levels.iter().position(|level| *level == 0).unwrap_or(0);
+    let last = levels.iter().rposition(|level| *level == 0).unwrap_or(0);
+    let is_index = |level: &u8| (1..64).contains(level);
+    note(seen, levels[..first].iter().any(is_index), "index ahead");
+    note(
+        seen,
+        levels[first..last].iter().any(is_index),
+        "index between",
+    );
+    note(seen, levels[last..].iter().any(is_index), "index behind");
+    note(
+        seen,
+        levels[first..last].iter().any(|l| *l >= 64),
+        "reserved between",
+    );
+    note(seen, levels.contains(&63), "level 63");
+    note(seen, levels.len() > 15, "many blocks");
+}
+
+fn note_keys(image: &Image, seen: &mut Seen) {
+    for plan in &image.blocks {
+        if let Content::Entries(entries) = &plan.content {
+            note(seen, entries.len() == 1, "one entry");
+            let equal = entries.windows(2).any(|pair| pair[0].key == pair[1].key);
+            note(seen, equal, "equal keys");
+            note(seen, entries.iter().any(|e| e.key.is_empty()), "empty key");
+            for pair in entries.windows(2) {
+                note_child(image, &pair[0], &pair[1].key, seen);
+            }
+        }
+    }
+}
+
+/// Keys of a child that lie outside its own bounds.
+fn note_child(image: &Image, entry: &Entry, upper: &[u8], seen: &mut Seen) {
+    if let Target::Block(child) = entry.target {
+        if let Content::Entries(below) = &image.blocks[child].content {
+            let under = below.iter().any(|e| e.key < entry.key);
+            note(seen, under, "key under its parent's");
+            let over = below.iter().any(|e| e.key.as_slice() > upper);
+            assert!(!over, "the key rule keeps keys at or under the upper bound");
+        }
+    }
+}
+
+fn note_records(image: &Image, seen: &mut Seen) {
+    let mut before: Option<Vec<u8>> = None;
+    for plan in &image.blocks {
+        if let Content::Records(records) = &plan.content {
+            let equal = records.windows(2).any(|pair| pair[0] == pair[1]);
+            note(seen, equal, "equal records");
+            note(
+                seen,
+                before.as_ref() == records.first(),
+                "equal across blocks",
+            );
+            note(seen, records.iter().any(Vec::is_empty), "empty record");
+            note(
+                seen,
+                records.iter().any(|r| r.ends_with(&[0xff, 0xff])),
+                "tail of FF",
+            );
+            note(seen, records.iter().any(|r| r.len() >= 128), "long record");
+            before = records.last().cloned();
+        }
+    }
+}
+
+#[test]
+fn every_fault_can_be_made() {
+    let mut random = Random::new(2);
+    for number in NUMBERS {
+        for _ in 0..20 {
+            let (_, file) = faulty(&mut random, number);
+            assert_eq!(check(&file, AMPLE).number, number);
+        }
+    }
+}
+
+#[test]
+fn repairing_a_sound_file_changes_nothing() {
+    let mut random = Random::new(3);
+    for _ in 0..200 {
+        let file = shape(&mut random).bytes();
+        let mut repaired = file.clone();
+        let what = Repair {
+            blocks: true,
+            hash: true,
+            total: true,
+        };
+        repair(&mut repaired, what);
+        assert_eq!(repaired, file);
+    }
+}
+
+#[test]
+fn a_seed_and_a_number_give_one_drawing() {
+    for number in 0..200 {
+        let (one, other) = (drawing(4, number), drawing(4, number));
+        assert_eq!((one.file, one.calls), (other.file, other.calls));
+        assert!(drawing(5, number).calls.len() > 4);
+    }
+}

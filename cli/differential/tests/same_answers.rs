@@ -1,0 +1,24 @@
+//! The proved library answers as the independent reader does, over files drawn from a fixed seed.
+//! The table of counts is printed; run with `--nocapture` to see it.
+
+use std::path::Path;
+
+use zs_differential::run::Run;
+
+const SEED: u64 = 20_261_115;
+/// Files drawn; each is good for some ten calls.
+const FILES: u64 = 6000;
+const LEAST_CASES: u64 = 20_000;
+
+#[test]
+fn the_same_answers() {
+    let folder = Path::new(env!("CARGO_MANIFEST_DIR")).join("../target/differences");
+    let mut run = Run::new(SEED, folder);
+    for _ in 0..FILES {
+        run.step().expect("a folder to save differences in");
+    }
+    println!("\nseed {SEED}\n{}", run.tally);
+    assert_eq!(run.tally.differing, 0, "cases that differ");
+    assert!(run.tally.cases() >= LEAST_CASES);
+    assert_eq!(run.tally.missing(), Vec::<String>::new(), "too few");
+}
