@@ -65,6 +65,11 @@ unfolding _>>_
 after-assoc (answer a) p q = refl
 after-assoc (refused number place) p q = refl
 
+pub after-bind : {A B C : Type 0} (o : Outcome A) (p : Outcome B) (f : B → Outcome C) → (o >> p >>= f) ≡ (o >> (p >>= f))
+unfolding _>>=_ _>>_
+after-bind (answer a) p f = refl
+after-bind (refused number place) p f = refl
+
 -- an answer behind a stage says that the stage is passed
 pub passed⁻¹ : {A : Type 0} (o : Outcome (Unit {0})) (next : Outcome A) (a : A) → (o >> next) ≡ answer a → (o ≡ answer tt) × (next ≡ answer a)
 unfolding _>>_

@@ -130,6 +130,15 @@ place-some list count number h =
     let room : ltb count (length list) ≡ true = lt-ltb count (length list) h in
     (sym room, sym (ap (λ (b : Bool). cond b (set list count number) list) room))
 
+-- a lent list keeps its length
+pub length-withNumber : (list : List ℕ) (count number : ℕ) → length (withNumber list count number) ≡ length list
+unfolding withNumber
+length-withNumber list count number = go (hasPlace list count)
+  where
+    go : (b : Bool) → length (cond b (set list count number) list) ≡ length list
+    go true = length-set list count number
+    go false = refl
+
 -- a number behind the numbers
 pub withNumber-padded : (room : ℕ) (l : List ℕ) (count number : ℕ) → length l ≡ count → count < room → withNumber (padded room l) count number ≡ padded room (l ++ (number ∷ []))
 withNumber-padded room l count number e h =

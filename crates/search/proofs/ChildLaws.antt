@@ -7,9 +7,10 @@ use mathlib.Core.Option.{Option, none, some}
 use Prim.Native.Nat.{ℕ, _-_, _≤_, _<_}
 use native.Mathlib.Omega.{arith}
 use lib.Dec.{leb, ltb, eqb}
-use lib.ListN.{length, set, replicate, length-set, length-replicate}
+use lib.ListN.{length, replicate, length-replicate}
 use borrow.Author.Tests.{leb-true, ltb-true, lt-ltb}
-use Rattle.output_list.specs.OutputList.{hasPlace, withNumber}
+use Rattle.output_list.specs.OutputList.{withNumber}
+use Rattle.output_list.proofs.OutputListLaws.{length-withNumber}
 use Rattle.outcome.specs.Outcome.{Outcome, answer, refused, _>>=_}
 use Rattle.outcome.proofs.OutcomeLaws.{answer-injective, refused-not-answer, kept, kept⁻¹, bind-answer, bind⁻¹, map-refused⁻¹}
 use Rattle.outcome.proofs.ListsLaws.{both⁻¹}
@@ -100,27 +101,27 @@ module _ (file : List ℕ) (q : Query) (c : Child) (places from place level : �
   abbrev visited : Found → Outcome (Option Frame)
   visited s = opening s >>= λ b. answer (some (b .frame))
 
-  pub visit-passed : (s : Found) → answer none ≡ visitOf file q c places from place level s → admitted file q c ≡ false
+  pub visit-passed⁻¹ : (s : Found) → answer none ≡ visitOf file q c places from place level s → admitted file q c ≡ false
   unfolding visitOf
-  visit-passed s e = go (admitted file q c) refl e
+  visit-passed⁻¹ s e = go (admitted file q c) refl e
     where
       go : (b : Bool) → admitted file q c ≡ b → answer none ≡ cond b (visited s) (answer none) → admitted file q c ≡ false
       go false p h = p
       go true p h = absurd (let all = bind⁻¹ (opening s) (λ b. answer (some (b .frame))) none (sym h) in none-not-some (all .0 .frame) (answer-injective none (some (all .0 .frame)) (sym (all .2))))
 
-  pub visit-refused : (s : Found) (n p : ℕ) → refused n p ≡ visitOf file q c places from place level s
+  pub visit-refused⁻¹ : (s : Found) (n p : ℕ) → refused n p ≡ visitOf file q c places from place level s
       → (admitted file q c ≡ true) × (openBlock file places from 19 place level level (c .offset) (c .size) s ≡ refused n p)
   unfolding visitOf
-  visit-refused s n p e = go (admitted file q c) refl e
+  visit-refused⁻¹ s n p e = go (admitted file q c) refl e
     where
       go : (b : Bool) → admitted file q c ≡ b → refused n p ≡ cond b (visited s) (answer none) → (admitted file q c ≡ true) × (openBlock file places from 19 place level level (c .offset) (c .size) s ≡ refused n p)
       go true a h = (a, map-refused⁻¹ (opening s) (λ b. some (b .frame)) n p (sym h))
       go false a h = absurd (refused-not-answer none n p h)
 
-  pub visit-opened : (s : Found) (f : Frame) → answer (some f) ≡ visitOf file q c places from place level s
+  pub visit-opened⁻¹ : (s : Found) (f : Frame) → answer (some f) ≡ visitOf file q c places from place level s
       → (admitted file q c ≡ true) × IsOpened file places from 19 place level level (c .offset) (c .size) (length (s .opened)) f
   unfolding visitOf
-  visit-opened s f e = go (admitted file q c) refl e
+  visit-opened⁻¹ s f e = go (admitted file q c) refl e
     where
       go : (b : Bool) → admitted file q c ≡ b → answer (some f) ≡ cond b (visited s) (answer none)
           → (admitted file q c ≡ true) × IsOpened file places from 19 place level level (c .offset) (c .size) (length (s .opened)) f
@@ -130,14 +131,6 @@ module _ (file : List ℕ) (q : Query) (c : Child) (places from place level : �
       go false a h = absurd (none-not-some f (answer-injective none (some f) (sym h)))
 
 -- ---- the opened list behind it
-
-pub length-withNumber : (list : List ℕ) (used number : ℕ) → length (withNumber list used number) ≡ length list
-unfolding withNumber
-length-withNumber list used number = go (hasPlace list used)
-  where
-    go : (b : Bool) → length (cond b (set list used number) list) ≡ length list
-    go true = length-set list used number
-    go false = refl
 
 module _ (file : List ℕ) (q : Query) (c : Child) (list : List ℕ) (used : ℕ) where
   pub length-visitedList : length (visitedList file q c list used) ≡ length list

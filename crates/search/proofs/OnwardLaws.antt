@@ -30,7 +30,7 @@ use Rattle.search.specs.declared.walk.Reached.{Reached}
 use Rattle.search.specs.declared.walk.Reached.the-variants.{Going, Stopped}
 use Rattle.search.specs.Search.{Found, withOpened, nextKey, openBlock, walkOf}
 use Rattle.search.specs.Steps.{boundOf, BoundWithin, visitSaid, admitted, visitOf, visitedList, HasRoom, StaysWithin, Holds, Reaches}
-use Rattle.search.proofs.ChildLaws.{opened, opened-many, IsOpened, visit-passed, visit-refused, visit-opened, length-visitedList, visitedList-passed, visitedList-admitted}
+use Rattle.search.proofs.ChildLaws.{opened, opened-many, IsOpened, visit-passed⁻¹, visit-refused⁻¹, visit-opened⁻¹, length-visitedList, visitedList-passed, visitedList-admitted}
 use Rattle.search.proofs.WalkLaws.{Entries, entry-forward, entries-end, entries-next, entries-read, downFrom, through, through-none, through-next}
 
 -- the loop began at `first` with these lists and what was opened and found before
@@ -150,7 +150,7 @@ module _ (file : List ℕ) (q : Query) (from level : ℕ) (above : Bound) (at en
           where
             none-admitted : admitted file q child ≡ false
             none-admitted =
-                visit-passed file q child (length openedNow) from at (level - 1) (opened (p .used)) (sym (ap visitSaid told) ∙ said (opened (p .used)) (opened-many (p .used)))
+                visit-passed⁻¹ file q child (length openedNow) from at (level - 1) (opened (p .used)) (sym (ap visitSaid told) ∙ said (opened (p .used)) (opened-many (p .used)))
 
             same : visited ≡ openedNow
             same = stored ∙ visitedList-passed file q child openedNow (p .used) none-admitted
@@ -175,7 +175,7 @@ module _ (file : List ℕ) (q : Query) (from level : ℕ) (above : Bound) (at en
           where
             go : AtEntry all s → Gives all s ≡ refused number refusedAt
             go x =
-                let r = visit-refused file q child (length openedNow) from at (level - 1) (x .found) number refusedAt (sym (ap visitSaid told) ∙ said (x .found) (x .held .many)) in
+                let r = visit-refused⁻¹ file q child (length openedNow) from at (level - 1) (x .found) number refusedAt (sym (ap visitSaid told) ∙ said (x .found) (x .held .many)) in
                 x .leads
                 ∙ ap (λ (b : Bool). cond b (Down (x .found)) (answer (x .found)) >>= Gives (x .behind)) (r .0)
                 ∙ bind-refused (Down (x .found)) (Gives (x .behind)) number refusedAt
@@ -187,7 +187,7 @@ module _ (file : List ℕ) (q : Query) (from level : ℕ) (above : Bound) (at en
           opening : (admitted file q child ≡ true) × IsOpened file (length openedNow) from 19 at (level - 1) (level - 1) offset size (p .used) c
           unfolding visitSaid
           opening =
-              let r = visit-opened file q child (length openedNow) from at (level - 1) (opened (p .used)) c (sym (ap visitSaid told) ∙ said (opened (p .used)) (opened-many (p .used))) in
+              let r = visit-opened⁻¹ file q child (length openedNow) from at (level - 1) (opened (p .used)) c (sym (ap visitSaid told) ∙ said (opened (p .used)) (opened-many (p .used))) in
               (r .0, subst (λ (k : ℕ). IsOpened file (length openedNow) from 19 at (level - 1) (level - 1) offset size k c) (sym (opened-many (p .used))) (r .1))
 
           pub child-place : p .used < length openedNow

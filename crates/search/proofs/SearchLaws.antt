@@ -8,7 +8,7 @@ use Prim.Native.Nat.{ℕ, _^_, _≤_, _<_}
 use native.Mathlib.Omega.{arith}
 use lib.ListN.{length}
 use Rattle.output_list.specs.OutputList.{padded, zeros, withNumber}
-use Rattle.output_list.proofs.OutputListLaws.{length-zeros, withNumber-padded}
+use Rattle.output_list.proofs.OutputListLaws.{length-withNumber, length-zeros, withNumber-padded}
 use Rattle.outcome.specs.Outcome.{Outcome, answer, refused, numberOf, placeOf, countOf, listOf}
 use Rattle.outcome.proofs.OutcomeLaws.{bind-answer, bind-refused, map-refused⁻¹}
 use Rattle.header.specs.declared.Header.{Header}
@@ -26,7 +26,7 @@ use Rattle.search.specs.declared.walk.Reached.{Reached}
 use Rattle.search.specs.declared.walk.Reached.the-variants.{Going, Stopped}
 use Rattle.search.specs.Search.{Found, nothing, withOpened, openBlock, walkOf, walkFrom, searchOf, searchAnswer, openedList, resultList}
 use Rattle.search.specs.Steps.{boundOf, BoundWithin, openingSaid, frameOf, HasRoom, Holds, Reaches}
-use Rattle.search.proofs.ChildLaws.{IsOpened, frame⇒IsOpened, length-withNumber}
+use Rattle.search.proofs.ChildLaws.{IsOpened, frame⇒IsOpened}
 
 -- ---- the root
 

@@ -10,7 +10,7 @@ use lib.ListN.{length, length-append}
 use lib.Seq.{append-snoc}
 use borrow.Author.Tests.{lt-ltb, le-ltb, ltb-true, ltb-false, le-leb, lt-leb, leb-true, leb-false}
 use Rattle.outcome.specs.Outcome.{Outcome, answer, refused, _>>=_, _>>_, must}
-use Rattle.outcome.proofs.OutcomeLaws.{kept, broken}
+use Rattle.outcome.proofs.OutcomeLaws.{after-bind, kept, broken}
 use Rattle.block.specs.Payload.{Text}
 use Rattle.search.specs.Search.{Found, withOpened, withMatch}
 use Rattle.theorems.proofs.Events.{Event, opens, finds, opensIn, findsIn, run}
@@ -40,11 +40,6 @@ findsIn-finds [] = refl
 findsIn-finds (r ∷ rs) = ap (λ (l : List Text). r ∷ l) (findsIn-finds rs)
 
 -- ---- one list of events behind another
-
-pub after-bind : {A B C : Type 0} (o : Outcome A) (p : Outcome B) (f : B → Outcome C) → (o >> p >>= f) ≡ (o >> (p >>= f))
-unfolding _>>=_ _>>_
-after-bind (answer a) p f = refl
-after-bind (refused number place) p f = refl
 
 module _ (places room : ℕ) where
   pub run-append : (es fs : List Event) (s : Found) → run places room (es ++ fs) s ≡ (run places room es s >>= run places room fs)

@@ -10,7 +10,7 @@ use lib.Dec.{leb, ltb, eqb}
 use lib.ListN.{length}
 use borrow.Author.Tests.{lt-ltb, le-leb, eq-eqb}
 use Rattle.outcome.specs.Outcome.{Outcome, answer, _>>=_, _>>_, must}
-use Rattle.outcome.proofs.OutcomeLaws.{kept, bind-answer, bind-same}
+use Rattle.outcome.proofs.OutcomeLaws.{after-bind, kept, bind-answer, bind-same}
 use Rattle.outcome.proofs.ListsLaws.{both}
 use Rattle.header.specs.Header.{headerOf, blocksFrom, numberAt}
 use Rattle.header.proofs.HeaderLaws.{blocks-within}
@@ -30,7 +30,7 @@ use Rattle.checker.proofs.TreeLaws.{Tree, entries-at, records-at, level-at, chi
 use Rattle.theorems.proofs.AcceptLaws.{Accepted⇒Rules, accepted⇒Accepted}
 use Rattle.theorems.proofs.TreeFile.{rules⇒Tree}
 use Rattle.theorems.proofs.Events.{Event, opens, finds, eventsOver, eventsOf, searchEvents, run}
-use Rattle.theorems.proofs.EventsLaws.{after-bind, run-append}
+use Rattle.theorems.proofs.EventsLaws.{run-append}
 
 -- ---- the matches of a block, and the entries of a block
 
