@@ -11,12 +11,13 @@ use Rattle.outcome.specs.Outcome.{Outcome, answer, refused, _>>=_}
 use Rattle.outcome.specs.Items.{Step, itemsFrom}
 use Rattle.outcome.proofs.OutcomeLaws.{answer-injective, kept⁻¹, bind-answer, bind-refused, bind⁻¹, map-refused⁻¹}
 use Rattle.outcome.proofs.ItemsLaws.{items-length}
-use Rattle.block.specs.declared.Frame.{Frame}
-use Rattle.block.specs.Frame.{soundFrameAt}
-use Rattle.block.specs.Payload.{Text, payloadAt, recordsAt, entriesAt}
+use Rattle.framing.specs.declared.Frame.{Frame}
+use Rattle.framing.specs.Frame.{soundFrameAt}
+use Rattle.payload.specs.Payload.{Text, payloadAt, recordsAt, entriesAt}
 use Rattle.block.specs.Block.{Block, isData, isOrdinary, blockIn, blockAt}
-use Rattle.block.specs.Answers.{counted, Tallied, tallied}
-use Rattle.block.proofs.FrameLaws.{Framed, frame⇒Framed, soundFrame⁻¹}
+use Rattle.payload.specs.Answers.{counted}
+use Rattle.block.specs.Answers.{Tallied, tallied}
+use Rattle.framing.proofs.FrameLaws.{Framed, frame⇒Framed, soundFrame⁻¹}
 
 -- ---- levels
 

@@ -14,13 +14,13 @@ use Rattle.outcome.specs.Items.{Step, soundFrom}
 use Rattle.outcome.proofs.OutcomeLaws.{answer-injective, bind⁻¹}
 use Rattle.outcome.proofs.ItemsLaws.{Row, items⇒row, row⇒items, row-change, row-some, items⇒sound}
 use Rattle.outcome.proofs.ListsLaws.{AscendingIn, ascending-wider}
-use Rattle.block.specs.declared.Frame.{Frame}
-use Rattle.block.specs.Frame.{frameAt}
-use Rattle.block.specs.Payload.{Text, Entry, textAt, entryAt, payloadAt, recordsAt, entriesAt, rising}
+use Rattle.framing.specs.declared.Frame.{Frame}
+use Rattle.framing.specs.Frame.{frameAt}
+use Rattle.payload.specs.Payload.{Text, Entry, textAt, entryAt, payloadAt, recordsAt, entriesAt, rising}
 use Rattle.block.specs.Block.{Block, blockAt}
-use Rattle.block.proofs.FrameLaws.{Framed, soundFrame⁻¹}
+use Rattle.framing.proofs.FrameLaws.{Framed, soundFrame⁻¹}
 use Rattle.block.proofs.BlockLaws.{BlockRead, block⇒BlockRead, data-level, not-data-level, ordinary-level, reserved-level, block-data, block-index, block-reserved}
-use Rattle.block.proofs.ReadLaws.{Stands, stands-wider, stands-take, Filled, payload⁻¹, steps-forward, row-ascending, row-stands, text-stands, text-within, text-any-place, key-stands, entry-within, entry-any-place}
+use Rattle.payload.proofs.ReadLaws.{Stands, stands-wider, stands-take, Filled, payload⁻¹, steps-forward, row-ascending, row-stands, text-stands, text-within, text-any-place, key-stands, entry-within, entry-any-place}
 
 -- ---- the items of a payload
 

@@ -1,11 +1,7 @@
--- Laws of frames, payloads and blocks.
-pub mod FrameLaws
-pub mod PayloadLaws
-pub mod ScanLaws
+-- Laws of blocks.
 pub mod BlockLaws
 pub mod SurveyLaws
 pub mod LocalLaws
-pub mod ReadLaws
 pub mod HeldLaws
 pub mod TileLaws
 pub mod RefusalLaws

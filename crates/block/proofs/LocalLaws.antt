@@ -17,12 +17,12 @@ use Rattle.outcome.specs.Items.{Step, part, soundFrom}
 use Rattle.outcome.proofs.OutcomeLaws.{bind-answer, bind-same, bind⁻¹}
 use Rattle.outcome.proofs.PartLaws.{drop-take, drop-later, part-later, getD-inside, part-inside}
 use Rattle.outcome.proofs.ItemsLaws.{items-agree, sound-agree}
-use Rattle.block.specs.declared.Frame.{Frame}
-use Rattle.block.specs.Frame.{readAs, numberAt, framed, frameAt, crcRight, soundFrameAt}
-use Rattle.block.specs.Payload.{Text, Entry, textAt, entryAt, entrySized, payloadAt, recordsAt, entriesAt, rising}
+use Rattle.framing.specs.declared.Frame.{Frame}
+use Rattle.framing.specs.Frame.{readAs, numberAt, framed, frameAt, crcRight, soundFrameAt}
+use Rattle.payload.specs.Payload.{Text, Entry, textAt, entryAt, entrySized, payloadAt, recordsAt, entriesAt, rising}
 use Rattle.block.specs.Block.{Block, isData, isOrdinary, blockIn, blockAt}
-use Rattle.block.proofs.FrameLaws.{numbered, number-read, Framed, frame⇒Framed, framed-found, framed⁻¹, frameOf, sound-frame, soundFrame⁻¹}
-use Rattle.block.proofs.PayloadLaws.{text⇒Placed, entry⇒Entered}
+use Rattle.framing.proofs.FrameLaws.{numbered, number-read, Framed, frame⇒Framed, framed-found, framed⁻¹, frameOf, sound-frame, soundFrame⁻¹}
+use Rattle.payload.proofs.PayloadLaws.{text⇒Placed, entry⇒Entered}
 use Rattle.block.proofs.BlockLaws.{block⇒BlockRead}
 
 -- ---- byte strings of the same length that agree from an offset on

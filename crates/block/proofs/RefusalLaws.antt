@@ -12,9 +12,9 @@ use Rattle.uleb128.specs.Number.{Reading, number, cutOff, reading, continuing, 
 use Rattle.uleb128.specs.Number.{refused as badNumber}
 use Rattle.outcome.specs.Outcome.{Outcome, answer, _>>=_}
 use Rattle.outcome.specs.Items.{Step, itemsFrom}
-use Rattle.block.specs.declared.Frame.{Frame}
-use Rattle.block.specs.Frame.{readAs, numberAt, framed, frameAt, soundFrameAt}
-use Rattle.block.specs.Payload.{Text, textAt, entryAt, entrySized, payloadAt, recordsAt, entriesAt}
+use Rattle.framing.specs.declared.Frame.{Frame}
+use Rattle.framing.specs.Frame.{readAs, numberAt, framed, frameAt, soundFrameAt}
+use Rattle.payload.specs.Payload.{Text, textAt, entryAt, entrySized, payloadAt, recordsAt, entriesAt}
 use Rattle.block.specs.Block.{Block, isData, isOrdinary, blockIn, blockAt, blockStep, blocksAt}
 use Rattle.outcome.proofs.RefusalLaws.{Refuses, refuses-answer, refuses-refused, refuses-bind, refuses-rule, refuses-items}
 

@@ -13,13 +13,13 @@ use Rattle.outcome.specs.Lists.{keep, any}
 use Rattle.outcome.proofs.OutcomeLaws.{answer-injective, bind-answer, bind-refused, bind⁻¹, map-refused⁻¹}
 use Rattle.outcome.proofs.ItemsLaws.{Progress, progress-start, progress-more, progress-end, progress-refused}
 use Rattle.outcome.proofs.ListsLaws.{keep-append, any-append, flatMap-append}
-use Rattle.block.specs.declared.Frame.{Frame}
+use Rattle.framing.specs.declared.Frame.{Frame}
 use Rattle.block.specs.declared.Survey.{Survey}
-use Rattle.block.specs.Payload.{Text}
+use Rattle.payload.specs.Payload.{Text}
 use Rattle.block.specs.Block.{Block, isOrdinary, blockAt, blockStep, blocksAt}
 use Rattle.block.specs.Survey.{ordinary, recordsOf, isRoot, surveyed, surveyOf}
 use Rattle.block.specs.Answers.{Tallied, tallied}
-use Rattle.block.proofs.FrameLaws.{Framed}
+use Rattle.framing.proofs.FrameLaws.{Framed}
 use Rattle.block.proofs.BlockLaws.{BlockRead, block⇒BlockRead}
 
 -- ---- the root

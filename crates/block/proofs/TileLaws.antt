@@ -11,11 +11,11 @@ use Rattle.outcome.specs.Items.{Step}
 use Rattle.outcome.proofs.OutcomeLaws.{answer-injective, bind⁻¹}
 use Rattle.outcome.proofs.ItemsLaws.{Row, row-end, row-more, items⇒row, ReadFrom, row-member}
 use Rattle.outcome.proofs.ListsLaws.{Ascending, AscendingIn, ascending-wider, ascending-append, ascending-all, ascending-unique, flatMap-member, member-flatMap}
-use Rattle.block.specs.Payload.{Text}
+use Rattle.payload.specs.Payload.{Text}
 use Rattle.block.specs.Block.{Block, blockAt, blockStep, blocksAt}
 use Rattle.block.specs.Survey.{recordsOf}
 use Rattle.block.proofs.BlockLaws.{block⇒BlockRead}
-use Rattle.block.proofs.ReadLaws.{Stands, stands-wider}
+use Rattle.payload.proofs.ReadLaws.{Stands, stands-wider}
 use Rattle.block.proofs.HeldLaws.{record-in-block, records-ascending}
 
 -- ---- tiles

@@ -6,9 +6,9 @@ use lib.Dec.{leb, eqb}
 use lib.ListN.{length, take}
 use Rattle.outcome.specs.Outcome.{Outcome, answer, _>>=_}
 use Rattle.outcome.specs.Items.{Step, itemsFrom}
-use Rattle.block.specs.declared.Frame.{Frame}
-use Rattle.block.specs.Frame.{soundFrameAt}
-use Rattle.block.specs.Payload.{Text, Entry, recordsAt, entriesAt}
+use Rattle.framing.specs.declared.Frame.{Frame}
+use Rattle.framing.specs.Frame.{soundFrameAt}
+use Rattle.payload.specs.Payload.{Text, Entry, recordsAt, entriesAt}
 
 -- level 0 is data, 1 to 63 index; both are ordinary, and higher levels are reserved
 unfoldable pub isData : ℕ → Bool

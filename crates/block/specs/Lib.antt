@@ -1,6 +1,4 @@
--- The meaning of a block: its frame, the records or entries of its payload, and the blocks of a file.
-pub mod Frame
-pub mod Payload
+-- The meaning of a block, and the blocks of a file.
 pub mod Block
 pub mod Survey
 pub mod Answers

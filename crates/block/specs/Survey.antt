@@ -6,9 +6,9 @@ use lib.Dec.{leb, eqb}
 use lib.ListN.{length}
 use Rattle.outcome.specs.Outcome.{Outcome, answer, _>>=_}
 use Rattle.outcome.specs.Lists.{keep, any}
-use Rattle.block.specs.declared.Frame.{Frame}
+use Rattle.framing.specs.declared.Frame.{Frame}
 use Rattle.block.specs.declared.Survey.{Survey}
-use Rattle.block.specs.Payload.{Text}
+use Rattle.payload.specs.Payload.{Text}
 use Rattle.block.specs.Block.{Block, isOrdinary, blocksAt}
 
 -- the ordinary blocks, in file order

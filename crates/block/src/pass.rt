@@ -6,13 +6,13 @@ ghost use lib.ListN.{length};
 ghost use Rattle.block.specs.Block as blocks;
 ghost use Rattle.block.specs.Survey as surveys;
 ghost use Rattle.block.specs.Answers as answers;
-use crate::Frame;
 use crate::Survey;
-use crate::framing::FrameOutcome;
-use crate::framing::sound_frame_at;
-use crate::payload::PayloadOutcome;
-use crate::payload::entries_at;
-use crate::payload::records_at;
+use framing::Frame;
+use framing::FrameOutcome;
+use framing::sound_frame_at;
+use payload::PayloadOutcome;
+use payload::entries_at;
+use payload::records_at;
 
 pub enum BlockOutcome {
     // A sound block, and how many records it has.

@@ -17,9 +17,10 @@ use Rattle.block.specs.declared.Survey.{Survey}
 use Rattle.block.specs.Block.{Block, blocksAt}
 use Rattle.block.specs.Survey.{ordinary, recordsOf, surveyed, surveyOf}
 use Rattle.checker.specs.declared.CheckAnswer.{CheckAnswer}
-use Rattle.checker.specs.declared.Fault.{Fault}
-use Rattle.checker.specs.Check.{treeOf, hasRoot, checkOf, checkAnswer}
-use Rattle.checker.specs.Fault.{faultOf}
+use Rattle.tree.specs.declared.Fault.{Fault}
+use Rattle.tree.specs.Stages.{treeOf, hasRoot}
+use Rattle.checker.specs.Check.{checkOf, checkAnswer}
+use Rattle.tree.specs.Fault.{faultOf}
 use Rattle.checker.proofs.StageLaws.{fault-none, fault-some}
 
 -- ---- what is reported

@@ -16,11 +16,11 @@ use Rattle.header.specs.Header.{headerOf, blocksFrom}
 use Rattle.header.proofs.HeaderLaws.{is-header}
 use Rattle.block.specs.Block.{Block, isOrdinary, blocksAt}
 use Rattle.block.specs.Survey.{ordinary, isRoot}
-use Rattle.checker.specs.declared.Fault.{Fault}
-use Rattle.checker.specs.Check.{each, entriesFit, namedRightly, treeOf, hasRoot}
-use Rattle.checker.specs.Fault.{faultOf}
-use Rattle.checker.specs.Names.{namingOf}
-use Rattle.checker.specs.Walk.{walkOf, Ready}
+use Rattle.tree.specs.declared.Fault.{Fault}
+use Rattle.tree.specs.Stages.{each, entriesFit, namedRightly, treeOf, hasRoot}
+use Rattle.tree.specs.Fault.{faultOf}
+use Rattle.naming.specs.Names.{namingOf}
+use Rattle.walking.specs.Walk.{walkOf, Ready}
 
 -- 19 and 20, then 22 to 25
 pub naming-then-walk : (file : List ℕ) (h : Header) (bs : List Block) → treeOf file h bs ≡ (namingOf bs (h .root) >> walkOf file (h .root) bs)

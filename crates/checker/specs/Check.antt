@@ -1,74 +1,14 @@
 -- The check: refusals 1 to 25 in the checking order.
-use Prim.Native.Nat.{ℕ, suc, _+_, _-_}
-use mathlib.Core.Bool.{Bool, cond}
-use mathlib.Core.List.{List, [], _∷_, flatMap}
-use lib.Dec.{leb, eqb}
-use lib.ListN.{length, drop}
-use Rattle.byte_order.specs.Order.{atMost, begins}
-use Rattle.sha256.specs.Sha256.{sha256}
+use Prim.Native.Nat.{ℕ}
+use mathlib.Core.List.{List}
+use lib.Dec.{leb}
+use lib.ListN.{length}
 use Rattle.outcome.specs.Outcome.{Outcome, answer, _>>=_, _>>_, must, numberOf, placeOf, countOf}
-use Rattle.outcome.specs.Items.{part}
-use Rattle.outcome.specs.Lists.{keep, any, all}
-use Rattle.header.specs.declared.Header.{Header}
 use Rattle.header.specs.Header.{headerOf, blocksFrom}
-use Rattle.block.specs.Block.{Block, isData, blocksAt}
-use Rattle.block.specs.Survey.{ordinary, recordsOf, isRoot}
+use Rattle.block.specs.Block.{Block, blocksAt}
+use Rattle.block.specs.Survey.{ordinary, recordsOf}
 use Rattle.checker.specs.declared.CheckAnswer.{CheckAnswer}
-use Rattle.checker.specs.Tree.{levelAt, names, namings, leaves, under, keyFits}
-
--- a rule for each block in file order: the first that breaks it is the place
-unfoldable pub each : (Block → Bool) → (number : ℕ) → List Block → Outcome (Unit {0})
-each rule number [] = answer tt
-each rule number (b ∷ bs) = must (rule b) number (b .frame .start) >> each rule number bs
-
--- 19: every entry of the block names a fitting block
-unfoldable pub entriesFit : List Block → Block → Bool
-entriesFit bs b = all (names bs (b .frame .level)) (b .entries)
-
--- 20: the block is named once, the root not at all
-unfoldable pub namedRightly : List Block → (root : ℕ) → Block → Bool
-namedRightly bs root b = eqb (namings bs (b .frame .start)) (cond (eqb (b .frame .start) root) 0 1)
-
--- 22: each offset is at least the least that is allowed, which is one more than the offset before it
-unfoldable pub ascending : (least : ℕ) → List ℕ → Outcome (Unit {0})
-ascending least [] = answer tt
-ascending least (at ∷ rest) = must (leb least at) 22 at >> ascending (suc at) rest
-
--- every record of a is at most every record of b
-unfoldable pub allAtMost : Block → Block → Bool
-allAtMost a b = all (λ r. all (λ s. atMost (r .bytes) (s .bytes)) (b .records)) (a .records)
-
--- 23 for a and the data blocks behind it, each against the one before
-unfoldable pub neighboursOf : Block → List Block → Outcome (Unit {0})
-neighboursOf a [] = answer tt
-neighboursOf a (b ∷ bs) = must (allAtMost a b) 23 (b .frame .start) >> neighboursOf b bs
-
--- 23: the records of each data block are at most those of the next
-unfoldable pub neighbours : List Block → Outcome (Unit {0})
-neighbours [] = answer tt
-neighbours (a ∷ bs) = neighboursOf a bs
-
--- 24: every entry of the block keeps the key rule
-unfoldable pub keysFit : List Block → Block → Bool
-keysFit bs b = all (λ e. keyFits bs (e .key .bytes) (under bs (b .frame .level - 1) (e .offset))) (b .entries)
-
--- 25: the payloads of the data blocks, joined in file order
-unfoldable pub payloads : List ℕ → List Block → List ℕ
-payloads file bs = flatMap (λ b. cond (isData (b .frame .level)) (part file (b .frame .body + 1) (b .frame .end - (b .frame .body + 1))) []) bs
-
--- 19 to 25
-unfoldable pub treeOf : List ℕ → Header → List Block → Outcome (Unit {0})
-treeOf file h bs = do
-  each (entriesFit bs) 19 (ordinary bs)
-  each (namedRightly bs (h .root)) 20 (ordinary bs)
-  ascending 0 (leaves bs (levelAt bs (h .root)) (h .root))
-  neighbours (keep (λ b. isData (b .frame .level)) bs)
-  each (keysFit bs) 24 (ordinary bs)
-  must (begins (sha256 (payloads file bs)) (drop 40 file)) 25 0
-
--- 17: the root's place and size are an index block's
-unfoldable pub hasRoot : Header → List Block → Bool
-hasRoot h bs = any (λ b. isRoot (h .root) (h .rootsize) (b .frame)) bs
+use Rattle.tree.specs.Stages.{treeOf, hasRoot}
 
 -- Acceptance: none of 1 to 17 and 19 to 25 applies. The answer is the file's blocks in file order. No work list comes in.
 unfoldable pub acceptOf : List ℕ → Outcome (List Block)

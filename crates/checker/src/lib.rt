@@ -1,8 +1,5 @@
-// The check: refusals 1 to 25 in the checking order. The header, the block stage, then 17 and 18 here, 19 and 20 (`names`), and 22 to
-// 25 (`walk`, over `ascent`, `keys` and `hash`).
-//
-// The work list holds a word for each ordinary block, in file order: its start, and 2^30 times how many entries name it (0, 1, or 2 for
-// more). It is cleared at the end.
+// The check: refusals 1 to 25 in the checking order. The header, the block stage, then 17 and 18 here, 19 and 20 (crate `naming`), and 22
+// to 25 (crate `walking`). The work list is cleared at the end.
 ghost use Prim.Native.Nat.{_≤_};
 ghost use mathlib.Core.Path.{_≡_};
 ghost use mathlib.Core.Bool.{true};
@@ -13,29 +10,16 @@ ghost use Rattle.outcome.specs.Outcome.{answer};
 ghost use Rattle.header.specs.Header.{headerOf, blocksFrom};
 ghost use Rattle.block.specs.Block.{Block, blocksAt};
 ghost use Rattle.block.specs.Survey.{ordinary};
-ghost use Rattle.checker.specs.Check.{treeOf, hasRoot, checkOf, checkAnswer};
-ghost use Rattle.checker.specs.Fault.{faultOf};
-
-mod ascent;
-mod hash;
-mod keys;
-mod lookup;
-mod names;
-mod starts;
-mod walk;
-
-use crate::names::naming_fault;
-use crate::walk::walk_fault;
+ghost use Rattle.tree.specs.Stages.{treeOf, hasRoot};
+ghost use Rattle.checker.specs.Check.{checkOf, checkAnswer};
+ghost use Rattle.tree.specs.Fault.{faultOf};
 use block::pass::SurveyOutcome;
 use block::pass::survey;
 use header::Header;
 use header::HeaderOutcome;
-
-// A refusal's number and place; without one both are 0.
-pub struct Fault {
-    pub number: u64,
-    pub place: u64,
-}
+use naming::names::naming_fault;
+use tree::Fault;
+use walking::walk::walk_fault;
 
 // Number and place of a refusal, both 0 without one, and how many ordinary blocks and records the file has, both 0 after one.
 #[repr(C)]

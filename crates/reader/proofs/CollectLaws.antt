@@ -8,7 +8,7 @@ use lib.ListN.{length}
 use Rattle.outcome.specs.Outcome.{Outcome, answer, refused}
 use Rattle.outcome.specs.Items.{Step, soundFrom}
 use Rattle.outcome.proofs.ItemsLaws.{sound-end, sound-step, sound-refused}
-use Rattle.block.specs.Payload.{Text}
+use Rattle.payload.specs.Payload.{Text}
 use Rattle.query.specs.Query.{Query}
 use Rattle.reader.specs.Read.{matching}
 use Rattle.reader.specs.Collect.{Stored, putAll}

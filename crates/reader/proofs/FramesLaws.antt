@@ -10,10 +10,10 @@ use lib.ListN.{length, take, length-take}
 use Rattle.outcome.specs.Outcome.{Outcome, answer, refused}
 use Rattle.outcome.specs.Items.{Step, soundFrom, whereAnswered}
 use Rattle.outcome.proofs.OutcomeLaws.{bind-answer, bind-refused}
-use Rattle.block.specs.declared.Frame.{Frame}
-use Rattle.block.specs.Frame.{frameAt}
-use Rattle.block.specs.Payload.{textAt}
-use Rattle.block.proofs.FrameLaws.{frame⇒Framed}
+use Rattle.framing.specs.declared.Frame.{Frame}
+use Rattle.framing.specs.Frame.{frameAt}
+use Rattle.payload.specs.Payload.{textAt}
+use Rattle.framing.proofs.FrameLaws.{frame⇒Framed}
 use Rattle.block.proofs.BlockLaws.{data-level, not-data-level}
 use Rattle.query.specs.Query.{Query}
 use Rattle.reader.specs.Read.{matching}

@@ -9,11 +9,11 @@ use Rattle.outcome.specs.Outcome.{Outcome, answer}
 use Rattle.outcome.specs.Items.{Step, itemsFrom, soundFrom}
 use Rattle.outcome.proofs.OutcomeLaws.{answer-injective, kept⁻¹, bind⁻¹}
 use Rattle.outcome.proofs.ItemsLaws.{Read, at-end, one-more, items⁻¹, items⇒sound, sound-end, sound-step}
-use Rattle.block.specs.declared.Frame.{Frame}
-use Rattle.block.specs.Payload.{Text, textAt, payloadAt, recordsAt, entriesAt}
+use Rattle.framing.specs.declared.Frame.{Frame}
+use Rattle.payload.specs.Payload.{Text, textAt, payloadAt, recordsAt, entriesAt}
 use Rattle.block.specs.Block.{Block, isData, isOrdinary, blockIn, blockAt, blockStep, blocksAt}
 use Rattle.block.specs.Survey.{recordsOf}
-use Rattle.block.proofs.FrameLaws.{soundFrame⁻¹}
+use Rattle.framing.proofs.FrameLaws.{soundFrame⁻¹}
 use Rattle.block.proofs.BlockLaws.{block-data, block-index, block-reserved, block⇒BlockRead}
 use Rattle.reader.specs.Collect.{recordsFrom, recordsIn, laidAt, laidFrom}
 use Rattle.reader.proofs.FramesLaws.{laid-found}

@@ -9,7 +9,7 @@ use native.Mathlib.Omega.{arith}
 use lib.ListN.{length}
 use Rattle.outcome.specs.Lists.{keep}
 use Rattle.outcome.proofs.ListsLaws.{keep-append}
-use Rattle.block.specs.Payload.{Text}
+use Rattle.payload.specs.Payload.{Text}
 use Rattle.query.specs.Query.{Query, matches}
 use Rattle.reader.specs.Read.{matching}
 

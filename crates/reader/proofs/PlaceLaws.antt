@@ -14,14 +14,14 @@ use Rattle.outcome.specs.Items.{Step, part, soundFrom}
 use Rattle.outcome.proofs.OutcomeLaws.{answer-injective, bind⁻¹}
 use Rattle.outcome.proofs.ItemsLaws.{sound-end, sound-step, sound-refused}
 use Rattle.outcome.proofs.PartLaws.{part-take}
-use Rattle.block.specs.declared.Frame.{Frame}
-use Rattle.block.specs.Frame.{frameAt}
-use Rattle.block.specs.Payload.{Text, textAt}
+use Rattle.framing.specs.declared.Frame.{Frame}
+use Rattle.framing.specs.Frame.{frameAt}
+use Rattle.payload.specs.Payload.{Text, textAt}
 use Rattle.block.specs.Block.{Block, isData, blocksAt}
 use Rattle.block.specs.Survey.{recordsOf}
-use Rattle.block.specs.Answers.{textIn}
-use Rattle.block.proofs.FrameLaws.{Framed, frame⇒Framed}
-use Rattle.block.proofs.PayloadLaws.{text⇒Placed}
+use Rattle.payload.specs.Answers.{textIn}
+use Rattle.framing.proofs.FrameLaws.{Framed, frame⇒Framed}
+use Rattle.payload.proofs.PayloadLaws.{text⇒Placed}
 use Rattle.query.specs.Query.{Query, matches}
 use Rattle.outcome.specs.Lists.{keep}
 use Rattle.reader.specs.Read.{matching}

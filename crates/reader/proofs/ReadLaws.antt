@@ -14,7 +14,7 @@ use Rattle.outcome.proofs.OutcomeLaws.{kept, broken, bind-answer, bind-refused,
 use Rattle.header.specs.declared.Header.{Header}
 use Rattle.header.specs.Header.{headerOf, blocksFrom}
 use Rattle.block.specs.declared.Survey.{Survey}
-use Rattle.block.specs.Payload.{Text}
+use Rattle.payload.specs.Payload.{Text}
 use Rattle.block.specs.Block.{Block, blocksAt}
 use Rattle.block.specs.Survey.{recordsOf, surveyed, surveyOf}
 use Rattle.query.specs.Query.{Query}

@@ -16,7 +16,7 @@ use Rattle.outcome.proofs.OutcomeLaws.{answer-injective, answer-not-refused, bi
 use Rattle.header.specs.declared.Header.{Header}
 use Rattle.header.specs.Header.{headerOf, blocksFrom}
 use Rattle.header.proofs.HeaderLaws.{blocks-within}
-use Rattle.block.specs.Payload.{Text}
+use Rattle.payload.specs.Payload.{Text}
 use Rattle.block.specs.Block.{Block, blocksAt}
 use Rattle.block.specs.Survey.{recordsOf}
 use Rattle.query.specs.Query.{Query, matches}

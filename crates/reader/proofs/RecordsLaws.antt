@@ -11,9 +11,9 @@ use Rattle.output_list.proofs.OutputListLaws.{length-withPair}
 use Rattle.outcome.specs.Outcome.{answer, refused}
 use Rattle.outcome.specs.Items.{soundFrom}
 use Rattle.outcome.proofs.PartLaws.{length-part}
-use Rattle.block.specs.Payload.{textAt}
-use Rattle.block.specs.Answers.{textIn}
-use Rattle.block.proofs.PayloadLaws.{text⇒Placed}
+use Rattle.payload.specs.Payload.{textAt}
+use Rattle.payload.specs.Answers.{textIn}
+use Rattle.payload.proofs.PayloadLaws.{text⇒Placed}
 use Rattle.query.specs.Query.{Query, matches}
 use Rattle.reader.specs.Read.{matching}
 use Rattle.reader.specs.Collect.{Stored, put, putAll, recordsFrom}

@@ -13,7 +13,7 @@ use borrow.Author.Tests.{leb-true, leb-false}
 use Rattle.output_list.specs.OutputList.{withPair, padded, zeros}
 use Rattle.output_list.proofs.OutputListLaws.{length-withPair, length-padded, padded-nil, withPair-padded, withPair-full}
 use Rattle.outcome.proofs.ListsLaws.{flatMap-append}
-use Rattle.block.specs.Payload.{Text}
+use Rattle.payload.specs.Payload.{Text}
 use Rattle.reader.specs.Read.{numbersOf}
 use Rattle.reader.specs.Collect.{Stored, put, putAll}
 

@@ -6,9 +6,9 @@ use lib.ListN.{length, take}
 use Rattle.output_list.specs.OutputList.{withPair}
 use Rattle.outcome.specs.Outcome.{Outcome, answer, _>>=_}
 use Rattle.outcome.specs.Items.{Step, soundFrom}
-use Rattle.block.specs.declared.Frame.{Frame}
-use Rattle.block.specs.Frame.{frameAt}
-use Rattle.block.specs.Payload.{Text, textAt}
+use Rattle.framing.specs.declared.Frame.{Frame}
+use Rattle.framing.specs.Frame.{frameAt}
+use Rattle.payload.specs.Payload.{Text, textAt}
 use Rattle.block.specs.Block.{isData}
 
 -- how many matches there were, and the list

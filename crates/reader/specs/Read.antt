@@ -7,7 +7,7 @@ use Rattle.outcome.specs.Outcome.{Outcome, answer, _>>=_, _>>_, must, numberOf,
 use Rattle.outcome.specs.Lists.{keep}
 use Rattle.header.specs.declared.Header.{Header}
 use Rattle.header.specs.Header.{headerOf, blocksFrom}
-use Rattle.block.specs.Payload.{Text}
+use Rattle.payload.specs.Payload.{Text}
 use Rattle.block.specs.Block.{blocksAt}
 use Rattle.block.specs.Survey.{recordsOf}
 use Rattle.query.specs.Query.{Query, matches}

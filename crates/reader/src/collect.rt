@@ -5,10 +5,10 @@ ghost use mathlib.Core.Path.{_≡_};
 ghost use Rattle.query.specs.Query.{queryOf};
 ghost use Rattle.reader.specs.Read.{matching};
 ghost use Rattle.reader.specs.Collect.{Stored, putAll, recordsFrom, laidFrom};
-use block::framing::FrameOutcome;
-use block::framing::frame_at;
-use block::payload::TextStep;
-use block::payload::text_at;
+use framing::FrameOutcome;
+use framing::frame_at;
+use payload::TextStep;
+use payload::text_at;
 
 // Puts the matching records from an offset to the end of `s` behind `count` matches; answers how many matches there are then.
 pub fn collect_records(

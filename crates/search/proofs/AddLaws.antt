@@ -11,7 +11,7 @@ use lib.Seq.{append-snoc}
 use borrow.Author.Tests.{le-leb, leb-true}
 use Rattle.outcome.specs.Outcome.{answer, refused}
 use Rattle.outcome.proofs.OutcomeLaws.{kept, broken}
-use Rattle.block.specs.Payload.{Text}
+use Rattle.payload.specs.Payload.{Text}
 use Rattle.search.specs.Search.{Found, withMatch, addMatches}
 
 -- there are two places for each match: all are added

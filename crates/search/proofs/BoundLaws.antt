@@ -12,10 +12,10 @@ use Rattle.outcome.specs.Items.{Step, part, itemsFrom}
 use Rattle.outcome.proofs.OutcomeLaws.{answer-injective, refused-not-answer}
 use Rattle.outcome.proofs.ItemsLaws.{Read, at-end, one-more, items⁻¹, items-end}
 use Rattle.outcome.proofs.PartLaws.{part-take}
-use Rattle.block.specs.Payload.{Text, Entry, textAt, entryAt}
-use Rattle.block.specs.Answers.{textIn}
-use Rattle.block.proofs.PayloadLaws.{text⇒Placed}
-use Rattle.block.proofs.ReadLaws.{entry⁻¹}
+use Rattle.payload.specs.Payload.{Text, Entry, textAt, entryAt}
+use Rattle.payload.specs.Answers.{textIn}
+use Rattle.payload.proofs.PayloadLaws.{text⇒Placed}
+use Rattle.payload.proofs.ReadLaws.{entry⁻¹}
 use Rattle.query.specs.Query.{Query, given}
 use Rattle.query.specs.Opening.{mayMatch}
 use Rattle.reader.proofs.RecordLaws.{lent-part}

@@ -14,8 +14,8 @@ use Rattle.output_list.proofs.OutputListLaws.{length-withNumber}
 use Rattle.outcome.specs.Outcome.{Outcome, answer, refused, _>>=_}
 use Rattle.outcome.proofs.OutcomeLaws.{answer-injective, refused-not-answer, kept, kept⁻¹, bind-answer, bind⁻¹, map-refused⁻¹}
 use Rattle.outcome.proofs.ListsLaws.{both⁻¹}
-use Rattle.block.specs.declared.Frame.{Frame}
-use Rattle.block.specs.Frame.{soundFrameAt}
+use Rattle.framing.specs.declared.Frame.{Frame}
+use Rattle.framing.specs.Frame.{soundFrameAt}
 use Rattle.block.specs.Block.{Block, blockIn, blockAt}
 use Rattle.block.proofs.BlockLaws.{BlockRead, block⇒BlockRead, frame-bounds}
 use Rattle.query.specs.Query.{Query}

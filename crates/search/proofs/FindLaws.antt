@@ -9,8 +9,8 @@ use lib.ListN.{length, take, length-append}
 use lib.Seq.{take-all}
 use Rattle.output_list.specs.OutputList.{padded}
 use Rattle.outcome.specs.Outcome.{answer}
-use Rattle.block.specs.declared.Frame.{Frame}
-use Rattle.block.specs.Payload.{Text}
+use Rattle.framing.specs.declared.Frame.{Frame}
+use Rattle.payload.specs.Payload.{Text}
 use Rattle.block.specs.Block.{Block, blockIn}
 use Rattle.block.proofs.BlockLaws.{data-level}
 use Rattle.query.specs.Query.{Query}

@@ -15,10 +15,10 @@ use Rattle.outcome.specs.Items.{itemsFrom, part}
 use Rattle.outcome.proofs.OutcomeLaws.{bind-answer, bind-refused}
 use Rattle.outcome.proofs.ItemsLaws.{row⇒items}
 use Rattle.outcome.proofs.PartLaws.{part-take}
-use Rattle.block.specs.declared.Frame.{Frame}
-use Rattle.block.specs.Payload.{Entry, entryAt}
+use Rattle.framing.specs.declared.Frame.{Frame}
+use Rattle.payload.specs.Payload.{Entry, entryAt}
 use Rattle.block.specs.Block.{Block, blockIn}
-use Rattle.block.specs.Answers.{textIn}
+use Rattle.payload.specs.Answers.{textIn}
 use Rattle.query.specs.Query.{Query}
 use Rattle.query.specs.Opening.{mayMatch}
 use Rattle.search.specs.declared.bound.Bound.{Bound}

@@ -10,8 +10,8 @@ use borrow.Author.Tests.{le-leb, lt-leb, lt-ltb, le-ltb, eq-eqb, ne-eqb}
 use Rattle.output_list.specs.OutputList.{hasPlace}
 use Rattle.outcome.specs.Outcome.{Outcome, answer, refused}
 use Rattle.outcome.proofs.OutcomeLaws.{kept, broken, bind-answer, bind-refused, bind⁻¹, map-refused⁻¹, answer-injective}
-use Rattle.block.specs.declared.Frame.{Frame}
-use Rattle.block.specs.Frame.{soundFrameAt}
+use Rattle.framing.specs.declared.Frame.{Frame}
+use Rattle.framing.specs.Frame.{soundFrameAt}
 use Rattle.block.specs.Block.{Block, blockIn}
 use Rattle.block.specs.Answers.{Tallied, tallied}
 use Rattle.search.specs.Search.{Found, fittingBlock, namedBlock, openBlock}

@@ -13,7 +13,7 @@ use Rattle.outcome.specs.Outcome.{Outcome, answer, refused, numberOf, placeOf, 
 use Rattle.outcome.proofs.OutcomeLaws.{bind-answer, bind-refused, map-refused⁻¹}
 use Rattle.header.specs.declared.Header.{Header}
 use Rattle.header.specs.Header.{headerOf, blocksFrom}
-use Rattle.block.specs.declared.Frame.{Frame}
+use Rattle.framing.specs.declared.Frame.{Frame}
 use Rattle.block.specs.Block.{Block, blockIn}
 use Rattle.query.specs.Query.{Query, given}
 use Rattle.reader.specs.Read.{numbersOf}

@@ -10,7 +10,7 @@ use Rattle.output_list.specs.OutputList.{withNumber}
 use Rattle.outcome.specs.Outcome.{Outcome, answer, _>>=_}
 use Rattle.outcome.specs.Items.{part}
 use Rattle.outcome.proofs.OutcomeLaws.{bind-assoc}
-use Rattle.block.specs.declared.Frame.{Frame}
+use Rattle.framing.specs.declared.Frame.{Frame}
 use Rattle.block.specs.Block.{Block}
 use Rattle.query.specs.Query.{Query}
 use Rattle.query.specs.Opening.{mayMatch}

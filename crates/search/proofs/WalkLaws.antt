@@ -12,13 +12,13 @@ use Rattle.outcome.specs.Outcome.{Outcome, answer, refused, _>>=_}
 use Rattle.outcome.specs.Items.{Step}
 use Rattle.outcome.proofs.OutcomeLaws.{answer-injective, refused-not-answer, bind⁻¹}
 use Rattle.outcome.proofs.ItemsLaws.{Row, row-end, row-more, items⇒row}
-use Rattle.block.specs.declared.Frame.{Frame}
-use Rattle.block.specs.Payload.{Entry, entryAt, entriesAt}
+use Rattle.framing.specs.declared.Frame.{Frame}
+use Rattle.payload.specs.Payload.{Entry, entryAt, entriesAt}
 use Rattle.block.specs.Block.{Block, blockIn}
-use Rattle.block.specs.Answers.{textIn}
+use Rattle.payload.specs.Answers.{textIn}
 use Rattle.block.proofs.BlockLaws.{not-data-level, ordinary-level, block-index}
-use Rattle.block.proofs.PayloadLaws.{entry⇒Entered}
-use Rattle.block.proofs.ReadLaws.{payload⁻¹}
+use Rattle.payload.proofs.PayloadLaws.{entry⇒Entered}
+use Rattle.payload.proofs.ReadLaws.{payload⁻¹}
 use Rattle.query.specs.Query.{Query}
 use Rattle.query.specs.Opening.{mayMatch}
 use Rattle.reader.specs.Read.{matching}

@@ -8,9 +8,9 @@ use lib.ListN.{length}
 use Rattle.outcome.specs.Outcome.{Outcome, answer, _>>=_, _>>_, must, numberOf, placeOf, countOf, listOf}
 use Rattle.header.specs.declared.Header.{Header}
 use Rattle.header.specs.Header.{headerOf, blocksFrom}
-use Rattle.block.specs.declared.Frame.{Frame}
-use Rattle.block.specs.Frame.{soundFrameAt}
-use Rattle.block.specs.Payload.{Text, Entry}
+use Rattle.framing.specs.declared.Frame.{Frame}
+use Rattle.framing.specs.Frame.{soundFrameAt}
+use Rattle.payload.specs.Payload.{Text, Entry}
 use Rattle.block.specs.Block.{Block, blockIn}
 use Rattle.query.specs.Query.{Query}
 use Rattle.query.specs.Opening.{mayMatch}

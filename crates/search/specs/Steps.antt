@@ -8,7 +8,7 @@ use lib.ListN.{length}
 use Rattle.output_list.specs.OutputList.{padded, withNumber}
 use Rattle.outcome.specs.Outcome.{Outcome, answer, refused, _>>=_}
 use Rattle.outcome.specs.Items.{part}
-use Rattle.block.specs.declared.Frame.{Frame}
+use Rattle.framing.specs.declared.Frame.{Frame}
 use Rattle.block.specs.Block.{Block}
 use Rattle.query.specs.Query.{Query, given}
 use Rattle.query.specs.Opening.{mayMatch}

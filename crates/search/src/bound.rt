@@ -5,13 +5,13 @@ ghost use mathlib.Core.List.{List};
 ghost use lib.ListN.{length, take};
 ghost use Rattle.outcome.specs.Outcome.{answer};
 ghost use Rattle.outcome.specs.Items.{itemsFrom, part};
-ghost use Rattle.block.specs.Payload.{Entry, entryAt};
+ghost use Rattle.payload.specs.Payload.{Entry, entryAt};
 ghost use Rattle.query.specs.Query.{queryOf};
 ghost use Rattle.query.specs.Opening.{mayMatch};
 ghost use Rattle.search.specs.Search.{nextKey};
 ghost use Rattle.search.specs.Steps.{boundOf, BoundWithin};
-use block::payload::TextStep;
-use block::payload::text_at;
+use payload::TextStep;
+use payload::text_at;
 
 // An upper bound: where it is given, `size` bytes of the file from `at` on.
 pub struct Bound {

@@ -6,11 +6,11 @@ ghost use mathlib.Core.List.{List};
 ghost use Rattle.output_list.specs.OutputList.{withNumber};
 ghost use Rattle.search.specs.Search.{Found, fittingBlock, namedBlock, openBlock};
 ghost use Rattle.search.specs.Steps.{openingSaid, frameOf};
-use block::Frame;
-use block::framing::FrameOutcome;
-use block::framing::sound_frame_at;
 use block::pass::BlockOutcome;
 use block::pass::block_in;
+use framing::Frame;
+use framing::FrameOutcome;
+use framing::sound_frame_at;
 
 pub enum Opening {
     // The frame of a block that passed every test.

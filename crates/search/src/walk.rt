@@ -14,9 +14,9 @@ use crate::bound::admits;
 use crate::bound::next_key;
 use crate::opening::Opening;
 use crate::opening::open;
-use block::Frame;
-use block::payload::EntryStep;
-use block::payload::entry_at;
+use framing::Frame;
+use payload::EntryStep;
+use payload::entry_at;
 use reader::collect::collect_records;
 
 // How many blocks were opened and how many matches were found.

@@ -17,8 +17,9 @@ use Rattle.header.specs.Header.{headerOf, blocksFrom, numberAt, H}
 use Rattle.header.proofs.RuleLaws.{numbersOf}
 use Rattle.block.specs.Block.{Block, isData, blocksAt}
 use Rattle.block.specs.Survey.{ordinary}
-use Rattle.checker.specs.Tree.{levelAt, leaves}
-use Rattle.checker.specs.Check.{each, entriesFit, namedRightly, ascending, neighbours, keysFit, payloads, treeOf, hasRoot, acceptOf}
+use Rattle.tree.specs.Tree.{levelAt, leaves}
+use Rattle.tree.specs.Stages.{each, entriesFit, namedRightly, ascending, neighbours, keysFit, payloads, treeOf, hasRoot}
+use Rattle.checker.specs.Check.{acceptOf}
 use Rattle.theorems.specs.Rules.{Fill, Stands, TreeRules, Rules}
 use Rattle.theorems.proofs.SortedLaws.{ascending⇒Rising, Rising⇒ascending}
 use Rattle.theorems.proofs.HeaderRuleLaws.{header⇒HeaderRules, HeaderRules⇒header}

@@ -13,11 +13,11 @@ use borrow.Author.Tests.{ltb-true, lt-ltb, leb-true, leb-false, eqb-true, eq-eqb
 use Rattle.outcome.specs.Outcome.{Outcome, answer}
 use Rattle.outcome.specs.Items.{Step, itemsFrom}
 use Rattle.outcome.proofs.OutcomeLaws.{answer-injective, kept, kept⁻¹, bind-answer, bind⁻¹}
-use Rattle.block.specs.declared.Frame.{Frame}
-use Rattle.block.specs.Frame.{numberAt, framed, frameAt, crcRight, soundFrameAt}
-use Rattle.block.specs.Payload.{Text, Entry, textAt, entryAt, rising, payloadAt, recordsAt, entriesAt}
+use Rattle.framing.specs.declared.Frame.{Frame}
+use Rattle.framing.specs.Frame.{numberAt, framed, frameAt, crcRight, soundFrameAt}
+use Rattle.payload.specs.Payload.{Text, Entry, textAt, entryAt, rising, payloadAt, recordsAt, entriesAt}
 use Rattle.block.specs.Block.{Block, blockIn, blockAt, blockStep, blocksAt}
-use Rattle.block.proofs.FrameLaws.{frameOf, framed-found, framed⁻¹, sound-frame, soundFrame⁻¹}
+use Rattle.framing.proofs.FrameLaws.{frameOf, framed-found, framed⁻¹, sound-frame, soundFrame⁻¹}
 use Rattle.block.proofs.BlockLaws.{data-level, not-data-level, ordinary-level, reserved-level, block-data, block-index, block-reserved, block⇒BlockRead}
 use Rattle.theorems.specs.Rules.{NumberIn, TextIn, EntryIn, Fill, Sorted, FrameIn, BlockIn, isDataBlock, isIndexBlock, isReservedBlock, Stands}
 use Rattle.theorems.proofs.FillLaws.{fill-empty, fill-some, items⇒Fill, Fill⇒items}

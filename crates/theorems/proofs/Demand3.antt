@@ -13,7 +13,7 @@ use Rattle.block.specs.Survey.{recordsOf}
 use Rattle.query.specs.Query.{Query}
 use Rattle.reader.specs.Read.{matching}
 use Rattle.search.specs.Search.{searchOf, searchAnswer}
-use Rattle.checker.specs.Tree.{levelAt}
+use Rattle.tree.specs.Tree.{levelAt}
 use Rattle.checker.specs.Check.{acceptOf}
 use Rattle.theorems.specs.Index.{preorder, AllBlocks, QueryBytes, walkOrder, RuleOpens, Searched}
 use Rattle.theorems.proofs.Events.{searchEvents, opensIn}

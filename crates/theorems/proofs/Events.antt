@@ -7,13 +7,13 @@ use mathlib.Core.Option.{Option, none}
 use lib.Dec.{leb, ltb}
 use lib.ListN.{length}
 use Rattle.outcome.specs.Outcome.{Outcome, answer, _>>_, must}
-use Rattle.block.specs.Payload.{Text, Entry}
+use Rattle.payload.specs.Payload.{Text, Entry}
 use Rattle.block.specs.Block.{Block}
 use Rattle.query.specs.Query.{Query}
 use Rattle.query.specs.Opening.{mayMatch}
 use Rattle.reader.specs.Read.{matching}
 use Rattle.search.specs.Search.{Found, withOpened, withMatch, nextKey}
-use Rattle.checker.specs.Tree.{entriesOf, recordsAt, levelAt}
+use Rattle.tree.specs.Tree.{entriesOf, recordsAt, levelAt}
 
 pub data Event : Type 0 where
   opens : (offset : ℕ) → Event

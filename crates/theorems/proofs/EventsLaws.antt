@@ -11,7 +11,7 @@ use lib.Seq.{append-snoc}
 use borrow.Author.Tests.{lt-ltb, le-ltb, ltb-true, ltb-false, le-leb, lt-leb, leb-true, leb-false}
 use Rattle.outcome.specs.Outcome.{Outcome, answer, refused, _>>=_, _>>_, must}
 use Rattle.outcome.proofs.OutcomeLaws.{after-bind, kept, broken}
-use Rattle.block.specs.Payload.{Text}
+use Rattle.payload.specs.Payload.{Text}
 use Rattle.search.specs.Search.{Found, withOpened, withMatch}
 use Rattle.theorems.proofs.Events.{Event, opens, finds, opensIn, findsIn, run}
 

@@ -14,11 +14,11 @@ use Rattle.outcome.specs.Outcome.{answer}
 use Rattle.outcome.specs.Items.{Step, part}
 use Rattle.outcome.proofs.OutcomeLaws.{answer-injective, kept⁻¹, bind-answer, bind⁻¹}
 use Rattle.outcome.proofs.PartLaws.{length-part}
-use Rattle.block.specs.Frame.{readAs, numberAt}
-use Rattle.block.specs.Payload.{Text, Entry, textAt, entryAt, entrySized}
-use Rattle.block.specs.Answers.{textIn}
-use Rattle.block.proofs.FrameLaws.{number-read, numbered}
-use Rattle.block.proofs.PayloadLaws.{text-found, entry-read}
+use Rattle.framing.specs.Frame.{readAs, numberAt}
+use Rattle.payload.specs.Payload.{Text, Entry, textAt, entryAt, entrySized}
+use Rattle.payload.specs.Answers.{textIn}
+use Rattle.framing.proofs.FrameLaws.{number-read, numbered}
+use Rattle.payload.proofs.PayloadLaws.{text-found, entry-read}
 use Rattle.theorems.specs.Rules.{NumberIn, StandsIn, TextIn, EntryIn}
 
 -- ---- numbers

@@ -5,11 +5,11 @@ use mathlib.Core.Logic.{_↔_}
 use mathlib.Core.List.{List, List·Memᴰ}
 use Prim.Native.Nat.{ℕ, zero, suc}
 use native.Mathlib.Omega.{arith}
-use Rattle.block.specs.Payload.{Text}
+use Rattle.payload.specs.Payload.{Text}
 use Rattle.block.specs.Block.{Block}
-use Rattle.checker.specs.Tree.{under}
+use Rattle.tree.specs.Tree.{under}
 use Rattle.theorems.specs.Index.{LeadsTo, its-own, through}
-use Rattle.checker.proofs.TreeLaws.{Tree, entries-at, same-start, child}
+use Rattle.tree.proofs.TreeLaws.{Tree, entries-at, same-start, child}
 use Rattle.theorems.proofs.TreeBounds.{data-under, entry-under, under-entry}
 
 module _ (bs : List Block) (root : ℕ) (t : Tree bs root) where

@@ -9,17 +9,17 @@ use lib.Seq.{append-snoc}
 use Rattle.byte_order.specs.Order.{AreBytes}
 use Rattle.outcome.proofs.ListsLaws.{Ascending}
 use Rattle.outcome.proofs.RisingLaws.{split-member}
-use Rattle.block.specs.Payload.{Entry}
+use Rattle.payload.specs.Payload.{Entry}
 use Rattle.block.specs.Block.{Block}
 use Rattle.query.specs.Query.{Query}
 use Rattle.query.specs.Opening.{mayMatch}
 use Rattle.query.proofs.OpeningLaws.{mayMatch⇒CanMatch}
 use Rattle.reader.specs.Read.{matching}
 use Rattle.search.specs.Search.{nextKey}
-use Rattle.checker.specs.Tree.{entriesOf, recordsAt, levelAt, leaves}
+use Rattle.tree.specs.Tree.{entriesOf, recordsAt, levelAt, leaves}
 use Rattle.theorems.specs.Index.{Kept, no-more, taken, Once, preorder, Opened, the-root, QueryBytes}
-use Rattle.checker.proofs.TreeLaws.{Tree}
-use Rattle.checker.proofs.TreeWays.{Way, at-root, turnsOf, way-block, met-entries}
+use Rattle.tree.proofs.TreeLaws.{Tree}
+use Rattle.tree.proofs.TreeWays.{Way, at-root, turnsOf, way-block, met-entries}
 use Rattle.theorems.proofs.EventsLaws.{opensIn-append, opensIn-finds}
 use Rattle.theorems.proofs.Events.{Event, opens, eventsOver, eventsOf, searchEvents, opensIn}
 use Rattle.theorems.proofs.TreePreorder.{preorder-distinct}

@@ -14,7 +14,7 @@ use Rattle.block.specs.Block.{Block, blocksAt}
 use Rattle.block.proofs.HeldLaws.{key-in-block}
 use Rattle.block.proofs.TileLaws.{blocks-read}
 use Rattle.query.specs.Query.{Query}
-use Rattle.checker.specs.Tree.{levelAt}
+use Rattle.tree.specs.Tree.{levelAt}
 use Rattle.checker.specs.Check.{acceptOf}
 use Rattle.theorems.specs.Index.{Kept, Once, preorder, Opened, InVain, QueryBytes}
 use Rattle.theorems.proofs.Events.{searchEvents, opensIn}

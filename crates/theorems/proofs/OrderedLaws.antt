@@ -10,10 +10,10 @@ use borrow.Author.Tests.{eqb-true}
 use Rattle.byte_order.specs.Order.{atMost}
 use Rattle.outcome.specs.Outcome.{answer}
 use Rattle.outcome.specs.Lists.{keep}
-use Rattle.block.specs.Payload.{Text}
+use Rattle.payload.specs.Payload.{Text}
 use Rattle.block.specs.Block.{Block, isData}
 use Rattle.block.proofs.BlockLaws.{data-level}
-use Rattle.checker.specs.Check.{neighbours}
+use Rattle.tree.specs.Stages.{neighbours}
 use Rattle.theorems.specs.Rules.{Fill, full, item, Stands}
 use Rattle.outcome.proofs.ListsLaws.{keep-member, member-keep, keep-first, keep-later}
 use Rattle.theorems.proofs.BlockRuleLaws.{block-forward}

@@ -19,7 +19,8 @@ use Rattle.header.proofs.HeaderLaws.{header-refused}
 use Rattle.header.proofs.RuleLaws.{numbersOf}
 use Rattle.block.specs.Block.{Block, blocksAt}
 use Rattle.block.specs.Survey.{ordinary}
-use Rattle.checker.specs.Check.{each, ascending, allAtMost, neighboursOf, neighbours, treeOf, hasRoot, acceptOf, checkOf}
+use Rattle.tree.specs.Stages.{each, ascending, allAtMost, neighboursOf, neighbours, treeOf, hasRoot}
+use Rattle.checker.specs.Check.{acceptOf, checkOf}
 use Rattle.checker.proofs.CheckLaws.{check-18, check-tree}
 use Rattle.theorems.specs.Rules.{Rules}
 use Rattle.outcome.proofs.ListsLaws.{false-not-true, any-member, member-any}

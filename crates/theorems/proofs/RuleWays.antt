@@ -9,16 +9,16 @@ use Prim.Native.Nat.{ℕ, zero, suc}
 use native.Mathlib.Omega.{arith}
 use Rattle.outcome.proofs.ListsLaws.{flatMap-member, false-not-true}
 use Rattle.outcome.proofs.RisingLaws.{member-split, split-member}
-use Rattle.block.specs.Payload.{Entry}
+use Rattle.payload.specs.Payload.{Entry}
 use Rattle.block.specs.Block.{Block}
 use Rattle.query.specs.Query.{Query}
 use Rattle.query.specs.Opening.{CanMatch, mayMatch}
 use Rattle.query.proofs.OpeningLaws.{CanMatch⇒mayMatch}
 use Rattle.search.specs.Search.{nextKey}
-use Rattle.checker.specs.Tree.{entriesOf}
+use Rattle.tree.specs.Tree.{entriesOf}
 use Rattle.theorems.specs.Index.{preorder, Opens, the-root, by-entry, Opened}
-use Rattle.checker.proofs.TreeLaws.{Tree, entries-at, entry⇒index}
-use Rattle.checker.proofs.TreeWays.{Way, at-root, by-entry as turn, Turn, turnsOf, way-block, met-entries}
+use Rattle.tree.proofs.TreeLaws.{Tree, entries-at, entry⇒index}
+use Rattle.tree.proofs.TreeWays.{Way, at-root, by-entry as turn, Turn, turnsOf, way-block, met-entries}
 use Rattle.theorems.proofs.TreeUnique.{turns-unique}
 use Rattle.theorems.proofs.TreeCuts.{upperBound, upperOf, lowerOf, lowerBound}
 

@@ -15,8 +15,8 @@ use Rattle.outcome.proofs.ListsLaws.{both}
 use Rattle.header.specs.Header.{headerOf, blocksFrom, numberAt}
 use Rattle.header.proofs.HeaderLaws.{blocks-within}
 use Rattle.header.proofs.RuleLaws.{numbersOf}
-use Rattle.block.specs.Frame.{soundFrameAt}
-use Rattle.block.specs.Payload.{Text, Entry}
+use Rattle.framing.specs.Frame.{soundFrameAt}
+use Rattle.payload.specs.Payload.{Text, Entry}
 use Rattle.block.specs.Block.{Block, blockIn, blocksAt}
 use Rattle.block.proofs.BlockLaws.{block⇒BlockRead}
 use Rattle.block.proofs.TileLaws.{blocks-read}
@@ -24,9 +24,9 @@ use Rattle.query.specs.Query.{Query}
 use Rattle.query.specs.Opening.{mayMatch}
 use Rattle.reader.specs.Read.{matching}
 use Rattle.search.specs.Search.{Found, nothing, withOpened, withMatch, nextKey, fittingBlock, namedBlock, openBlock, addMatches, overEntries, walkOf, walkFrom, searchOf}
-use Rattle.checker.specs.Tree.{levelAt}
+use Rattle.tree.specs.Tree.{levelAt}
 use Rattle.checker.specs.Check.{acceptOf}
-use Rattle.checker.proofs.TreeLaws.{Tree, entries-at, records-at, level-at, child}
+use Rattle.tree.proofs.TreeLaws.{Tree, entries-at, records-at, level-at, child}
 use Rattle.theorems.proofs.AcceptLaws.{Accepted⇒Rules, accepted⇒Accepted}
 use Rattle.theorems.proofs.TreeFile.{rules⇒Tree}
 use Rattle.theorems.proofs.Events.{Event, opens, finds, eventsOver, eventsOf, searchEvents, run}

@@ -12,7 +12,7 @@ use Rattle.outcome.proofs.RisingLaws.{flatMap-flatMap}
 use Rattle.header.specs.Header.{blocksFrom, numberAt, H}
 use Rattle.header.proofs.HeaderLaws.{blocks-within}
 use Rattle.header.proofs.RuleLaws.{numbersOf}
-use Rattle.block.specs.Payload.{Text, Entry}
+use Rattle.payload.specs.Payload.{Text, Entry}
 use Rattle.block.specs.Block.{Block}
 use Rattle.block.specs.Survey.{recordsOf}
 use Rattle.query.specs.Query.{Query, matches}
@@ -21,9 +21,9 @@ use Rattle.query.proofs.OpeningLaws.{no-match-unopened}
 use Rattle.reader.specs.Read.{matching}
 use Rattle.reader.proofs.MatchLaws.{matching-nil, matching-append}
 use Rattle.search.specs.Search.{nextKey}
-use Rattle.checker.specs.Tree.{entriesOf, recordsAt, levelAt, leaves, under}
+use Rattle.tree.specs.Tree.{entriesOf, recordsAt, levelAt, leaves, under}
 use Rattle.checker.specs.Check.{acceptOf}
-use Rattle.checker.proofs.TreeWays.{Way, at-root, by-entry, turnsOf, root-records}
+use Rattle.tree.proofs.TreeWays.{Way, at-root, by-entry, turnsOf, root-records}
 use Rattle.theorems.specs.Rules.{Sorted, no-string, BlockIn, isDataBlock, isIndexBlock, isReservedBlock}
 use Rattle.theorems.proofs.TiledLaws.{tiled-block}
 use Rattle.theorems.proofs.AcceptLaws.{Accepted⇒Rules, accepted⇒Accepted}

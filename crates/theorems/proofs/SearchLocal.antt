@@ -13,9 +13,9 @@ use Rattle.outcome.proofs.OutcomeLaws.{answer-injective, bind-answer, bind⁻¹
 use Rattle.header.specs.declared.Header.{Header}
 use Rattle.header.specs.Header.{headerOf, blocksFrom}
 use Rattle.header.proofs.HeaderLaws.{header-local}
-use Rattle.block.specs.declared.Frame.{Frame}
-use Rattle.block.specs.Frame.{soundFrameAt}
-use Rattle.block.specs.Payload.{Entry}
+use Rattle.framing.specs.declared.Frame.{Frame}
+use Rattle.framing.specs.Frame.{soundFrameAt}
+use Rattle.payload.specs.Payload.{Entry}
 use Rattle.block.specs.Block.{Block, blockIn, blockAt}
 use Rattle.block.proofs.BlockLaws.{block⇒BlockRead}
 use Rattle.block.proofs.LocalLaws.{block-local}

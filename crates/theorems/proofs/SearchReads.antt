@@ -8,7 +8,7 @@ use Rattle.output_list.specs.OutputList.{padded}
 use Rattle.outcome.specs.Outcome.{Outcome, answer, numberOf, placeOf, countOf, listOf}
 use Rattle.header.specs.Header.{numberAt}
 use Rattle.header.proofs.RuleLaws.{numbersOf as headerNumbers}
-use Rattle.block.specs.Payload.{Text}
+use Rattle.payload.specs.Payload.{Text}
 use Rattle.block.specs.Block.{Block}
 use Rattle.block.specs.Survey.{recordsOf}
 use Rattle.query.specs.Query.{Query}

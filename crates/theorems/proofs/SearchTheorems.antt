@@ -9,7 +9,7 @@ use lib.ListN.{length, length-append}
 use Rattle.output_list.specs.OutputList.{padded, zeros}
 use Rattle.output_list.proofs.OutputListLaws.{length-zeros, length-padded}
 use Rattle.outcome.specs.Outcome.{Outcome, answer, refused, numberOf, placeOf, countOf, listOf}
-use Rattle.block.specs.Payload.{Text}
+use Rattle.payload.specs.Payload.{Text}
 use Rattle.block.specs.Block.{Block, blockAt}
 use Rattle.query.specs.Query.{Query}
 use Rattle.reader.specs.Read.{numbersOf}

@@ -11,8 +11,8 @@ use Rattle.byte_order.specs.Order.{atMost}
 use Rattle.byte_order.proofs.OrderLaws.{atMost-trans}
 use Rattle.outcome.specs.Outcome.{answer}
 use Rattle.outcome.proofs.OutcomeLaws.{kept, kept⁻¹}
-use Rattle.block.specs.Payload.{rising, risingFrom}
-use Rattle.checker.specs.Check.{ascending}
+use Rattle.payload.specs.Payload.{rising, risingFrom}
+use Rattle.tree.specs.Stages.{ascending}
 use Rattle.theorems.specs.Rules.{Sorted, no-string, one-string, Rising, no-number, one-number}
 use Rattle.outcome.proofs.ListsLaws.{both, both⁻¹}
 

@@ -10,10 +10,10 @@ use Rattle.byte_order.proofs.OrderLaws.{atMost-trans}
 use Rattle.outcome.specs.Outcome.{answer}
 use Rattle.outcome.specs.Lists.{all}
 use Rattle.outcome.proofs.OutcomeLaws.{kept, kept⁻¹}
-use Rattle.block.specs.Payload.{Text}
+use Rattle.payload.specs.Payload.{Text}
 use Rattle.block.specs.Block.{Block, isOrdinary}
 use Rattle.block.specs.Survey.{ordinary}
-use Rattle.checker.specs.Check.{each, allAtMost, neighboursOf, neighbours}
+use Rattle.tree.specs.Stages.{each, allAtMost, neighboursOf, neighbours}
 use Rattle.outcome.proofs.ListsLaws.{all-member, member-all, keep-member, member-keep}
 
 -- ---- a rule for each block

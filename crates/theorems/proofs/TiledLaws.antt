@@ -5,7 +5,7 @@ use mathlib.Core.List.{List, [], _∷_, List·Memᴰ, List·Memᴰ·head, List·
 use Prim.Native.Nat.{ℕ, _≤_}
 use native.Mathlib.Omega.{arith}
 use lib.ListN.{length}
-use Rattle.block.specs.Payload.{Text, Entry}
+use Rattle.payload.specs.Payload.{Text, Entry}
 use Rattle.block.specs.Block.{Block}
 use Rattle.theorems.specs.Rules.{Fill, full, item, BlockIn, isDataBlock, isIndexBlock, isReservedBlock, Stands}
 use Rattle.theorems.proofs.BlockRuleLaws.{block-frame, block-forward}

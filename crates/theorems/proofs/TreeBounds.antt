@@ -6,12 +6,12 @@ use mathlib.Core.List.{List, _∷_, _++_, flatMap, append-nil, List·Memᴰ, Mem
 use Prim.Native.Nat.{ℕ, suc, _≤_}
 use Rattle.byte_order.specs.Order.{atMost}
 use Rattle.outcome.proofs.ListsLaws.{flatMap-member, member-flatMap}
-use Rattle.block.specs.Payload.{Text, Entry}
+use Rattle.payload.specs.Payload.{Text, Entry}
 use Rattle.block.specs.Block.{Block}
 use Rattle.block.specs.Survey.{recordsOf}
-use Rattle.checker.specs.Tree.{entriesOf, recordsAt, levelAt, leaves, under}
-use Rattle.checker.proofs.TreeLaws.{Tree, records-at}
-use Rattle.checker.proofs.TreeWays.{Way, pre, post, records-cut}
+use Rattle.tree.specs.Tree.{entriesOf, recordsAt, levelAt, leaves, under}
+use Rattle.tree.proofs.TreeLaws.{Tree, records-at}
+use Rattle.tree.proofs.TreeWays.{Way, pre, post, records-cut}
 use Rattle.theorems.proofs.TreeCuts.{SearchTree, lowerOf, upperOf, UpTo, Past, lower-cut, upper-cut}
 use Rattle.theorems.proofs.TreeLevels.{blocksOfLevel, level-behind, level-before}
 

@@ -12,14 +12,14 @@ use Rattle.byte_order.specs.Order.{atMost}
 use Rattle.byte_order.proofs.OrderLaws.{atMost-refl, atMost-trans, nil-atMost}
 use Rattle.outcome.proofs.ListsLaws.{Ascending, flatMap-append, member-flatMap}
 use Rattle.outcome.proofs.RisingLaws.{split-member, some-member, flatMap-split, ascending-apart}
-use Rattle.block.specs.Payload.{Text, Entry}
+use Rattle.payload.specs.Payload.{Text, Entry}
 use Rattle.block.specs.Block.{Block}
 use Rattle.block.specs.Survey.{recordsOf}
-use Rattle.checker.specs.Tree.{entriesOf, recordsAt, levelAt, leaves, under}
+use Rattle.tree.specs.Tree.{entriesOf, recordsAt, levelAt, leaves, under}
 use Rattle.search.specs.Search.{nextKey}
 use Rattle.theorems.specs.Rules.{Sorted, one-string}
-use Rattle.checker.proofs.TreeLaws.{Tree, records-at, leaves-data, leaves-some}
-use Rattle.checker.proofs.TreeWays.{Way, at-root, by-entry, Turn, turnsOf, leavesBefore, leavesBehind, pre, post, records-cut, Met, way-block, met-entries}
+use Rattle.tree.proofs.TreeLaws.{Tree, records-at, leaves-data, leaves-some}
+use Rattle.tree.proofs.TreeWays.{Way, at-root, by-entry, Turn, turnsOf, leavesBefore, leavesBehind, pre, post, records-cut, Met, way-block, met-entries}
 
 -- ---- bounds
 

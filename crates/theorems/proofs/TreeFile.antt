@@ -11,14 +11,14 @@ use Rattle.outcome.specs.Outcome.{answer}
 use Rattle.outcome.proofs.ListsLaws.{Ascending, below-member}
 use Rattle.outcome.proofs.RisingLaws.{member-below, below-each}
 use Rattle.header.specs.Header.{numberAt}
-use Rattle.block.specs.Payload.{Text}
+use Rattle.payload.specs.Payload.{Text}
 use Rattle.block.specs.Block.{Block, blocksAt}
 use Rattle.block.specs.Survey.{recordsOf}
 use Rattle.block.proofs.TileLaws.{file-record-block, file-records-all}
-use Rattle.checker.specs.Tree.{levelAt, leaves}
+use Rattle.tree.specs.Tree.{levelAt, leaves}
 use Rattle.theorems.specs.Rules.{TreeRules, Rising, no-number, one-number, Sorted, no-string, one-string}
-use Rattle.checker.proofs.TreeLaws.{Tree}
-use Rattle.checker.proofs.TreeBlocks.{blocks⇒Tree}
+use Rattle.tree.proofs.TreeLaws.{Tree}
+use Rattle.tree.proofs.TreeBlocks.{blocks⇒Tree}
 use Rattle.theorems.proofs.TreeCuts.{SearchTree}
 
 -- ---- numbers that rise, as the rules say it and as a pair for each element

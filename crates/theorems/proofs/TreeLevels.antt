@@ -13,12 +13,12 @@ use Rattle.outcome.proofs.ListsLaws.{Ascending, flatMap-member, member-flatMap}
 use Rattle.outcome.proofs.ListsLaws.{keep-member, member-keep}
 use Rattle.outcome.proofs.RisingLaws.{flatMap-same, flatMap-flatMap, flatMap-split, ascending-right, ascending-apart}
 use Rattle.outcome.proofs.CountLaws.{keep-flatMap, keep-none}
-use Rattle.block.specs.Payload.{Text, Entry}
+use Rattle.payload.specs.Payload.{Text, Entry}
 use Rattle.block.specs.Block.{Block}
-use Rattle.checker.specs.Tree.{entriesOf, recordsAt, levelAt, leaves, under}
+use Rattle.tree.specs.Tree.{entriesOf, recordsAt, levelAt, leaves, under}
 use Rattle.theorems.specs.Index.{preorder}
-use Rattle.checker.proofs.TreeLaws.{Tree, level-at, child, leaves-some}
-use Rattle.checker.proofs.TreeWays.{Way, leavesBefore, leavesBehind, leaves-cut, leaves-within, pre, post, way-block}
+use Rattle.tree.proofs.TreeLaws.{Tree, level-at, child, leaves-some}
+use Rattle.tree.proofs.TreeWays.{Way, leavesBefore, leavesBehind, leaves-cut, leaves-within, pre, post, way-block}
 use Rattle.theorems.proofs.TreePreorder.{preorder-met, preorder⇒ordinary, ordinary⇒preorder}
 
 -- the blocks of level l met going down from the block of a level at an offset, in walk order

@@ -10,12 +10,12 @@ use lib.ListN.{length}
 use Rattle.outcome.specs.Lists.{keep}
 use Rattle.outcome.proofs.ListsLaws.{Ascending, flatMap-member, member-flatMap}
 use Rattle.outcome.proofs.RisingLaws.{split-member, ascending-left, ascending-right, ascending-apart, Distinct, distinct-append, distinct-count}
-use Rattle.block.specs.Payload.{Entry}
+use Rattle.payload.specs.Payload.{Entry}
 use Rattle.block.specs.Block.{Block}
-use Rattle.checker.specs.Tree.{entriesOf, levelAt, leaves}
+use Rattle.tree.specs.Tree.{entriesOf, levelAt, leaves}
 use Rattle.theorems.specs.Index.{preorder}
-use Rattle.checker.proofs.TreeLaws.{Tree, level-at, same-start, Child, child, leaves-some}
-use Rattle.checker.proofs.TreeWays.{Way, at-root, by-entry, block-way}
+use Rattle.tree.proofs.TreeLaws.{Tree, level-at, same-start, Child, child, leaves-some}
+use Rattle.tree.proofs.TreeWays.{Way, at-root, by-entry, block-way}
 
 -- the block comes first
 pub preorder-first : (bs : List Block) (level at : ℕ) → List·Memᴰ at (preorder bs level at)

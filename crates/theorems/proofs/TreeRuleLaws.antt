@@ -16,11 +16,11 @@ use Rattle.sha256.proofs.StateLaws.{sha256-length}
 use Rattle.outcome.specs.Outcome.{answer}
 use Rattle.outcome.specs.Items.{part}
 use Rattle.header.specs.declared.Header.{Header}
-use Rattle.block.specs.Payload.{Text, Entry}
+use Rattle.payload.specs.Payload.{Text, Entry}
 use Rattle.block.specs.Block.{Block, isOrdinary}
 use Rattle.block.specs.Survey.{ordinary, recordsOf, isRoot}
-use Rattle.checker.specs.Tree.{names, namings, under, recordsBefore, keyFits}
-use Rattle.checker.specs.Check.{each, entriesFit, namedRightly, keysFit, hasRoot}
+use Rattle.tree.specs.Tree.{names, namings, under, recordsBefore, keyFits}
+use Rattle.tree.specs.Stages.{each, entriesFit, namedRightly, keysFit, hasRoot}
 use Rattle.theorems.specs.Rules.{Fill, Stands}
 use Rattle.outcome.proofs.ListsLaws.{both, both⁻¹, all-member, member-all, any-member, member-any, keep-member, member-keep}
 use Rattle.theorems.proofs.StageLaws.{each-member, member-each, ordinary-member, member-ordinary}

@@ -11,11 +11,11 @@ use borrow.Author.Tests.{eq-eqb}
 use Rattle.outcome.specs.Lists.{keep}
 use Rattle.outcome.proofs.RisingLaws.{split-member}
 use Rattle.outcome.proofs.CountLaws.{count-within, one-holder, one-place}
-use Rattle.block.specs.Payload.{Entry}
+use Rattle.payload.specs.Payload.{Entry}
 use Rattle.block.specs.Block.{Block}
-use Rattle.checker.specs.Tree.{entriesOf, namings}
-use Rattle.checker.proofs.TreeLaws.{Tree, root-no-child, entry⇒index}
-use Rattle.checker.proofs.TreeWays.{Way, at-root, by-entry, Turn, turnsOf, way-block, met-entries}
+use Rattle.tree.specs.Tree.{entriesOf, namings}
+use Rattle.tree.proofs.TreeLaws.{Tree, root-no-child, entry⇒index}
+use Rattle.tree.proofs.TreeWays.{Way, at-root, by-entry, Turn, turnsOf, way-block, met-entries}
 
 joined : (front : List Entry) (e : Entry) (back : List Entry) (front′ : List Entry) (e′ : Entry) (back′ : List Entry) (ts ts′ : List Turn) → front ≡ front′ → e ≡ e′ → back ≡ back′ → ts ≡ ts′
     → _≡_ {A = List Turn} (record { front = front; entry = e; back = back } ∷ ts) (record { front = front′; entry = e′; back = back′ } ∷ ts′)

@@ -14,15 +14,15 @@ use Rattle.byte_order.specs.Order.{atMost}
 use Rattle.byte_order.proofs.OrderLaws.{atMost-trans}
 use Rattle.outcome.specs.Lists.{keep, any}
 use Rattle.outcome.proofs.ListsLaws.{keep-append, both⁻¹, false-not-true, any-member, member-any, member-keep, keep-first}
-use Rattle.block.specs.Payload.{Text}
+use Rattle.payload.specs.Payload.{Text}
 use Rattle.block.specs.Block.{Block}
 use Rattle.query.specs.Query.{Query, matches}
 use Rattle.query.specs.Opening.{upTo}
 use Rattle.query.proofs.QueryLaws.{matches-convex}
-use Rattle.checker.specs.Tree.{levelAt, under}
+use Rattle.tree.specs.Tree.{levelAt, under}
 use Rattle.theorems.specs.Index.{Kept, preorder, Opened, LeadsTo, InVain, QueryBytes}
-use Rattle.checker.proofs.TreeLaws.{level-at}
-use Rattle.checker.proofs.TreeWays.{Way, block-way}
+use Rattle.tree.proofs.TreeLaws.{level-at}
+use Rattle.tree.proofs.TreeWays.{Way, block-way}
 use Rattle.theorems.proofs.Events.{searchEvents, opensIn}
 use Rattle.theorems.proofs.TreePreorder.{preorder⇒ordinary}
 use Rattle.theorems.proofs.TreeLevels.{blocksOfLevel}

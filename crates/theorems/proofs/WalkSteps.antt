@@ -12,9 +12,9 @@ use borrow.Author.Tests.{leb-true, ltb-true}
 use Rattle.outcome.specs.Outcome.{Outcome, answer, _>>=_}
 use Rattle.outcome.proofs.OutcomeLaws.{answer-injective, bind-answer, bind⁻¹, kept⁻¹}
 use Rattle.header.specs.Header.{headerOf, blocksFrom}
-use Rattle.block.specs.declared.Frame.{Frame}
-use Rattle.block.specs.Frame.{soundFrameAt}
-use Rattle.block.specs.Payload.{Text, Entry}
+use Rattle.framing.specs.declared.Frame.{Frame}
+use Rattle.framing.specs.Frame.{soundFrameAt}
+use Rattle.payload.specs.Payload.{Text, Entry}
 use Rattle.block.specs.Block.{Block, blockIn, blockAt}
 use Rattle.query.specs.Query.{Query}
 use Rattle.query.specs.Opening.{mayMatch}

@@ -9,13 +9,13 @@ use lib.ListN.{length}
 use Rattle.byte_order.specs.Order.{AreBytes}
 use Rattle.output_list.specs.OutputList.{padded}
 use Rattle.header.specs.Header.{numberAt}
-use Rattle.block.specs.Payload.{Text, Entry}
+use Rattle.payload.specs.Payload.{Text, Entry}
 use Rattle.block.specs.Block.{Block}
 use Rattle.query.specs.Query.{Query, matches}
 use Rattle.query.specs.Opening.{CanMatch}
 use Rattle.reader.specs.Read.{readOf, readAnswer, readList}
 use Rattle.search.specs.Search.{nextKey, searchOf, searchAnswer, openedList, resultList}
-use Rattle.checker.specs.Tree.{entriesOf, levelAt}
+use Rattle.tree.specs.Tree.{entriesOf, levelAt}
 
 -- ---- lists
 

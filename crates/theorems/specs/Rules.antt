@@ -14,12 +14,12 @@ use Rattle.crc64.specs.Crc64.{crc64}
 use Rattle.sha256.specs.Sha256.{sha256}
 use Rattle.outcome.specs.Items.{part}
 use Rattle.header.specs.Header.{magic, codecNone, numberAt, H, M}
-use Rattle.block.specs.declared.Frame.{Frame}
-use Rattle.block.specs.Payload.{Text, Entry}
+use Rattle.framing.specs.declared.Frame.{Frame}
+use Rattle.payload.specs.Payload.{Text, Entry}
 use Rattle.block.specs.Block.{Block}
 use Rattle.block.specs.Survey.{recordsOf}
-use Rattle.checker.specs.Tree.{levelAt, namings, leaves, under}
-use Rattle.checker.specs.Check.{payloads}
+use Rattle.tree.specs.Tree.{levelAt, namings, leaves, under}
+use Rattle.tree.specs.Stages.{payloads}
 
 -- ---- blocks
 

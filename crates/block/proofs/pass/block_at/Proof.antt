@@ -3,7 +3,8 @@ use mathlib.Core.Path.{sym, ap, _∙_}
 use Prim.Native.Nat.{ℕ}
 use borrow.Author.Needs.{needs}
 use denote.Ref.{now}
-use Rattle.block.specs.Answers.{frame, block}
+use Rattle.framing.specs.Answers.{frame}
+use Rattle.block.specs.Answers.{block}
 use Rattle.block.proofs.BlockLaws.{frame-bounds, frame-start, block-framed, block-unframed}
 use Rattle.block.proofs.pass.block_at.Statement.{statement}
 use Rattle.block.proofs.pass.block_at.Tie as tie

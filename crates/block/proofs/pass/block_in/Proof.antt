@@ -3,7 +3,8 @@ use mathlib.Core.Path.{sym, ap, _∙_}
 use borrow.Author.Needs.{needs}
 use denote.Ref.{now}
 use lib.Seq.{length-take-le}
-use Rattle.block.specs.Answers.{block, payload}
+use Rattle.block.specs.Answers.{block}
+use Rattle.payload.specs.Answers.{payload}
 use Rattle.block.proofs.BlockLaws.{data-sound, data-unsound, index-sound, index-unsound, reserved-sound}
 use Rattle.block.proofs.pass.block_in.Statement.{statement}
 use Rattle.block.proofs.pass.block_in.Tie as tie

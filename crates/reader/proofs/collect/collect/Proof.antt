@@ -7,8 +7,8 @@ use borrow.Author.Needs.{needs}
 use denote.Ref.{now}
 use lib.ListN.{length}
 use lib.Seq.{length-take-le}
-use Rattle.block.specs.Answers.{frame}
-use Rattle.block.proofs.FrameLaws.{frame⇒Framed}
+use Rattle.framing.specs.Answers.{frame}
+use Rattle.framing.proofs.FrameLaws.{frame⇒Framed}
 use Rattle.query.specs.Query.{queryOf}
 use Rattle.reader.proofs.CollectLaws.{collected-start}
 use Rattle.reader.proofs.FramesLaws.{FramesCollected, frames-room, frames-data, frames-other, frames-end, frames-refused}

@@ -6,7 +6,7 @@ use native.Mathlib.Omega.{arith}
 use borrow.Author.Needs.{needs}
 use denote.Ref.{now}
 use lib.ListN.{length}
-use Rattle.block.specs.Answers.{text}
+use Rattle.payload.specs.Answers.{text}
 use Rattle.query.specs.Query.{queryOf}
 use Rattle.reader.proofs.CollectLaws.{collected-start}
 use Rattle.reader.proofs.RecordsLaws.{RecordsCollected, text-bounds, records-kept, records-passed, records-end, records-refused}

@@ -5,7 +5,7 @@ use borrow.Author.Needs.{needs}
 use denote.Ref.{now}
 use lib.ListN.{take}
 use lib.Seq.{length-take-le}
-use Rattle.block.specs.Answers.{text}
+use Rattle.payload.specs.Answers.{text}
 use Rattle.search.proofs.BoundLaws.{next-none, next-refused, next-found, found-within}
 use Rattle.search.proofs.bound.next_key.Statement.{statement}
 use Rattle.search.proofs.bound.next_key.Tie as tie

@@ -3,7 +3,7 @@
 use mathlib.Core.Path.{sym, ap, _∙_}
 use borrow.Author.Needs.{needs}
 use denote.Ref.{now}
-use Rattle.block.specs.Answers.{frame}
+use Rattle.framing.specs.Answers.{frame}
 use Rattle.block.proofs.BlockLaws.{frame-bounds}
 use Rattle.search.specs.Steps.{openingSaid}
 use Rattle.search.proofs.OpeningLaws.{named-before, named-behind, named-unsound, named-sound}

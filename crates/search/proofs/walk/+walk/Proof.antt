@@ -7,8 +7,8 @@ use borrow.Author.Needs.{needs}
 use denote.Ref.{now}
 use lib.ListN.{take}
 use lib.Seq.{length-take-le}
-use Rattle.block.specs.Answers.{entry}
-use Rattle.block.proofs.PayloadLaws.{within-told}
+use Rattle.payload.specs.Answers.{entry}
+use Rattle.payload.proofs.PayloadLaws.{within-told}
 use Rattle.query.specs.Query.{queryOf}
 use Rattle.search.specs.Steps.{HasRoom}
 use Rattle.search.proofs.WalkLaws.{walk-ends, walk-leaf, stopped-stays, entry-closer, child-within}
@@ -19,7 +19,7 @@ use borrow.Fn.PlainCycle.{Measures, is, falls, and}
 use Rattle.search.proofs.walk.walk.Reads as walk
 use Rattle.search.proofs.walk.walk.Kinds as walk-kinds
 use Rattle.search.proofs.walk.+walk.Lts-walk as walk-lts
-use Rattle.block.proofs.payload.entry_at.Reads as entry-at-reads
+use Rattle.payload.proofs.entry_at.Reads as entry-at-reads
 use Rattle.search.proofs.bound.next_key.Reads as next-key-reads
 use Rattle.search.proofs.walk.find.Reads as find-reads
 use Rattle.search.proofs.walk.visit.Reads as visit-reads

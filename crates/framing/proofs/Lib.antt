@@ -1,0 +1,2 @@
+-- Laws of numbers and frames.
+pub mod FrameLaws

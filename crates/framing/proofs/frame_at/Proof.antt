@@ -1,0 +1,51 @@
+-- `block::framing::frame_at` meets its contract: a number that was read leads to `framed`, a refusal stays. Assumes nothing.
+use mathlib.Core.Path.{sym, ap, _∙_}
+use native.Mathlib.Omega.{arith}
+use denote.Ref.{now}
+use Rattle.outcome.proofs.OutcomeLaws.{bind-answer, bind-refused}
+use Rattle.framing.specs.Frame.{numberAt, framed, frameAt}
+use Rattle.framing.specs.Answers.{number, frame}
+use Rattle.framing.proofs.FrameLaws.{numbered}
+use borrow.Author.Needs.{needs}
+use Rattle.framing.proofs.frame_at.Statement.{statement}
+use Rattle.framing.proofs.frame_at.Tie as tie
+
+number-at-requires : tie.Need-number-at-requires
+number-at-requires c κs = search needs
+
+enum-known-number : tie.Need-enum-known-number
+enum-known-number c = search needs
+
+enum-known-number-2 : tie.Need-enum-known-number-2
+enum-known-number-2 c = search needs
+
+framed-requires : tie.Need-framed-requires
+unfolding number
+framed-requires c κs =
+    let at = c .before .before .before .before .before .args .at in
+    let n = numbered 10 at (now (c .before .before .before .before .before .args .file)) at _ (sym (c .before .before .before .number-at .ensures at) ∙ ap (number at) (c .before .number2 .given .1)) in
+    omega arith
+
+returns : tie.Need-returns
+unfolding number frame frameAt
+returns c =
+    let at = c .before .before .before .before .before .args .at in
+    sym (bind-refused (numberAt 10 at (now (c .before .before .before .before .before .args .file)) at) _ _ _ (sym (c .before .before .before .number-at .ensures at) ∙ ap (number at) (c .before .number .given .1)))
+
+returns-2 : tie.Need-returns-2
+unfolding number frameAt
+returns-2 c =
+    let at = c .before .before .before .before .before .before .args .at in
+    c .framed .ensures
+    ∙ sym (bind-answer (numberAt 10 at (now (c .before .before .before .before .before .before .args .file)) at) _ _ (sym (c .before .before .before .before .number-at .ensures at) ∙ ap (number at) (c .before .before .number2 .given .1)))
+
+pub frame-at-spec : {M : Type 1} → statement M
+frame-at-spec =
+    tie.close
+    (tie.spec
+    number-at-requires
+    enum-known-number
+    enum-known-number-2
+    framed-requires
+    returns
+    returns-2)

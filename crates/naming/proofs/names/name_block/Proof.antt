@@ -1,0 +1,66 @@
+-- `checker::names::name_block` meets its contract: the frame at a start is that of the block there. Assumes nothing.
+use mathlib.Core.Path.{sym, ap, _∙_}
+use native.Mathlib.Omega.{arith}
+use borrow.Author.Needs.{needs}
+use denote.Ref.{now}
+use Rattle.framing.specs.Answers.{frame}
+use Rattle.framing.proofs.FrameLaws.{frame⇒Framed}
+use Rattle.naming.proofs.BlockNamesLaws.{block-framed, block-none, block-index}
+use Rattle.naming.proofs.names.name_block.Statement.{statement}
+use Rattle.naming.proofs.names.name_block.Tie as tie
+
+frame-at-requires : tie.Need-frame-at-requires
+frame-at-requires c κs = search needs
+
+enum-told : tie.Need-enum-told
+enum-told c = search needs
+
+enum-known-frame : tie.Need-enum-known-frame
+enum-known-frame c = search needs
+
+add-from : tie.Need-add-from
+unfolding frame
+add-from c =
+    let l = frame⇒Framed (now (c .before .before .before .before .before .before .before .args .file)) (c .before .before .before .before .before .before .before .args .start) _ (sym (c .before .before .before .before .frame-at .ensures) ∙ ap (frame (c .before .before .before .before .before .before .before .args .start)) (c .before .before .frame .given .1)) in
+    let some = l .some in
+    let sized = l .sized in
+    let within = l .within in
+    omega (arith, c .before .before .before .before .before .before .before .good)
+
+returns : tie.Need-returns
+unfolding frame
+returns c = λ first bs seen b k m at. block-none (now (c .before .before .before .before .before .before .before .before .before .args .file)) first bs seen (now (c .before .before .before .before .before .before .before .before .before .args .work)) (c .before .before .before .before .before .before .before .before .before .args .n) k b m (c .before .before .before .before .before .before .before .before .before .args .start) at _ (sym (c .before .before .before .before .before .before .frame-at .ensures) ∙ ap (frame (c .before .before .before .before .before .before .before .before .before .args .start)) (c .before .before .before .before .frame .given .1)) (c .if1 .taken)
+
+name-entries-requires : tie.Need-name-entries-requires
+unfolding frame
+name-entries-requires c κs =
+    let l = frame⇒Framed (now (c .before .before .before .before .before .before .before .before .before .before .args .file)) (c .before .before .before .before .before .before .before .before .before .before .args .start) _ (sym (c .before .before .before .before .before .before .before .frame-at .ensures) ∙ ap (frame (c .before .before .before .before .before .before .before .before .before .before .args .start)) (c .before .before .before .before .before .frame .given .1)) in
+    let some = l .some in
+    let sized = l .sized in
+    let within = l .within in
+    (c .before .before .before .before .before .before .before .before .before .before .pre, omega arith)
+
+returns-2 : tie.Need-returns-2
+unfolding frame
+returns-2 c = λ first bs seen b k m at. absurd (block-framed (now (c .before .before .before .before .before .args .file)) first bs seen (now (c .before .before .before .before .before .args .work)) (c .before .before .before .before .before .args .n) k b m (c .before .before .before .before .before .args .start) at _ _ (sym (c .before .before .frame-at .ensures) ∙ ap (frame (c .before .before .before .before .before .args .start)) (c .enum-told .given .1)))
+
+same-length : tie.Need-same-length
+same-length c = search needs
+
+returns-3 : tie.Need-returns-3
+unfolding frame
+returns-3 c = λ first bs seen b k m at. block-index (now (c .before .before .before .before .before .before .before .before .before .before .before .before .before .args .file)) first bs seen (now (c .before .before .before .before .before .before .before .before .before .before .before .before .before .args .work)) (c .before .before .before .before .before .before .before .before .before .before .before .before .before .args .n) k b m (c .before .before .before .before .before .before .before .before .before .before .before .before .before .args .start) at _ (sym (c .before .before .before .before .before .before .before .before .before .before .frame-at .ensures) ∙ ap (frame (c .before .before .before .before .before .before .before .before .before .before .before .before .before .args .start)) (c .before .before .before .before .before .before .before .before .frame .given .1)) (c .before .before .before .before .if1 .left) _ _ (c .before .before .name-entries .ensures)
+
+pub name-block-spec : {M : Type 1} → statement M
+name-block-spec =
+    tie.close
+    (tie.spec
+    frame-at-requires
+    enum-told
+    enum-known-frame
+    add-from
+    returns
+    name-entries-requires
+    returns-2
+    same-length
+    returns-3)

@@ -1,0 +1,66 @@
+-- `checker::names::named` meets its contract: the search finds the block, and its frame tells size and level. Assumes nothing.
+use mathlib.Core.Path.{sym, ap, _∙_}
+use borrow.Author.Needs.{needs}
+use denote.Ref.{now}
+use Rattle.framing.specs.Answers.{frame}
+use Rattle.naming.proofs.NamesLaws.{named-none, named-framed, named-unfit, named-fit}
+use Rattle.naming.proofs.names.named.Statement.{statement}
+use Rattle.naming.proofs.names.named.Tie as tie
+
+find-requires : tie.Need-find-requires
+find-requires c κs = search needs
+
+returns : tie.Need-returns
+returns c = λ from bs seen key k.
+    named-none (now (c .before .before .before .before .args .file)) from bs seen (now (c .before .before .before .before .args .work)) (c .before .before .before .before .args .n) k (record { key = key; offset = c .before .before .before .before .args .offset; size = c .before .before .before .before .args .size }) (c .before .before .before .before .args .level) (c .before .find .result) (c .before .find .ensures) (c .if1 .taken)
+
+frame-at-requires : tie.Need-frame-at-requires
+frame-at-requires c κs = search needs
+
+enum-told : tie.Need-enum-told
+enum-told c = search needs
+
+enum-known-frame : tie.Need-enum-known-frame
+enum-known-frame c = search needs
+
+returns-2 : tie.Need-returns-2
+unfolding frame
+returns-2 c = λ from bs seen key k.
+    named-unfit (now (c .before .before .before .before .before .before .before .before .before .args .file)) from bs seen (now (c .before .before .before .before .before .before .before .before .before .args .work)) (c .before .before .before .before .before .before .before .before .before .args .n) k (record { key = key; offset = c .before .before .before .before .before .before .before .before .before .args .offset; size = c .before .before .before .before .before .before .before .before .before .args .size }) (c .before .before .before .before .before .before .before .before .before .args .level) (c .before .before .before .before .before .before .find .result) (c .before .before .before .before .before .before .find .ensures) (c .before .before .before .before .before .if1 .left) _ (sym (c .before .before .before .before .frame-at .ensures) ∙ ap (frame (c .before .before .before .before .before .before .before .before .before .args .offset)) (c .before .before .frame .given .1)) (λ size lower. c .if2 .taken size)
+
+cast-if3 : tie.Need-cast-if3
+cast-if3 c = search needs
+
+add-if3 : tie.Need-add-if3
+add-if3 c = search needs
+
+returns-3 : tie.Need-returns-3
+unfolding frame
+returns-3 c = λ from bs seen key k.
+    named-unfit (now (c .before .before .before .before .before .before .before .before .before .before .before .args .file)) from bs seen (now (c .before .before .before .before .before .before .before .before .before .before .before .args .work)) (c .before .before .before .before .before .before .before .before .before .before .before .args .n) k (record { key = key; offset = c .before .before .before .before .before .before .before .before .before .before .before .args .offset; size = c .before .before .before .before .before .before .before .before .before .before .before .args .size }) (c .before .before .before .before .before .before .before .before .before .before .before .args .level) (c .before .before .before .before .before .before .before .before .find .result) (c .before .before .before .before .before .before .before .before .find .ensures) (c .before .before .before .before .before .before .before .if1 .left) _ (sym (c .before .before .before .before .before .before .frame-at .ensures) ∙ ap (frame (c .before .before .before .before .before .before .before .before .before .before .before .args .offset)) (c .before .before .before .before .frame .given .1)) (λ size lower. c .if3 .taken lower)
+
+returns-4 : tie.Need-returns-4
+unfolding frame
+returns-4 c = λ from bs seen key k.
+    absurd (named-framed (now (c .before .before .before .before .before .before .before .args .file)) from bs seen (now (c .before .before .before .before .before .before .before .args .work)) (c .before .before .before .before .before .before .before .args .n) k (record { key = key; offset = c .before .before .before .before .before .before .before .args .offset; size = c .before .before .before .before .before .before .before .args .size }) (c .before .before .before .before .before .before .before .args .level) (c .before .before .before .before .find .result) (c .before .before .before .before .find .ensures) (c .before .before .before .if1 .left) _ _ (sym (c .before .before .frame-at .ensures) ∙ ap (frame (c .before .before .before .before .before .before .before .args .offset)) (c .enum-told .given .1)))
+
+returns-5 : tie.Need-returns-5
+unfolding frame
+returns-5 c = λ from bs seen key k.
+    named-fit (now (c .before .before .before .before .before .before .before .before .before .before .before .args .file)) from bs seen (now (c .before .before .before .before .before .before .before .before .before .before .before .args .work)) (c .before .before .before .before .before .before .before .before .before .before .before .args .n) k (record { key = key; offset = c .before .before .before .before .before .before .before .before .before .before .before .args .offset; size = c .before .before .before .before .before .before .before .before .before .before .before .args .size }) (c .before .before .before .before .before .before .before .before .before .before .before .args .level) (c .before .before .before .before .before .before .before .before .find .result) (c .before .before .before .before .before .before .before .before .find .ensures) (c .before .before .before .before .before .before .before .if1 .left) _ (sym (c .before .before .before .before .before .before .frame-at .ensures) ∙ ap (frame (c .before .before .before .before .before .before .before .before .before .before .before .args .offset)) (c .before .before .before .before .frame .given .1)) (c .before .before .if2 .left) (c .if3 .left)
+
+pub named-spec : {M : Type 1} → statement M
+named-spec =
+    tie.close
+    (tie.spec
+    find-requires
+    returns
+    frame-at-requires
+    enum-told
+    enum-known-frame
+    returns-2
+    cast-if3
+    add-if3
+    returns-3
+    returns-4
+    returns-5)

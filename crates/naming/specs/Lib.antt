@@ -1,0 +1,3 @@
+-- What the work list holds.
+pub mod Starts
+pub mod Names

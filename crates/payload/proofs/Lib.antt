@@ -1,0 +1,4 @@
+-- Laws of the items of a payload.
+pub mod PayloadLaws
+pub mod ScanLaws
+pub mod ReadLaws

@@ -1,0 +1,165 @@
+-- The steps through a payload that was read: the place of a refusal does not matter, and where records and keys stand.
+-- Assumes nothing.
+use mathlib.Core.Path.{_≡_, sym, ap, _∙_, subst}
+use mathlib.Core.Bool.{true}
+use mathlib.Core.List.{List, map, List·Memᴰ}
+use Prim.Native.Nat.{ℕ, _+_, _-_, _≤_, _<_}
+use native.Mathlib.Omega.{arith}
+use lib.Dec.{leb, ltb}
+use lib.ListN.{length, take}
+use borrow.Author.Tests.{ltb-true}
+use Rattle.outcome.specs.Outcome.{Outcome, answer}
+use Rattle.outcome.specs.Items.{Step, part, itemsFrom}
+use Rattle.outcome.proofs.OutcomeLaws.{answer-injective, kept, kept⁻¹, bind-answer, bind⁻¹}
+use Rattle.outcome.proofs.PartLaws.{part-take}
+use Rattle.outcome.proofs.ItemsLaws.{Row, row-end, row-more, ReadFrom, row-member}
+use Rattle.outcome.proofs.ListsLaws.{AscendingIn, ascending-wider}
+use Rattle.framing.specs.Frame.{readAs, numberAt}
+use Rattle.payload.specs.Payload.{Text, Entry, textAt, entryAt, entrySized, payloadAt, rising}
+use Rattle.payload.specs.Answers.{textIn}
+use Rattle.framing.proofs.FrameLaws.{numbered, number-read}
+use Rattle.payload.proofs.PayloadLaws.{text⇒Placed, entry⇒Entered}
+
+-- ---- what is answered does not depend on the place that a refusal would have
+
+pub number-any-place : (cut place c p : ℕ) (s : List ℕ) (at : ℕ) (n : Step ℕ) → numberAt cut place s at ≡ answer n → numberAt c p s at ≡ answer n
+unfolding numberAt readAs
+number-any-place cut place c p s at n e =
+    let r = number-read cut place s at n e in
+    ap (readAs c p at) (r .1) ∙ ap (λ (k : ℕ). answer (record { item = n .item; next = k })) (sym (r .2))
+
+pub text-any-place : (place p : ℕ) (s : List ℕ) (at : ℕ) (x : Step Text) → textAt place s at ≡ answer x → textAt p s at ≡ answer x
+unfolding textAt
+text-any-place place p s at x e =
+    let first = bind⁻¹ (numberAt 15 place s at) _ x e in
+    let n = first .0 in
+    let long = kept⁻¹ (leb (n .next + n .item) (length s)) 15 place _ x (first .2) in
+    bind-answer (numberAt 15 p s at) _ n (number-any-place 15 place 15 p s at n (first .1)) ∙ kept (leb (n .next + n .item) (length s)) 15 p _ (long .0) ∙ long .1
+
+-- an entry that was read: its key, its two numbers
+pub record EntryRead (place : ℕ) (s : List ℕ) (at : ℕ) (x : Step Entry) : Type 0 where
+  pub key : Step Text
+  pub offset : Step ℕ
+  pub size : Step ℕ
+  pub key-read : textAt place s at ≡ answer key
+  pub offset-read : numberAt 15 place s (key .next) ≡ answer offset
+  pub size-read : numberAt 15 place s (offset .next) ≡ answer size
+  pub entry-is : record { item = record { key = key .item; offset = offset .item; size = size .item }; next = size .next } ≡ x
+
+pub entry⁻¹ : (place : ℕ) (s : List ℕ) (at : ℕ) (x : Step Entry) → entryAt place s at ≡ answer x → EntryRead place s at x
+unfolding entryAt entrySized
+entry⁻¹ place s at x e =
+    let first = bind⁻¹ (textAt place s at) _ x e in
+    let second = bind⁻¹ (numberAt 15 place s (first .0 .next)) _ x (first .2) in
+    let third = bind⁻¹ (numberAt 15 place s (second .0 .next)) _ x (second .2) in
+    record {
+      key = first .0;
+      offset = second .0;
+      size = third .0;
+      key-read = first .1;
+      offset-read = second .1;
+      size-read = third .1;
+      entry-is = answer-injective _ x (third .2);
+    }
+
+pub entry-any-place : (place p : ℕ) (s : List ℕ) (at : ℕ) (x : Step Entry) → entryAt place s at ≡ answer x → entryAt p s at ≡ answer x
+unfolding entryAt entrySized
+entry-any-place place p s at x e = again (entry⁻¹ place s at x e)
+  where
+    again : EntryRead place s at x → entryAt p s at ≡ answer x
+    again r =
+        bind-answer (textAt p s at) _ (r .key) (text-any-place place p s at (r .key) (r .key-read))
+        ∙ bind-answer (numberAt 15 p s (r .key .next)) _ (r .offset) (number-any-place 15 place 15 p s (r .key .next) (r .offset) (r .offset-read))
+        ∙ bind-answer (numberAt 15 p s (r .offset .next)) _ (r .size) (number-any-place 15 place 15 p s (r .offset .next) (r .size) (r .size-read))
+        ∙ ap answer (r .entry-is)
+
+-- ---- where a byte string stands
+
+-- behind `from`, at most up to `end`, and with the bytes that stand there
+pub record Stands (s : List ℕ) (from end : ℕ) (t : Text) : Type 0 where
+  pub after : from < t .at
+  pub before : t .at + length (t .bytes) ≤ end
+  pub bytes-are : part s (t .at) (length (t .bytes)) ≡ t .bytes
+
+pub stands-wider : (s : List ℕ) (from end low high : ℕ) (t : Text) → low ≤ from → end ≤ high → Stands s from end t → Stands s low high t
+stands-wider s from end low high t a b h = let after = h .after in let before = h .before in record { after = omega arith; before = omega arith; bytes-are = h .bytes-are }
+
+-- in what comes before an end, and so in the whole
+pub stands-take : (file : List ℕ) (cut from end : ℕ) (t : Text) → end ≤ cut → Stands (take cut file) from end t → Stands file from end t
+stands-take file cut from end t h p =
+    let before = p .before in
+    record { after = p .after; before = before; bytes-are = sym (part-take file cut (t .at) (length (t .bytes)) (omega arith)) ∙ p .bytes-are }
+
+pub text-stands : (place : ℕ) (s : List ℕ) (at : ℕ) (x : Step Text) → textAt place s at ≡ answer x → Stands s at (x .next) (x .item)
+unfolding textIn
+text-stands place s at x e =
+    let p = text⇒Placed place s at x e in
+    let long = p .long in
+    let ends = p .ends in
+    record {
+      after = p .forward;
+      before = omega arith;
+      bytes-are = ap (part s (x .item .at)) long ∙ sym (ap (λ (t : Text). t .bytes) (p .item-is));
+    }
+
+pub key-stands : (place : ℕ) (s : List ℕ) (at : ℕ) (x : Step Entry) → entryAt place s at ≡ answer x → Stands s at (x .next) (x .item .key)
+key-stands place s at x e = go (entry⁻¹ place s at x e)
+  where
+    go : EntryRead place s at x → Stands s at (x .next) (x .item .key)
+    go r =
+        let n = numbered 15 place s (r .key .next) (r .offset) (r .offset-read) .forward in
+        let m = numbered 15 place s (r .offset .next) (r .size) (r .size-read) .forward in
+        subst (λ (y : Step Entry). Stands s at (y .next) (y .item .key)) (r .entry-is)
+        (stands-wider s at (r .key .next) at (r .size .next) (r .key .item) (omega arith) (omega arith) (text-stands place s at (r .key) (r .key-read)))
+
+-- ---- a payload that was read
+
+-- steps through s whose items each have a byte string that stands within the step
+module _ {A : Type 0} (step : ℕ → Outcome (Step A)) (textOf : A → Text) (s : List ℕ) (stands : (at : ℕ) (x : Step A) → step at ≡ answer x → Stands s at (x .next) (textOf (x .item)))
+    (within : (at : ℕ) (x : Step A) → step at ≡ answer x → x .next ≤ length s) where
+  pub steps-forward : (at : ℕ) (x : Step A) → step at ≡ answer x → at < x .next
+  steps-forward at x e = let p = stands at x e in let after = p .after in let before = p .before in omega arith
+
+  -- the byte strings stand at ascending offsets
+  pub row-ascending : (at : ℕ) (xs : List A) → Row step (length s) at xs → at ≤ length s → AscendingIn (at + 1) (length s + 1) (map (λ x. textOf x .at) xs)
+  unfolding AscendingIn
+  row-ascending at xs (row-end h) inside = omega arith
+  row-ascending at xs (row-more x more h e r) inside =
+      let p = stands at x e in
+      let after = p .after in
+      let before = p .before in
+      let rest = row-ascending (x .next) more r (within at x e) in
+      (omega arith, ascending-wider (x .next + 1) (length s + 1) (textOf (x .item) .at + 1) (length s + 1) (map (λ y. textOf y .at) more) (omega arith) (omega arith) rest)
+
+  -- each stands behind the first offset and before the end
+  pub row-stands : (at : ℕ) (xs : List A) → Row step (length s) at xs → (x : A) → List·Memᴰ x xs → Stands s at (length s) (textOf x)
+  row-stands at xs r x m = go (row-member step (length s) steps-forward at xs r x m)
+    where
+      go : ReadFrom step (length s) at x → Stands s at (length s) (textOf x)
+      go q =
+          subst (λ (y : A). Stands s at (length s) (textOf y)) (q .is-item)
+          (stands-wider s (q .read-at) (q .read .next) at (length s) (textOf (q .read .item)) (q .after) (within (q .read-at) (q .read) (q .stepped)) (stands (q .read-at) (q .read) (q .stepped)))
+
+-- what is known of the items of a payload that was read
+pub record Filled {A : Type 0} (step : ℕ → Outcome (Step A)) (textOf : A → Text) (end at : ℕ) (xs : List A) : Type 0 where
+  pub some : at < end
+  pub items : itemsFrom step end (end - at) at ≡ answer xs
+  pub sorted : rising (map (λ x. textOf x .bytes) xs) ≡ true
+
+pub payload⁻¹ : {A : Type 0} (step : ℕ → Outcome (Step A)) (textOf : A → Text) (unsorted place end at : ℕ) (xs : List A) → payloadAt step textOf unsorted place end at ≡ answer xs
+    → Filled step textOf end at xs
+unfolding payloadAt
+payload⁻¹ {A} step textOf unsorted place end at xs e =
+    let some = kept⁻¹ (ltb at end) 15 place _ xs e in
+    let items = bind⁻¹ (itemsFrom step end (end - at) at) _ xs (some .1) in
+    go (items .0) (ltb-true at end (some .0)) (items .1) (kept⁻¹ _ unsorted place (answer (items .0)) xs (items .2))
+  where
+    go : (ys : List A) → at < end → itemsFrom step end (end - at) at ≡ answer ys → (rising (map (λ x. textOf x .bytes) ys) ≡ true) × (answer ys ≡ answer xs) → Filled step textOf end at xs
+    go ys some items sorted =
+        subst (Filled step textOf end at) (answer-injective ys xs (sorted .1)) (record { some = some; items = items; sorted = sorted .0 })
+
+pub text-within : (place : ℕ) (s : List ℕ) (at : ℕ) (x : Step Text) → textAt place s at ≡ answer x → x .next ≤ length s
+text-within place s at x e = text⇒Placed place s at x e .within
+
+pub entry-within : (place : ℕ) (s : List ℕ) (at : ℕ) (x : Step Entry) → entryAt place s at ≡ answer x → x .next ≤ length s
+entry-within place s at x e = entry⇒Entered place s at x e .within

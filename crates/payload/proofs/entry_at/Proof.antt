@@ -1,0 +1,69 @@
+-- `block::payload::entry_at` meets its contract: a key, then two numbers. Assumes nothing.
+use mathlib.Core.Path.{sym, ap, _∙_}
+use native.Mathlib.Omega.{arith}
+use borrow.Author.Needs.{needs}
+use denote.Ref.{now}
+use Rattle.framing.specs.Answers.{number}
+use Rattle.payload.specs.Answers.{text, entry, KeyWithin}
+use Rattle.payload.proofs.PayloadLaws.{text⇒Placed, entry-keyless, entry-refused, entry-read}
+use Rattle.payload.proofs.entry_at.Statement.{statement}
+use Rattle.payload.proofs.entry_at.Tie as tie
+
+text-at-requires : tie.Need-text-at-requires
+text-at-requires c κs = search needs
+
+enum-known-text : tie.Need-enum-known-text
+enum-known-text c = search needs
+
+enum-known-text-2 : tie.Need-enum-known-text-2
+enum-known-text-2 c = search needs
+
+add-number-at : tie.Need-add-number-at
+unfolding text
+add-number-at c =
+    let t = text⇒Placed 0 (now (c .before .before .before .before .before .args .s)) (c .before .before .before .before .before .args .at) _ (sym (c .before .before .before .text-at .ensures 0) ∙ ap (text 0 (now (c .before .before .before .before .before .args .s))) (c .before .text2 .given .1)) in
+    let within = t .within in
+    omega (arith, c .before .before .before .before .before .good)
+
+number-at-requires : tie.Need-number-at-requires
+number-at-requires c κs = search needs
+
+enum-known-first : tie.Need-enum-known-first
+enum-known-first c = search needs
+
+enum-known-first-2 : tie.Need-enum-known-first-2
+enum-known-first-2 c = search needs
+
+sized-requires : tie.Need-sized-requires
+unfolding text
+sized-requires c κs =
+    let t = text⇒Placed 0 (now (c .before .before .before .before .before .before .before .before .before .args .s)) (c .before .before .before .before .before .before .before .before .before .args .at) _ (sym (c .before .before .before .before .before .before .before .text-at .ensures 0) ∙ ap (text 0 (now (c .before .before .before .before .before .before .before .before .before .args .s))) (c .before .before .before .before .before .text2 .given .1)) in
+    t .within
+
+returns : tie.Need-returns
+unfolding text entry KeyWithin
+returns c = (λ place. sym (entry-keyless place (now (c .before .before .before .before .before .args .s)) (c .before .before .before .before .before .args .at) _ place (sym (c .before .before .before .text-at .ensures place) ∙ ap (text place (now (c .before .before .before .before .before .args .s))) (c .before .text .given .1))), tt)
+
+returns-2 : tie.Need-returns-2
+unfolding text number entry KeyWithin
+returns-2 c = (λ place. sym (entry-refused place (now (c .before .before .before .before .before .before .before .before .before .args .s)) (c .before .before .before .before .before .before .before .before .before .args .at) _ _ place (sym (c .before .before .before .before .before .before .before .text-at .ensures place) ∙ ap (text place (now (c .before .before .before .before .before .before .before .before .before .args .s))) (c .before .before .before .before .before .text2 .given .1)) (sym (c .before .before .before .number-at .ensures place) ∙ ap (number place) (c .before .first .given .1))), tt)
+
+returns-3 : tie.Need-returns-3
+unfolding text number entry
+returns-3 c = (λ place. c .sized .ensures .0 place ∙ sym (entry-read place (now (c .before .before .before .before .before .before .before .before .before .before .args .s)) (c .before .before .before .before .before .before .before .before .before .before .args .at) _ _ (sym (c .before .before .before .before .before .before .before .before .text-at .ensures place) ∙ ap (text place (now (c .before .before .before .before .before .before .before .before .before .before .args .s))) (c .before .before .before .before .before .before .text2 .given .1)) (sym (c .before .before .before .before .number-at .ensures place) ∙ ap (number place) (c .before .before .first2 .given .1))), c .sized .ensures .1)
+
+pub entry-at-spec : {M : Type 1} → statement M
+entry-at-spec =
+    tie.close
+    (tie.spec
+    text-at-requires
+    enum-known-text
+    enum-known-text-2
+    add-number-at
+    number-at-requires
+    enum-known-first
+    enum-known-first-2
+    sized-requires
+    returns
+    returns-2
+    returns-3)

@@ -1,0 +1,116 @@
+-- `block::payload::records_at` meets its contract. The loop's invariant is `Scanned`: the records seen, their count, whether they rise, and
+-- the last one. Assumes nothing.
+use mathlib.Core.Path.{refl, sym, ap, _∙_}
+use Prim.Native.Nat.{_-_}
+use native.Mathlib.Omega.{arith}
+use borrow.Author.Needs.{needs}
+use denote.Ref.{now}
+use lib.ListN.{length}
+use Rattle.payload.specs.Payload.{textAt, recordsAt}
+use Rattle.payload.specs.Answers.{text, payload, textIn}
+use Rattle.payload.proofs.PayloadLaws.{text⇒Placed}
+use Rattle.payload.proofs.ScanLaws.{Scanned, scanned-start, scanned-more, scanned-empty, scanned-refused, scanned-unsorted, scanned-sound}
+use Rattle.payload.proofs.records_at.Statement.{statement}
+use Rattle.payload.proofs.records_at.Tie as tie
+
+abbrev Inv-loop : tie.InvT-loop
+Inv-loop s from at₀ count₀ rising₀ last₀ size₀ at count rising last size = Scanned (λ p. textAt p s) (λ x. x) s from at count rising last size
+
+abbrev μ-loop : tie.MeasureT-loop
+μ-loop s from at₀ count₀ rising₀ last₀ size₀ at count rising last size = length s - at
+
+returns : tie.Need-returns Inv-loop μ-loop
+unfolding payload recordsAt
+returns c place = sym (scanned-empty (λ p. textAt p (now (c .before .before .args .s))) (λ x. x) (now (c .before .before .args .s)) (c .before .before .args .from) 16 (c .if1 .taken) place)
+
+loop-holds : tie.Need-loop-holds Inv-loop μ-loop
+loop-holds c = scanned-start (λ p. textAt p (now (c .before .before .args .s))) (λ x. x) (now (c .before .before .args .s)) (c .before .before .args .from) (omega arith)
+
+text-at-requires : tie.Need-text-at-requires Inv-loop μ-loop
+text-at-requires c κs = search needs
+
+enum-known-step : tie.Need-enum-known-step Inv-loop μ-loop
+enum-known-step c = search needs
+
+returns-2 : tie.Need-returns-2 Inv-loop μ-loop
+unfolding payload recordsAt text
+returns-2 c place =
+    sym
+    (scanned-refused (λ p. textAt p (now (c .before .before .before .before .before .before .before .before .args .s))) (λ x. x) (now (c .before .before .before .before .before .before .before .before .args .s)) (c .before .before .before .before .before .before .before .before .args .from) 16 _ _ _ _ _ (c .before .before .before .before .before .before .if1 .left) (c .before .before .before .before .before .loop .inv) (c .before .before .before .before .loop-test .taken) _ place (sym (c .before .before .before .text-at .ensures place) ∙ ap (text place (now (c .before .before .before .before .before .before .before .before .args .s))) (c .before .step .given .1)))
+
+enum-known-step-2 : tie.Need-enum-known-step-2 Inv-loop μ-loop
+enum-known-step-2 c = search needs
+
+still-rising-requires : tie.Need-still-rising-requires Inv-loop μ-loop
+unfolding text
+still-rising-requires c κs =
+    let e = (sym (c .before .before .before .text-at .ensures 0) ∙ ap (text 0 (now (c .before .before .before .before .before .before .before .before .args .s))) (c .before .step2 .given .1)) in
+    let t = text⇒Placed 0 (now (c .before .before .before .before .before .before .before .before .args .s)) (c .before .before .before .before .before .loop .at) _ e in
+    let forward = t .forward in
+    let within = t .within in
+    let p = c .before .before .before .before .before .loop .inv in
+    let l = p .last-within in
+    omega arith
+
+add-at : tie.Need-add-at Inv-loop μ-loop
+unfolding text
+add-at c =
+    let e = (sym (c .before .before .before .before .text-at .ensures 0) ∙ ap (text 0 (now (c .before .before .before .before .before .before .before .before .before .args .s))) (c .before .before .step2 .given .1)) in
+    let t = text⇒Placed 0 (now (c .before .before .before .before .before .before .before .before .before .args .s)) (c .before .before .before .before .before .before .loop .at) _ e in
+    let forward = t .forward in
+    let within = t .within in
+    omega (arith, c .before .before .before .before .before .before .before .before .before .good)
+
+add-count : tie.Need-add-count Inv-loop μ-loop
+add-count c =
+    let p = c .before .before .before .before .before .before .loop .inv in
+    let few = p .few in
+    let within = p .within in
+    omega (arith, c .before .before .before .before .before .before .before .before .before .good)
+
+loop-less : tie.Need-loop-less Inv-loop μ-loop
+unfolding text
+loop-less c =
+    let e = (sym (c .before .before .before .before .text-at .ensures 0) ∙ ap (text 0 (now (c .before .before .before .before .before .before .before .before .before .args .s))) (c .before .before .step2 .given .1)) in
+    let t = text⇒Placed 0 (now (c .before .before .before .before .before .before .before .before .before .args .s)) (c .before .before .before .before .before .before .loop .at) _ e in
+    let forward = t .forward in
+    let within = t .within in
+    omega arith
+
+loop-again : tie.Need-loop-again Inv-loop μ-loop
+unfolding text textIn
+loop-again c =
+    let e = (sym (c .before .before .before .before .text-at .ensures 0) ∙ ap (text 0 (now (c .before .before .before .before .before .before .before .before .before .args .s))) (c .before .before .step2 .given .1)) in
+    let t = text⇒Placed 0 (now (c .before .before .before .before .before .before .before .before .before .args .s)) (c .before .before .before .before .before .before .loop .at) _ e in
+    let forward = t .forward in
+    let within = t .within in
+    scanned-more (λ p. textAt p (now (c .before .before .before .before .before .before .before .before .before .args .s))) (λ x. x) (now (c .before .before .before .before .before .before .before .before .before .args .s)) (c .before .before .before .before .before .before .before .before .before .args .from) _ _ _ _ _ (c .before .before .before .before .before .before .loop .inv) (c .before .before .before .before .before .loop-test .taken) _ _ _ _
+    (λ place. sym (c .before .before .before .before .text-at .ensures place) ∙ ap (text place (now (c .before .before .before .before .before .before .before .before .before .args .s))) (c .before .before .step2 .given .1)) refl (omega arith) (omega arith) (omega arith) _ (c .still-rising .ensures)
+
+returns-3 : tie.Need-returns-3 Inv-loop μ-loop
+unfolding payload recordsAt
+returns-3 c place = sym (scanned-sound (λ p. textAt p (now (c .before .before .before .before .before .args .s))) (λ x. x) (now (c .before .before .before .before .before .args .s)) (c .before .before .before .before .before .args .from) 16 _ _ _ _ _ (c .before .before .before .if1 .left) (c .before .before .loop .inv) (c .before .loop-test .left) (c .if2 .taken) place)
+
+returns-4 : tie.Need-returns-4 Inv-loop μ-loop
+unfolding payload recordsAt
+returns-4 c place = sym (scanned-unsorted (λ p. textAt p (now (c .before .before .before .before .before .args .s))) (λ x. x) (now (c .before .before .before .before .before .args .s)) (c .before .before .before .before .before .args .from) 16 _ _ _ _ _ (c .before .before .before .if1 .left) (c .before .before .loop .inv) (c .before .loop-test .left) (c .if2 .left) place)
+
+pub records-at-spec : {M : Type 1} → statement M
+records-at-spec =
+    tie.close
+    (tie.spec
+    Inv-loop
+    μ-loop
+    returns
+    loop-holds
+    text-at-requires
+    enum-known-step
+    returns-2
+    enum-known-step-2
+    still-rising-requires
+    add-at
+    add-count
+    loop-less
+    loop-again
+    returns-3
+    returns-4)

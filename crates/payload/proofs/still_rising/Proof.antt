@@ -1,0 +1,58 @@
+-- `block::payload::still_rising` meets its contract. Assumes nothing.
+use mathlib.Core.Path.{_∙_, ap₂}
+use borrow.Author.Needs.{needs}
+use Rattle.byte_order.specs.Order.{atMost}
+use Rattle.outcome.specs.Items.{part}
+use Rattle.payload.proofs.ScanLaws.{still, no-longer, lent}
+use Rattle.payload.proofs.still_rising.Statement.{statement}
+use Rattle.payload.proofs.still_rising.Tie as tie
+
+add-at-most : tie.Need-add-at-most
+add-at-most c = search needs
+
+sub-at-most : tie.Need-sub-at-most
+sub-at-most c = search needs
+
+part-at-most-start : tie.Need-part-at-most-start
+part-at-most-start c = search needs
+
+part-at-most-end : tie.Need-part-at-most-end
+part-at-most-end c = search needs
+
+add-at-most-2 : tie.Need-add-at-most-2
+add-at-most-2 c = search needs
+
+sub-at-most-2 : tie.Need-sub-at-most-2
+sub-at-most-2 c = search needs
+
+part-at-most-start-2 : tie.Need-part-at-most-start-2
+part-at-most-start-2 c = search needs
+
+part-at-most-end-2 : tie.Need-part-at-most-end-2
+part-at-most-end-2 c = search needs
+
+at-most-requires : tie.Need-at-most-requires
+at-most-requires c κs = search needs
+
+returns : tie.Need-returns
+unfolding part
+returns c = still _ _ _ (c .before .before .before .if1 .taken) (c .at-most .ensures ∙ ap₂ atMost (lent _ (c .before .before .before .before .before .args .last) (c .before .before .before .before .before .args .size)) (lent _ (c .before .before .before .before .before .args .next) (c .before .before .before .before .before .args .n)))
+
+returns-2 : tie.Need-returns-2
+returns-2 c = no-longer _ _ (c .if1 .left)
+
+pub still-rising-spec : {M : Type 1} → statement M
+still-rising-spec =
+    tie.close
+    (tie.spec
+    add-at-most
+    sub-at-most
+    part-at-most-start
+    part-at-most-end
+    add-at-most-2
+    sub-at-most-2
+    part-at-most-start-2
+    part-at-most-end-2
+    at-most-requires
+    returns
+    returns-2)

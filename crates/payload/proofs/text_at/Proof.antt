@@ -1,0 +1,53 @@
+-- `block::payload::text_at` meets its contract: a number, then the rule that its bytes are there. Assumes nothing.
+use mathlib.Core.Path.{sym, ap, _∙_}
+use native.Mathlib.Omega.{arith}
+use borrow.Author.Needs.{needs}
+use denote.Ref.{now}
+use Rattle.framing.specs.Answers.{number}
+use Rattle.payload.specs.Answers.{text}
+use Rattle.framing.proofs.FrameLaws.{numbered}
+use Rattle.payload.proofs.PayloadLaws.{text-refused, text-short, text-found}
+use Rattle.payload.proofs.text_at.Statement.{statement}
+use Rattle.payload.proofs.text_at.Tie as tie
+
+number-at-requires : tie.Need-number-at-requires
+number-at-requires c κs = search needs
+
+enum-known-number : tie.Need-enum-known-number
+enum-known-number c = search needs
+
+enum-known-number-2 : tie.Need-enum-known-number-2
+enum-known-number-2 c = search needs
+
+sub-if1 : tie.Need-sub-if1
+unfolding number
+sub-if1 c =
+    let n = numbered 15 0 (now (c .before .before .before .before .before .args .s)) (c .before .before .before .before .before .args .at) _ (sym (c .before .before .before .number-at .ensures 0) ∙ ap (number 0) (c .before .number2 .given .1)) in
+    omega arith
+
+returns : tie.Need-returns
+unfolding number text
+returns c place = sym (text-refused place (now (c .before .before .before .before .before .args .s)) (c .before .before .before .before .before .args .at) _ place (sym (c .before .before .before .number-at .ensures place) ∙ ap (number place) (c .before .number .given .1)))
+
+returns-2 : tie.Need-returns-2
+unfolding number text
+returns-2 c place =
+    let e = (sym (c .before .before .before .before .number-at .ensures place) ∙ ap (number place) (c .before .before .number2 .given .1)) in
+    let n = numbered 15 place (now (c .before .before .before .before .before .before .args .s)) (c .before .before .before .before .before .before .args .at) _ e in
+    sym (text-found place (now (c .before .before .before .before .before .before .args .s)) (c .before .before .before .before .before .before .args .at) _ e (omega arith))
+
+returns-3 : tie.Need-returns-3
+unfolding number text
+returns-3 c place = sym (text-short place (now (c .before .before .before .before .before .before .args .s)) (c .before .before .before .before .before .before .args .at) _ (sym (c .before .before .before .before .number-at .ensures place) ∙ ap (number place) (c .before .before .number2 .given .1)) (omega arith))
+
+pub text-at-spec : {M : Type 1} → statement M
+text-at-spec =
+    tie.close
+    (tie.spec
+    number-at-requires
+    enum-known-number
+    enum-known-number-2
+    sub-if1
+    returns
+    returns-2
+    returns-3)

@@ -1,0 +1,3 @@
+-- The meaning of a payload: records or entries.
+pub mod Payload
+pub mod Answers

@@ -1,0 +1,177 @@
+// The records or entries of a payload. A payload is lent as a part `s` of the file that ends where the payload ends, so that offsets
+// are those of the file.
+ghost use Prim.Native.Nat.{ℕ, _+_, _≤_};
+ghost use mathlib.Core.Path.{_≡_};
+ghost use mathlib.Core.Bool.{_&&_};
+ghost use lib.ListN.{length};
+ghost use Rattle.byte_order.specs.Order.{atMost};
+ghost use Rattle.outcome.specs.Items.{part};
+ghost use Rattle.payload.specs.Payload as payloads;
+ghost use Rattle.payload.specs.Answers as answers;
+use framing::NumberStep;
+use framing::number_at;
+
+pub enum TextStep {
+    // A byte string: the offset of its first byte, and its length. The next item follows it.
+    Text { at: usize, length: usize },
+    Refused(u64),
+}
+
+// The record, or the key of an entry, at an offset: a number and that many bytes.
+pub fn text_at(s: &[u8], at: usize) -> TextStep
+    ensures { λ r. ⌜ ((place : ℕ) → answers.text place (now (s .entry)) r ≡ payloads.textAt place (now (s .entry)) at) ⌝ }
+{
+    let number = number_at(s, at, 15);
+    match number {
+        NumberStep::Refused(n) => TextStep::Refused(n),
+        NumberStep::Value { value, next } => {
+            if (s.len() - next) as u64 >= value {
+                TextStep::Text {
+                    at: next,
+                    length: value as usize,
+                }
+            } else {
+                TextStep::Refused(15)
+            }
+        },
+    }
+}
+
+pub enum EntryStep {
+    // An entry: where its key stands and how long it is, the offset and full size of the block it names, where the next entry begins.
+    Entry {
+        key: usize,
+        length: usize,
+        offset: u64,
+        size: u64,
+        next: usize,
+    },
+    Refused(u64),
+}
+
+// The entry at an offset: a key and two numbers.
+pub fn entry_at(s: &[u8], at: usize) -> EntryStep
+    ensures { λ r. ⌜ ((place : ℕ) → answers.entry place (now (s .entry)) r ≡ payloads.entryAt place (now (s .entry)) at) ⌝ }
+    ensures { λ r. ⌜ answers.KeyWithin (now (s .entry)) r ⌝ }
+{
+    let text = text_at(s, at);
+    match text {
+        TextStep::Refused(n) => EntryStep::Refused(n),
+        TextStep::Text { at, length } => {
+            let first = number_at(s, at + length, 15);
+            match first {
+                NumberStep::Refused(n) => EntryStep::Refused(n),
+                NumberStep::Value { value, next } => sized(s, at, length, value, next),
+            }
+        },
+    }
+}
+
+// The entry whose key and offset have been read.
+fn sized(s: &[u8], key: usize, length: usize, offset: u64, at: usize) -> EntryStep
+    requires { ⌜ key + length ≤ lib.ListN.length (now s) ⌝ }
+    ensures { λ r. ⌜ ((place : ℕ) → answers.entry place (now (s .entry)) r ≡ payloads.entrySized place (now (s .entry)) (answers.textIn (now (s .entry)) key length) offset at) ⌝ }
+    ensures { λ r. ⌜ answers.KeyWithin (now (s .entry)) r ⌝ }
+{
+    let number = number_at(s, at, 15);
+    match number {
+        NumberStep::Refused(n) => EntryStep::Refused(n),
+        NumberStep::Value { value, next } => EntryStep::Entry {
+            key,
+            length,
+            offset,
+            size: value,
+            next,
+        },
+    }
+}
+
+pub enum PayloadOutcome {
+    // How many items there are.
+    Sound(usize),
+    Refused(u64),
+}
+
+// Whether the byte strings rise up to here: they did so far, and the last one is at most the next.
+fn still_rising(s: &[u8], rising: bool, last: usize, size: usize, next: usize, n: usize) -> bool
+    requires { ⌜ (last + size ≤ length (now s)) × (next + n ≤ length (now s)) ⌝ }
+    ensures { λ r. ⌜ r ≡ (rising && atMost (part (now (s .entry)) last size) (part (now (s .entry)) next n)) ⌝ }
+{
+    if rising {
+        return byte_order::at_most(&s[last..last + size], &s[next..next + n]);
+    }
+    false
+}
+
+// The records of a data block from an offset to the end of `s`: one or more (15), which fill it (11, 12, 15) and rise (16).
+pub fn records_at(s: &[u8], from: usize) -> PayloadOutcome
+    ensures { λ r. ⌜ ((place : ℕ) → answers.payload place r ≡ answers.counted (payloads.recordsAt place (now (s .entry)) from)) ⌝ }
+{
+    if s.len() <= from {
+        return PayloadOutcome::Refused(15);
+    }
+    let mut at = from;
+    let mut count: usize = 0;
+    let mut rising = true;
+    let mut last = from;
+    let mut size: usize = 0;
+    while at < s.len() {
+        let step = text_at(s, at);
+        match step {
+            TextStep::Refused(n) => return PayloadOutcome::Refused(n),
+            TextStep::Text {
+                at: next,
+                length: n,
+            } => {
+                rising = still_rising(s, rising, last, size, next, n);
+                last = next;
+                size = n;
+                at = next + n;
+                count += 1;
+            },
+        }
+    }
+    if rising {
+        PayloadOutcome::Sound(count)
+    } else {
+        PayloadOutcome::Refused(16)
+    }
+}
+
+// The entries of an index block from an offset to the end of `s`: one or more (15), which fill it (11, 12, 15) and whose keys rise (21).
+pub fn entries_at(s: &[u8], from: usize) -> PayloadOutcome
+    ensures { λ r. ⌜ ((place : ℕ) → answers.payload place r ≡ answers.counted (payloads.entriesAt place (now (s .entry)) from)) ⌝ }
+{
+    if s.len() <= from {
+        return PayloadOutcome::Refused(15);
+    }
+    let mut at = from;
+    let mut count: usize = 0;
+    let mut rising = true;
+    let mut last = from;
+    let mut size: usize = 0;
+    while at < s.len() {
+        let step = entry_at(s, at);
+        match step {
+            EntryStep::Refused(n) => return PayloadOutcome::Refused(n),
+            EntryStep::Entry {
+                key,
+                length: n,
+                offset: _,
+                size: _,
+                next,
+            } => {
+                rising = still_rising(s, rising, last, size, key, n);
+                last = key;
+                size = n;
+                at = next;
+                count += 1;
+            },
+        }
+    }
+    if rising {
+        PayloadOutcome::Sound(count)
+    } else {
+        PayloadOutcome::Refused(21)
+    }
+}

@@ -1,0 +1,5 @@
+-- The tree of a file's blocks: ways down from the root, and that walk order is file order.
+pub mod TreeLaws
+pub mod TreeWays
+pub mod TreeKeys
+pub mod TreeBlocks

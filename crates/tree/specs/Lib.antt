@@ -1,0 +1,4 @@
+-- The tree of a file's blocks, and its rules.
+pub mod Tree
+pub mod Stages
+pub mod Fault

@@ -1,0 +1,92 @@
+-- `checker::hash::hashed` meets its contract. The loop's invariant is `Passed`: the state holds the payloads of the blocks seen. Assumes nothing.
+use mathlib.Core.Path.{sym, ap, _∙_}
+use native.Mathlib.Omega.{arith}
+use borrow.Author.Needs.{needs}
+use denote.Ref.{now}
+use mathlib.Core.Path.{_≡_, subst}
+use mathlib.Core.List.{List}
+use Prim.Native.Nat.{_-_}
+use lib.ListN.{length}
+use Rattle.outcome.specs.Outcome.{answer}
+use Rattle.framing.specs.Answers.{frame}
+use Rattle.block.specs.Block.{Block, blocksAt}
+use Rattle.framing.proofs.FrameLaws.{frame⇒Framed}
+use Rattle.walking.proofs.HashLaws.{Passed, passed-start, passed-end, passed-refused, passed-more}
+use Rattle.walking.proofs.hash.hashed.Statement.{statement}
+use Rattle.walking.proofs.hash.hashed.Tie as tie
+
+abbrev Inv-loop : tie.InvT-loop
+Inv-loop file from state₀ at₀ state at = (bs : List Block) → blocksAt file from ≡ answer bs → Passed file bs at state
+
+abbrev μ-loop : tie.MeasureT-loop
+μ-loop file from state₀ at₀ state at = length file - at
+
+begin-requires : tie.Need-begin-requires Inv-loop μ-loop
+begin-requires c κs = search needs
+
+loop-holds : tie.Need-loop-holds Inv-loop μ-loop
+loop-holds c = λ bs e. subst (Passed (now (c .before .before .args .file)) bs (c .before .before .args .from)) (sym (c .begin .ensures)) (passed-start (now (c .before .before .args .file)) (c .before .before .args .from) bs e)
+
+frame-at-requires : tie.Need-frame-at-requires Inv-loop μ-loop
+frame-at-requires c κs = search needs
+
+enum-told : tie.Need-enum-told Inv-loop μ-loop
+enum-told c = search needs
+
+returns : tie.Need-returns Inv-loop μ-loop
+unfolding frame
+returns c = λ bs e. absurd (passed-refused (now (c .before .before .before .before .before .before .before .args .file)) bs _ _ (c .before .before .before .before .loop .inv bs e) (c .before .before .before .loop-test .taken) _ _ (sym (c .before .before .frame-at .ensures) ∙ ap (frame (c .before .before .before .before .loop .at)) (c .enum-told .given .1)))
+
+enum-known-found : tie.Need-enum-known-found Inv-loop μ-loop
+enum-known-found c = search needs
+
+passed-requires : tie.Need-passed-requires Inv-loop μ-loop
+unfolding frame
+passed-requires c κs =
+    let f = frame⇒Framed (now (c .before .before .before .before .before .before .before .before .args .file)) (c .before .before .before .before .before .loop .at) _ (sym (c .before .before .before .frame-at .ensures) ∙ ap (frame (c .before .before .before .before .before .loop .at)) (c .before .found .given .1)) in
+    let some = f .some in
+    let sized = f .sized in
+    let within = f .within in
+    (some, omega arith)
+
+add-at : tie.Need-add-at Inv-loop μ-loop
+unfolding frame
+add-at c =
+    let f = frame⇒Framed (now (c .before .before .before .before .before .before .before .before .before .before .args .file)) (c .before .before .before .before .before .before .before .loop .at) _ (sym (c .before .before .before .before .before .frame-at .ensures) ∙ ap (frame (c .before .before .before .before .before .before .before .loop .at)) (c .before .before .before .found .given .1)) in
+    let within = f .within in
+    omega (arith, c .before .before .before .before .before .before .before .before .before .before .good)
+
+loop-less : tie.Need-loop-less Inv-loop μ-loop
+unfolding frame
+loop-less c =
+    let f = frame⇒Framed (now (c .before .before .before .before .before .before .before .before .before .before .args .file)) (c .before .before .before .before .before .before .before .loop .at) _ (sym (c .before .before .before .before .before .frame-at .ensures) ∙ ap (frame (c .before .before .before .before .before .before .before .loop .at)) (c .before .before .before .found .given .1)) in
+    let number = f .number in
+    let some = f .some in
+    let sized = f .sized in
+    let before = c .before .before .before .before .before .before .loop-test .taken in
+    omega arith
+
+loop-again : tie.Need-loop-again Inv-loop μ-loop
+unfolding frame
+loop-again c = λ bs e. passed-more (now (c .before .before .before .before .before .before .before .before .before .before .args .file)) bs _ _ (c .before .before .before .before .before .before .before .loop .inv bs e) (c .before .before .before .before .before .before .loop-test .taken) _ (sym (c .before .before .before .before .before .frame-at .ensures) ∙ ap (frame (c .before .before .before .before .before .before .before .loop .at)) (c .before .before .before .found .given .1)) _ (c .before .passed .ensures)
+
+returns-2 : tie.Need-returns-2 Inv-loop μ-loop
+returns-2 c = λ bs e. passed-end (now (c .before .before .before .before .args .file)) bs _ _ (c .before .loop .inv bs e) (c .loop-test .left)
+
+pub hashed-spec : {M : Type 1} → statement M
+hashed-spec =
+    tie.close
+    (tie.spec
+    Inv-loop
+    μ-loop
+    begin-requires
+    loop-holds
+    frame-at-requires
+    enum-told
+    returns
+    enum-known-found
+    passed-requires
+    add-at
+    loop-less
+    loop-again
+    returns-2)

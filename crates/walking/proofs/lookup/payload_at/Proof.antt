@@ -1,0 +1,45 @@
+-- `checker::lookup::payload_at` meets its contract: what the frame says, or nothing. Assumes nothing.
+use mathlib.Core.Path.{sym, ap, _∙_}
+use native.Mathlib.Omega.{arith}
+use borrow.Author.Needs.{needs}
+use denote.Ref.{now}
+use Rattle.framing.specs.Answers.{frame}
+use Rattle.framing.proofs.FrameLaws.{frame⇒Framed}
+use Rattle.walking.proofs.LookupLaws.{bounds-found, bounds-none}
+use Rattle.walking.proofs.lookup.payload_at.Statement.{statement}
+use Rattle.walking.proofs.lookup.payload_at.Tie as tie
+
+frame-at-requires : tie.Need-frame-at-requires
+frame-at-requires c κs = search needs
+
+enum-told : tie.Need-enum-told
+enum-told c = search needs
+
+enum-known-found : tie.Need-enum-known-found
+enum-known-found c = search needs
+
+add-t6 : tie.Need-add-t6
+unfolding frame
+add-t6 c =
+    let f = frame⇒Framed (now (c .before .before .before .before .before .before .args .file)) (c .before .before .before .before .before .before .args .at) _ (sym (c .before .before .before .before .frame-at .ensures) ∙ ap (frame (c .before .before .before .before .before .before .args .at)) (c .before .before .found .given .1)) in
+    let some = f .some in
+    let sized = f .sized in
+    let within = f .within in
+    omega (arith, c .before .before .before .before .before .before .good)
+
+returns : tie.Need-returns
+unfolding frame
+returns c = (sym (bounds-none (now (c .before .before .before .before .args .file)) (c .before .before .before .before .args .at) _ _ (sym (c .before .before .frame-at .ensures) ∙ ap (frame (c .before .before .before .before .args .at)) (c .enum-told .given .1))), (omega arith, omega arith))
+
+returns-2 : tie.Need-returns-2
+unfolding frame
+returns-2 c =
+    let f = frame⇒Framed (now (c .before .before .before .before .before .before .args .file)) (c .before .before .before .before .before .before .args .at) _ (sym (c .before .before .before .before .frame-at .ensures) ∙ ap (frame (c .before .before .before .before .before .before .args .at)) (c .before .before .found .given .1)) in
+    let some = f .some in
+    let sized = f .sized in
+    let within = f .within in
+    (sym (bounds-found (now (c .before .before .before .before .before .before .args .file)) (c .before .before .before .before .before .before .args .at) _ (sym (c .before .before .before .before .frame-at .ensures) ∙ ap (frame (c .before .before .before .before .before .before .args .at)) (c .before .before .found .given .1))), (omega arith, omega arith))
+
+pub payload-at-spec : {M : Type 1} → statement M
+payload-at-spec =
+    tie.close (tie.spec frame-at-requires enum-told enum-known-found add-t6 returns returns-2)
