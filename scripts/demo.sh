@@ -1,9 +1,62 @@
 #!/usr/bin/env bash
-# Proves the library and the program of published vectors, runs it, and shows what it wrote.
-set -eu
+# Installs what is missing, builds the proved library and the command zs, and shows them on an archive of contacts that nobody has.
+set -euo pipefail
 cd "$(dirname "$0")/.."
+PATH="$PATH:${CARGO_HOME:-$HOME/.cargo}/bin"
+made=$(mktemp -d)
+trap 'rm -rf "$made"' EXIT
 
-rt check vectors
-echo
-echo "The published vectors, as the proved code computes them:"
-target/bin/vectors
+scripts/setup.sh
+echo "Proving the library, and building it for Rust and C. The first time this takes some minutes."
+if ! rt staticlib zs 2>&1 | tee "$made/proofs" | grep '^rt: '; then
+    cat "$made/proofs"
+    exit 1
+fi
+echo "Building the command zs over it."
+(cd cli && cargo build --offline --release --quiet --bin zs)
+
+# From here on the commands are those that a person would type beside a copy of samples/contacts.zs.
+PATH="$PWD/cli/target/release:$PATH"
+cp samples/contacts.zs "$made"
+cd "$made"
+
+# show STATUS SENTENCE COMMAND: says what is to be seen, runs the command, and holds it to its exit status.
+show() {
+    printf '\n%s\n$ %s\n' "$2" "$3"
+    local status=0
+    eval "$3" || status=$?
+    if [ "$status" -ne "$1" ]; then
+        echo "demo: exit status $status where $1 was due" >&2
+        exit 1
+    fi
+}
+
+show 0 "The file is checked against every rule of the format: checksums, order, index, and the hash of its data." \
+    "zs validate contacts.zs"
+show 0 "What its header says, and what the check counted." \
+    "zs info contacts.zs"
+show 0 "All contacts of one name. The file is checked, then searched through its index." \
+    "zs dump contacts.zs --prefix 'Greta Mockley\t'"
+show 0 "Which blocks that search opened, from the root down: place, level, bounds, matches." \
+    "zs explain contacts.zs --prefix 'Greta Mockley\t'"
+show 0 "A record that is stored 40 times, over several blocks, is found 40 times." \
+    "zs dump contacts.zs --prefix 'Echo Repeated\t' --count"
+show 0 "Bytes FF are bytes like any other, inside names (cat -v shows them as M-^?) .." \
+    "zs dump contacts.zs --prefix 'Lou\xffse Unreal\t' | cat -v"
+show 0 ".. and in front of them, behind all letters." \
+    "zs dump contacts.zs --start '\xff\xff\xffunlisted 50' | cat -v"
+show 0 "From B up to E through the index .." \
+    "zs dump contacts.zs --start B --stop E -o searched"
+show 0 ".. and by reading front to back .." \
+    "zs dump contacts.zs --start B --stop E --scan -o scanned"
+show 0 ".. are the same records." \
+    "cmp searched scanned && wc -l searched"
+
+cp contacts.zs damaged.zs
+printf i | dd of=damaged.zs bs=1 seek=4998 conv=notrunc status=none
+show 1 "A copy in which one Bram became Brim is refused, with a number, the place of the block and a sentence." \
+    "zs validate damaged.zs"
+show 1 "Nothing of it is given out: there will be no file named out." \
+    "zs dump damaged.zs --prefix 'Ada ' -o out"
+show 2 "See for yourself." \
+    "ls out"

@@ -18,11 +18,14 @@ have() {
     command -v "$1" >/dev/null 2>&1 || [ -x "${CARGO_HOME:-$HOME/.cargo}/bin/$1" ]
 }
 
+# The crates that the command uses: arguments, mapped files, signs of life.
+need librust-clap-dev
+need librust-clap-derive-dev
+need librust-memmap2-dev
+need librust-indicatif-dev
 # The crates that the independent reader uses.
 need librust-crc-dev
 need librust-sha2-dev
-# The mapped files of the library's tests.
-need librust-memmap2-dev
 
 # A Rust tool chain from elsewhere does as well as Debian's (1.63 is enough).
 have cargo || need cargo
@@ -41,7 +44,7 @@ if [ -n "$missing" ]; then
 fi
 
 # Other releases of Debian bring other versions, which cli/ isn't written for.
-for crate in crc-1.8 sha2-0.10; do
+for crate in clap-4 clap_derive-4 memmap2-0.5 indicatif-0.17 crc-1.8 sha2-0.10; do
     set -- /usr/share/cargo/registry/"$crate"*
     if [ ! -d "$1" ]; then
         echo "setup: no $crate in /usr/share/cargo/registry; this needs Debian 12" >&2

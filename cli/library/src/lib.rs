@@ -1,41 +1,76 @@
 //! Safe calls of the proved library. This is the only file with unsafe code: each call hands over slices as pointer and length, and
 //! the contracts of the functions behind them hold for every slice, so nothing is asked of the caller.
+#![warn(missing_docs)]
+
+use std::fs::File;
+use std::io;
+
+/// A file as a slice of bytes that the operating system reads when they are looked at.
+pub type Mapping = memmap2::Mmap;
 
 /// What a reader asks for: a start, a stop that is given or not, and a prefix.
 pub struct Query<'a> {
+    /// A match is at least this.
     pub start: &'a [u8],
+    /// Where given, a match is less than this.
     pub stop: Option<&'a [u8]>,
+    /// A match begins with this.
     pub prefix: &'a [u8],
+}
+
+/// Number and place of a refusal, both 0 without one, and what the file holds.
+#[repr(C)]
+#[derive(Clone, Copy, Debug, PartialEq, Eq)]
+pub struct Checked {
+    /// The refusal, or 0.
+    pub number: u64,
+    /// Its place, or 0.
+    pub place: u64,
+    /// How many ordinary blocks there are.
+    pub blocks: u64,
+    /// How many records there are.
+    pub records: u64,
 }
 
 /// Number and place of a refusal, both 0 without one, and how many records match.
 #[repr(C)]
 #[derive(Clone, Copy, Debug, PartialEq, Eq)]
 pub struct ReadAnswer {
+    /// The refusal, or 0.
     pub number: u64,
+    /// Its place, or 0.
     pub place: u64,
+    /// How many records match.
     pub matches: u64,
 }
 
-/// Number and place of a refusal, both 0 without one, and how many ordinary blocks and records the file has, both 0 after one.
+/// Number and place of a refusal, both 0 without one, how many records match, and how many blocks were opened.
 #[repr(C)]
 #[derive(Clone, Copy, Debug, PartialEq, Eq)]
-pub struct Checked {
+pub struct Found {
+    /// The refusal, or 0.
     pub number: u64,
+    /// Its place, or 0.
     pub place: u64,
-    pub blocks: u64,
-    pub records: u64,
+    /// How many records match.
+    pub matches: u64,
+    /// How many blocks were opened.
+    pub opened: u64,
 }
 
-/// A part of a file: the offset of its first byte, and its length.
+/// A part of a file.
 #[repr(C)]
 #[derive(Clone, Copy, Debug, PartialEq, Eq)]
 pub struct Part {
+    /// The offset of its first byte.
     pub offset: u64,
+    /// Its length.
     pub size: u64,
 }
 
+// As include/zs.h has them. The structs above are C's: 64-bit numbers in this order.
 extern "C" {
+    fn zs_check(file: *const u8, file_len: usize, work: *mut u64, work_len: usize) -> Checked;
     fn zs_read(
         file: *const u8,
         file_len: usize,
@@ -49,9 +84,29 @@ extern "C" {
         results: *mut u64,
         results_len: usize,
     ) -> ReadAnswer;
-    fn zs_check(file: *const u8, file_len: usize, work: *mut u64, work_len: usize) -> Checked;
+    fn zs_search(
+        file: *const u8,
+        file_len: usize,
+        start: *const u8,
+        start_len: usize,
+        stop_given: bool,
+        stop: *const u8,
+        stop_len: usize,
+        prefix: *const u8,
+        prefix_len: usize,
+        opened: *mut u64,
+        opened_len: usize,
+        results: *mut u64,
+        results_len: usize,
+    ) -> Found;
     fn zs_record(file: *const u8, file_len: usize, offset: u64, size: u64) -> Part;
     fn zs_within(file: *const u8, file_len: usize, offset: u64, size: u64) -> bool;
+}
+
+/// Checks the file. `work` needs a place for each ordinary block and is all zeros afterwards.
+pub fn check(file: &[u8], work: &mut [u64]) -> Checked {
+    // SAFETY: each pointer comes with the length of the slice it is taken from, and `work` is borrowed alone.
+    unsafe { zs_check(file.as_ptr(), file.len(), work.as_mut_ptr(), work.len()) }
 }
 
 /// Reads the file front to back; `results` holds offset and length of each match, then zeros.
@@ -75,10 +130,29 @@ pub fn read(file: &[u8], query: &Query, results: &mut [u64]) -> ReadAnswer {
     }
 }
 
-/// Checks the file. `work` needs a place for each ordinary block, and holds zeros afterwards.
-pub fn check(file: &[u8], work: &mut [u64]) -> Checked {
-    // SAFETY: each pointer comes with the length of the slice it is taken from, and `work` is borrowed alone.
-    unsafe { zs_check(file.as_ptr(), file.len(), work.as_mut_ptr(), work.len()) }
+/// Searches through the index; `opened` holds the offset of each block opened in walk order, `results` offset and length of each match,
+/// each then zeros.
+pub fn search(file: &[u8], query: &Query, opened: &mut [u64], results: &mut [u64]) -> Found {
+    let stop = query.stop.unwrap_or(&[]);
+    // SAFETY: each pointer comes with the length of the slice it is taken from; `opened` and `results` are each borrowed alone, so
+    // they overlap neither each other nor the byte strings.
+    unsafe {
+        zs_search(
+            file.as_ptr(),
+            file.len(),
+            query.start.as_ptr(),
+            query.start.len(),
+            query.stop.is_some(),
+            stop.as_ptr(),
+            stop.len(),
+            query.prefix.as_ptr(),
+            query.prefix.len(),
+            opened.as_mut_ptr(),
+            opened.len(),
+            results.as_mut_ptr(),
+            results.len(),
+        )
+    }
 }
 
 /// Where the part lies; offset and size 0 where it isn't within the file.
@@ -87,8 +161,24 @@ pub fn record(file: &[u8], offset: u64, size: u64) -> Part {
     unsafe { zs_record(file.as_ptr(), file.len(), offset, size) }
 }
 
+/// That very part of the file; its empty part at 0 where the part isn't within the file.
+pub fn bytes(file: &[u8], offset: u64, size: u64) -> &[u8] {
+    let part = record(file, offset, size);
+    let (start, length) = (part.offset as usize, part.size as usize);
+    file.get(start..)
+        .and_then(|behind| behind.get(..length))
+        .unwrap_or(&[])
+}
+
 /// Whether the part lies within the file.
 pub fn within(file: &[u8], offset: u64, size: u64) -> bool {
     // SAFETY: as above.
     unsafe { zs_within(file.as_ptr(), file.len(), offset, size) }
+}
+
+/// Maps a whole file. Whoever calls this assumes that nobody changes or cuts the file while the mapping lives: the library's promises
+/// are about bytes that stay as they are, and a look behind the end of a file that was cut meanwhile ends the process.
+pub fn map(file: &File) -> io::Result<Mapping> {
+    // SAFETY: the mapping is private, read only and as long as the file; that the bytes stay as they are is the assumption above.
+    unsafe { Mapping::map(file) }
 }

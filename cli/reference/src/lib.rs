@@ -5,6 +5,7 @@
 //! * [`reader`] checks, reads and searches files, and hands back records.
 //! * [`maker`] builds files: sound ones, unusual ones and damaged ones.
 //! * [`corpus`] names a fixed set of files and cases with the answers due.
+//! * [`samples`] makes the archives of fictitious contacts that `make demo` shows.
 //!
 //! "The paper" in comments is 01-scope.md; refusal numbers are the paper's.
 
@@ -15,3 +16,4 @@ pub mod checksums;
 pub mod corpus;
 pub mod maker;
 pub mod reader;
+pub mod samples;

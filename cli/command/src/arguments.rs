@@ -1,0 +1,168 @@
+//! What a person can ask for, and the help for it.
+
+use std::path::PathBuf;
+
+use clap::builder::{OsStringValueParser, TypedValueParser};
+use clap::{Args, Parser, Subcommand, ValueEnum};
+
+use crate::escapes::{resolved, Bytes};
+
+const ABOUT: &str = "Checks, reads and searches ZS archives (version 0.10, codec none), by a library that is proved.";
+
+const STATUS: &str = "Exit status: 0 answered, 1 refused, 2 usage or input/output.
+A refusal has a number, a place (the first byte of the block meant, or 0) and a sentence.";
+
+const EXAMPLES: &str = "Examples:
+  zs validate contacts.zs
+  zs dump contacts.zs --prefix 'Ada '
+  zs info contacts.zs
+  zs explain contacts.zs --prefix 'Ada '
+
+Exit status: 0 answered, 1 refused, 2 usage or input/output.
+'zs COMMAND --help' says more about each command.";
+
+const VALIDATE_EXAMPLES: &str = "Examples:
+  zs validate contacts.zs
+  zs validate *.zs                 one line for each file; goes on behind a bad one";
+
+const DUMP_EXAMPLES: &str = "S, P and T take the escapes \\t \\n \\r \\\\ and \\x00 to \\xff. Bytes are compared as unsigned numbers.
+
+By default a record is followed by a line end. A record that contains the terminator makes the
+output ambiguous: binary records need --length-prefixed.
+
+Examples:
+  zs dump contacts.zs                                  every record, one to a line
+  zs dump contacts.zs --prefix 'Ada Blank\\t'           the records that begin so
+  zs dump contacts.zs --start B --stop D               from B up to, not including, D
+  zs dump contacts.zs --prefix '\\xff' --count          how many begin with the byte FF
+  zs dump contacts.zs --terminator '\\x00' | xargs -0 -n 1 echo
+  zs dump contacts.zs --length-prefixed u64le -o out   out appears once it is whole";
+
+const INFO_EXAMPLES: &str =
+    "The file is checked first. Metadata that is JSON is shown as it is stored, other metadata as a
+string with escapes.
+
+Examples:
+  zs info contacts.zs
+  zs info -m contacts.zs           the metadata alone, as it is stored";
+
+const EXPLAIN_EXAMPLES: &str = "Each line is a block that the search opened, in that order: its first byte, its level (0 is data),
+and the bounds between which its records lie. A block is opened where some byte string between its
+bounds could match. It is opened in vain where it leads to no match.
+
+Examples:
+  zs explain contacts.zs --prefix 'Ada '
+  zs explain contacts.zs --start B --stop D";
+
+/// The whole command line.
+#[derive(Parser)]
+#[command(name = "zs", version, about = ABOUT, after_help = EXAMPLES)]
+pub struct Arguments {
+    #[command(subcommand)]
+    pub command: Command,
+}
+
+#[derive(Subcommand)]
+pub enum Command {
+    /// Check files against every rule of the format
+    #[command(after_help = format!("{VALIDATE_EXAMPLES}\n\n{STATUS}"))]
+    Validate(Validate),
+    /// Write the records of a file, all or those asked for
+    #[command(after_help = format!("{DUMP_EXAMPLES}\n\n{STATUS}"))]
+    Dump(Dump),
+    /// Show what a file is, as JSON
+    #[command(after_help = format!("{INFO_EXAMPLES}\n\n{STATUS}"))]
+    Info(Info),
+    /// Show which blocks a search opens, and why
+    #[command(after_help = format!("{EXPLAIN_EXAMPLES}\n\n{STATUS}"))]
+    Explain(Explain),
+}
+
+#[derive(Args)]
+pub struct Validate {
+    /// The files to check
+    #[arg(value_name = "FILE", required = true)]
+    pub files: Vec<PathBuf>,
+}
+
+#[derive(Args)]
+pub struct Dump {
+    /// The archive
+    pub file: PathBuf,
+    #[command(flatten)]
+    pub selection: Selection,
+    /// What follows each record
+    #[arg(long, value_name = "T", default_value = "\\n", value_parser = escaped())]
+    pub terminator: Bytes,
+    /// Put each record's length before it instead
+    #[arg(long, value_name = "FORM", conflicts_with = "terminator")]
+    pub length_prefixed: Option<Length>,
+    /// Write to this file, which appears once it is whole; - is standard output
+    #[arg(short, long, value_name = "OUT")]
+    pub output: Option<PathBuf>,
+    /// Only say how many records there are
+    #[arg(long, conflicts_with_all = ["terminator", "length_prefixed"])]
+    pub count: bool,
+    /// Read front to back, not by the index; the answer is the same
+    #[arg(long)]
+    pub scan: bool,
+    #[command(flatten)]
+    pub trust: Trust,
+    /// Refuse (27) where more than N records match
+    #[arg(long, value_name = "N")]
+    pub max_results: Option<u64>,
+}
+
+#[derive(Args)]
+pub struct Info {
+    /// The archive
+    pub file: PathBuf,
+    /// Only the metadata, as it is stored
+    #[arg(short, long)]
+    pub metadata_only: bool,
+}
+
+#[derive(Args)]
+pub struct Explain {
+    /// The archive
+    pub file: PathBuf,
+    #[command(flatten)]
+    pub selection: Selection,
+    #[command(flatten)]
+    pub trust: Trust,
+}
+
+/// Which records are asked for.
+#[derive(Args)]
+pub struct Selection {
+    /// Only records that are at least S
+    #[arg(long, value_name = "S", value_parser = escaped())]
+    pub start: Option<Bytes>,
+    /// Only records that are less than S
+    #[arg(long, value_name = "S", value_parser = escaped())]
+    pub stop: Option<Bytes>,
+    /// Only records that begin with P
+    #[arg(long, value_name = "P", value_parser = escaped())]
+    pub prefix: Option<Bytes>,
+}
+
+/// Whether the file is checked first.
+#[derive(Args)]
+pub struct Trust {
+    /// Answer without checking first: matches may be missed, and nobody may change the file meanwhile
+    #[arg(long)]
+    pub unchecked: bool,
+}
+
+/// How a length is written before a record.
+#[derive(Clone, Copy, Debug, PartialEq, Eq, ValueEnum)]
+pub enum Length {
+    /// Seven bits to a byte, lowest first
+    Uleb128,
+    /// Eight bytes, lowest first
+    U64le,
+}
+
+fn escaped() -> impl TypedValueParser<Value = Bytes> {
+    OsStringValueParser::new().try_map(resolved)
+}

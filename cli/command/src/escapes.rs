@@ -1,0 +1,130 @@
+//! Bytes in arguments and in lines for people: `\t`, `\n`, `\r`, `\\` and `\x` with two hex digits; every other byte is itself.
+
+use std::ffi::OsString;
+use std::fmt;
+use std::os::unix::ffi::OsStringExt;
+
+/// Bytes as an argument gives them, its escapes resolved.
+#[derive(Clone, Debug, Default, PartialEq, Eq)]
+pub struct Bytes(pub Vec<u8>);
+
+/// An escape that can't be resolved.
+#[derive(Clone, Debug, PartialEq, Eq)]
+pub enum EscapeFault {
+    /// A backslash before something that it doesn't stand before.
+    Unknown(String),
+    /// A backslash, or `\x`, with too little behind it.
+    Cut,
+}
+
+impl fmt::Display for EscapeFault {
+    fn fmt(&self, out: &mut fmt::Formatter) -> fmt::Result {
+        match self {
+            EscapeFault::Unknown(escape) => {
+                write!(out, "unknown escape {escape}; known are \\t \\n \\r \\\\ and \\x with two hex digits")
+            }
+            EscapeFault::Cut => write!(
+                out,
+                "an escape is cut off at the end; write \\\\ for a backslash"
+            ),
+        }
+    }
+}
+
+impl std::error::Error for EscapeFault {}
+
+/// The bytes that an argument stands for.
+pub fn resolved(argument: OsString) -> Result<Bytes, EscapeFault> {
+    let written = argument.into_vec();
+    let mut bytes = Vec::with_capacity(written.len());
+    let mut rest = written.as_slice();
+    while let [first, behind @ ..] = rest {
+        let (byte, left) = match first {
+            b'\\' => escape(behind)?,
+            other => (*other, behind),
+        };
+        bytes.push(byte);
+        rest = left;
+    }
+    Ok(Bytes(bytes))
+}
+
+/// The byte meant by what follows a backslash, and what follows that.
+fn escape(behind: &[u8]) -> Result<(u8, &[u8]), EscapeFault> {
+    match behind {
+        [b't', left @ ..] => Ok((b'\t', left)),
+        [b'n', left @ ..] => Ok((b'\n', left)),
+        [b'r', left @ ..] => Ok((b'\r', left)),
+        [b'\\', left @ ..] => Ok((b'\\', left)),
+        [b'x', high, low, left @ ..] => match (digit(*high), digit(*low)) {
+            (Some(high), Some(low)) => Ok((high * 16 + low, left)),
+            _ => Err(unknown(&[b'x', *high, *low])),
+        },
+        [] | [b'x'] | [b'x', _] => Err(EscapeFault::Cut),
+        [other, ..] => Err(unknown(&[*other])),
+    }
+}
+
+fn unknown(escape: &[u8]) -> EscapeFault {
+    EscapeFault::Unknown(format!("\\{}", String::from_utf8_lossy(escape)))
+}
+
+/// The value of a hex digit.
+fn digit(letter: u8) -> Option<u8> {
+    match letter {
+        b'0'..=b'9' => Some(letter - b'0'),
+        b'a'..=b'f' => Some(letter - b'a' + 10),
+        b'A'..=b'F' => Some(letter - b'A' + 10),
+        _ => None,
+    }
+}
+
+/// Bytes as printable ASCII, in the form that [`resolved`] takes back.
+pub fn shown(bytes: &[u8]) -> String {
+    let mut text = String::with_capacity(bytes.len());
+    for byte in bytes {
+        match byte {
+            b'\t' => text.push_str("\\t"),
+            b'\n' => text.push_str("\\n"),
+            b'\r' => text.push_str("\\r"),
+            b'\\' => text.push_str("\\\\"),
+            b'"' => text.push_str("\\x22"),
+            b' '..=b'~' => text.push(char::from(*byte)),
+            other => text.push_str(&format!("\\x{other:02x}")),
+        }
+    }
+    text
+}
+
+#[cfg(test)]
+mod tests {
+    use super::*;
+
+    fn of(text: &str) -> Result<Vec<u8>, EscapeFault> {
+        resolved(OsString::from(text)).map(|bytes| bytes.0)
+    }
+
+    #[test]
+    fn known_escapes() {
+        assert_eq!(of(r"a\tb\n\r\\").as_deref(), Ok(&b"a\tb\n\r\\"[..]));
+        assert_eq!(of(r"\x00\xfF\x7e").as_deref(), Ok(&b"\x00\xff\x7e"[..]));
+        assert_eq!(of(r"\\x41").as_deref(), Ok(&br"\x41"[..]));
+        assert_eq!(of("é").as_deref(), Ok("é".as_bytes()));
+        assert_eq!(of("").as_deref(), Ok(&b""[..]));
+    }
+
+    #[test]
+    fn unknown_and_cut_escapes() {
+        assert_eq!(of(r"\q"), Err(EscapeFault::Unknown(r"\q".into())));
+        assert_eq!(of(r"\xg0"), Err(EscapeFault::Unknown(r"\xg0".into())));
+        for cut in [r"\", r"a\x", r"a\x4", r"\\\"] {
+            assert_eq!(of(cut), Err(EscapeFault::Cut), "{cut}");
+        }
+    }
+
+    #[test]
+    fn what_is_shown_can_be_given_back() {
+        let every_byte: Vec<u8> = (0..=255).collect();
+        assert_eq!(of(&shown(&every_byte)), Ok(every_byte));
+    }
+}

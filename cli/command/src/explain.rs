@@ -1,0 +1,81 @@
+//! `zs explain`: the blocks that a search opened, with level, bounds and matches.
+
+use std::collections::BTreeMap;
+
+use crate::answers::{search, Contents};
+use crate::arguments::Explain;
+use crate::dump::{opened, query};
+use crate::escapes::shown;
+use crate::failure::Failure;
+use crate::validate::counted;
+use crate::walk::{walked, Opened};
+use crate::{output, progress};
+
+/// Longer bounds are cut for display.
+const LONGEST_BOUND: usize = 40;
+
+pub fn run(asked: &Explain) -> Result<(), Failure> {
+    let (input, known) = opened(&asked.file, &asked.trust)?;
+    let file = input.bytes();
+    let answer = progress::during("searching", &asked.file, file.len(), || {
+        search(file, &query(&asked.selection), known, None)
+    })?;
+    let blocks = walked(file, &answer);
+    let root_level = blocks.first().map_or(0, |root| root.level);
+    output::write(None, &|out| {
+        for block in &blocks {
+            writeln!(out, "{}", line(block, root_level))?;
+        }
+        writeln!(out, "{}", summary(&blocks, answer.count() as u64, known))
+    })
+}
+
+/// A block, indented by how far it stands below the root.
+fn line(block: &Opened, root_level: u8) -> String {
+    let indent = "  ".repeat(usize::from(root_level.saturating_sub(block.level)));
+    let Opened { offset, level, .. } = block;
+    let bounds = match block.bounds {
+        Some(bounds) => match bounds.upper {
+            Some(upper) => format!("{} to {}", bound(bounds.lower), bound(upper)),
+            None => format!("{} and up", bound(bounds.lower)),
+        },
+        None => String::from("the root"),
+    };
+    let matches = match level {
+        0 => format!(", {}", counted(block.matches, "match", "matches")),
+        _ => String::new(),
+    };
+    format!("{indent}{offset}  level {level}  {bounds}{matches}")
+}
+
+fn bound(bytes: &[u8]) -> String {
+    match bytes
+        .get(..LONGEST_BOUND)
+        .filter(|_| bytes.len() > LONGEST_BOUND)
+    {
+        Some(beginning) => format!("\"{}\"..", shown(beginning)),
+        None => format!("\"{}\"", shown(bytes)),
+    }
+}
+
+/// How many blocks were opened, and how many of those below the root led to no match.
+fn summary(blocks: &[Opened], matches: u64, known: Option<Contents>) -> String {
+    let of_all = known.map_or(String::new(), |contents| format!(" of {}", contents.blocks));
+    let mut in_vain: BTreeMap<u8, u64> = BTreeMap::new();
+    for block in blocks.iter().skip(1).filter(|block| block.matches == 0) {
+        *in_vain.entry(block.level).or_insert(0) += 1;
+    }
+    let levels: Vec<String> = in_vain
+        .iter()
+        .map(|(level, number)| format!("{number} on level {level}"))
+        .collect();
+    let in_vain = match levels.is_empty() {
+        true => String::from("none"),
+        false => levels.join(", "),
+    };
+    let opened = blocks.len();
+    format!(
+        "opened {opened}{of_all} blocks, {}, in vain: {in_vain}",
+        counted(matches, "match", "matches")
+    )
+}

@@ -1,0 +1,57 @@
+//! What kept a command from answering, and the exit status that says so.
+
+use std::io::Write;
+use std::path::Path;
+
+use crate::refusals::{said, Refusal};
+
+/// The exit status. The worst of several is the greatest.
+#[derive(Clone, Copy, Debug, PartialEq, Eq, PartialOrd, Ord)]
+pub enum Status {
+    /// There was an answer.
+    Answered = 0,
+    /// A file was refused.
+    Refused = 1,
+    /// The arguments, an input or an output were at fault.
+    Trouble = 2,
+}
+
+/// Why a command didn't answer.
+#[derive(Debug)]
+pub enum Failure {
+    /// The library refused the file or the answer.
+    Refused(Refusal),
+    /// An input or an output is at fault, as these words say.
+    Trouble(String),
+    /// Whoever read the output has gone, and nothing more is to be said.
+    ReaderGone,
+}
+
+impl Failure {
+    /// What went wrong with a file that couldn't be read or written.
+    pub fn of_file(file: &Path, error: &std::io::Error) -> Self {
+        Failure::Trouble(format!("{}: {error}", file.display()))
+    }
+
+    /// The line for a person, if there is anything to say.
+    pub fn said_of(&self, file: &Path) -> Option<String> {
+        match self {
+            Failure::Refused(refusal) => Some(format!("{}: {}", file.display(), said(refusal))),
+            Failure::Trouble(words) => Some(words.clone()),
+            Failure::ReaderGone => None,
+        }
+    }
+
+    pub fn status(&self) -> Status {
+        match self {
+            Failure::Refused(_) => Status::Refused,
+            Failure::Trouble(_) => Status::Trouble,
+            Failure::ReaderGone => Status::Answered,
+        }
+    }
+}
+
+/// Puts a line on standard error. Where even that can't be written, the exit status is all there is.
+pub fn complain(words: &str) {
+    let _ = writeln!(std::io::stderr(), "zs: {words}");
+}

@@ -1,0 +1,68 @@
+//! `zs info`: what a file is, as JSON.
+
+use crate::answers::{check, Contents};
+use crate::arguments::Info;
+use crate::escapes::shown;
+use crate::failure::Failure;
+use crate::json::{quoted, value};
+use crate::layout::{block, header, Header};
+use crate::{input, output, progress};
+
+/// Checks the file first, so that what is shown is true of it.
+pub fn run(asked: &Info) -> Result<(), Failure> {
+    let input = input::read(&asked.file)?;
+    let file = input.bytes();
+    let contents = progress::during("checking", &asked.file, file.len(), || check(file))?;
+    let unreadable = || {
+        Failure::Trouble(format!(
+            "{}: the header can't be shown",
+            asked.file.display()
+        ))
+    };
+    let header = header(file).ok_or_else(unreadable)?;
+    if asked.metadata_only {
+        return output::write(None, &|out| {
+            out.write_all(header.metadata)?;
+            out.write_all(b"\n")
+        });
+    }
+    let root_level = block(file, header.root_offset).map_or(0, |root| root.level);
+    output::print(&described(&header, root_level, &contents))
+}
+
+fn described(header: &Header, root_level: u8, contents: &Contents) -> String {
+    let codec: Vec<u8> = header
+        .codec
+        .iter()
+        .copied()
+        .take_while(|byte| *byte != 0)
+        .collect();
+    let hash: String = header
+        .hash
+        .iter()
+        .map(|byte| format!("{byte:02x}"))
+        .collect();
+    let metadata = match value(header.metadata) {
+        Some(json) => json.to_string(),
+        None => quoted(&shown(header.metadata)),
+    };
+    let lines = [
+        ("header_length", header.length.to_string()),
+        ("root_index_offset", header.root_offset.to_string()),
+        ("root_index_length", header.root_length.to_string()),
+        ("total_file_length", header.total_length.to_string()),
+        ("data_sha256", quoted(&hash)),
+        ("codec", quoted(&shown(&codec))),
+        ("metadata_length", header.metadata.len().to_string()),
+        ("metadata", metadata),
+    ];
+    let mut text = String::from("{\n");
+    for (name, shown) in lines {
+        text.push_str(&format!("  \"{name}\": {shown},\n"));
+    }
+    text.push_str(&format!(
+        "  \"statistics\": {{\n    \"root_index_level\": {root_level},\n    \"blocks\": {},\n    \"records\": {}\n  }}\n}}\n",
+        contents.blocks, contents.records
+    ));
+    text
+}

@@ -1,0 +1,88 @@
+//! Fields of a file for display only: what the header says, and levels and bounds of blocks.
+//!
+//! Nothing here decides anything. Verdicts, matches and opened blocks are the proved library's; what can't be made out is left out.
+
+/// What the header says.
+pub struct Header<'a> {
+    pub length: u64,
+    pub root_offset: u64,
+    pub root_length: u64,
+    pub total_length: u64,
+    pub hash: &'a [u8],
+    pub codec: &'a [u8],
+    pub metadata: &'a [u8],
+}
+
+/// A block: its level, its payload, and the position just behind it.
+pub struct Block<'a> {
+    pub level: u8,
+    pub payload: &'a [u8],
+    pub end: u64,
+}
+
+/// An entry of an index block.
+pub struct Entry<'a> {
+    pub key: &'a [u8],
+    pub offset: u64,
+}
+
+pub fn header(file: &[u8]) -> Option<Header<'_>> {
+    let metadata_length = usize::try_from(fixed(file, 88)?).ok()?;
+    Some(Header {
+        length: fixed(file, 8)?,
+        root_offset: fixed(file, 16)?,
+        root_length: fixed(file, 24)?,
+        total_length: fixed(file, 32)?,
+        hash: file.get(40..72)?,
+        codec: file.get(72..88)?,
+        metadata: file.get(96..)?.get(..metadata_length)?,
+    })
+}
+
+pub fn block(file: &[u8], offset: u64) -> Option<Block<'_>> {
+    let start = usize::try_from(offset).ok()?;
+    let mut rest = file.get(start..)?;
+    let length = number(&mut rest)?;
+    let covered = rest.get(..usize::try_from(length).ok()?)?;
+    let (level, payload) = covered.split_first()?;
+    let behind = file.len() - rest.len() + covered.len() + 8;
+    Some(Block {
+        level: *level,
+        payload,
+        end: behind as u64,
+    })
+}
+
+/// The entries of an index block, up to the first that can't be made out.
+pub fn entries<'a>(block: &Block<'a>) -> Vec<Entry<'a>> {
+    let mut rest = block.payload;
+    std::iter::from_fn(|| entry(&mut rest)).collect()
+}
+
+fn entry<'a>(rest: &mut &'a [u8]) -> Option<Entry<'a>> {
+    let length = usize::try_from(number(rest)?).ok()?;
+    let (key, behind) = (rest.get(..length)?, rest.get(length..)?);
+    *rest = behind;
+    let offset = number(rest)?;
+    number(rest)?;
+    Some(Entry { key, offset })
+}
+
+/// Takes a uleb128 number of at most nine bytes.
+fn number(rest: &mut &[u8]) -> Option<u64> {
+    let last = rest.iter().take(9).position(|byte| *byte < 0x80)?;
+    let digits = rest.get(..=last)?;
+    *rest = rest.get(last + 1..)?;
+    Some(
+        digits
+            .iter()
+            .rev()
+            .fold(0, |sum, digit| sum * 128 + u64::from(digit % 128)),
+    )
+}
+
+/// The eight bytes at a position as a little-endian number.
+fn fixed(file: &[u8], at: usize) -> Option<u64> {
+    let eight = file.get(at..)?.get(..8)?;
+    Some(u64::from_le_bytes(eight.try_into().ok()?))
+}

@@ -1,0 +1,73 @@
+//! The command `zs`: checks, reads and searches ZS archives.
+//!
+//! Every verdict, every match and every opened block comes from the proved library. What stands here is the way there and back:
+//! arguments and files on one side, lines and records on the other.
+//!
+//! * [`arguments`] and [`escapes`]: what a person asks for.
+//! * [`input`], [`answers`], [`refusals`]: bytes, the library's answers with lists that grow, and refusals in words.
+//! * [`validate`], [`dump`], [`info`], [`explain`]: one module for each command.
+//! * [`output`], [`progress`], [`failure`]: where answers go, signs of life, and what went wrong.
+//! * [`layout`], [`walk`], [`json`]: fields and bounds for display only.
+#![forbid(unsafe_code)]
+
+mod answers;
+mod arguments;
+mod dump;
+mod escapes;
+mod explain;
+mod failure;
+mod info;
+mod input;
+mod json;
+mod layout;
+mod output;
+mod progress;
+mod refusals;
+mod validate;
+mod walk;
+
+use std::path::Path;
+use std::process::ExitCode;
+
+use arguments::{Arguments, Command};
+use clap::Parser;
+use failure::{complain, Failure, Status};
+
+fn main() -> ExitCode {
+    let status = match Arguments::try_parse() {
+        Ok(arguments) => run(&arguments.command),
+        Err(help_or_mistake) => shown(&help_or_mistake),
+    };
+    ExitCode::from(status as u8)
+}
+
+fn run(command: &Command) -> Status {
+    match command {
+        Command::Validate(asked) => validate::run(asked),
+        Command::Dump(asked) => reported(&asked.file, dump::run(asked)),
+        Command::Info(asked) => reported(&asked.file, info::run(asked)),
+        Command::Explain(asked) => reported(&asked.file, explain::run(asked)),
+    }
+}
+
+/// Says on standard error what kept a command from answering.
+fn reported(file: &Path, outcome: Result<(), Failure>) -> Status {
+    match outcome {
+        Ok(()) => Status::Answered,
+        Err(failure) => {
+            if let Some(reason) = failure.said_of(file) {
+                complain(&reason);
+            }
+            failure.status()
+        }
+    }
+}
+
+/// Help and version are answers; anything else that the arguments come to is a mistake in them.
+fn shown(help_or_mistake: &clap::Error) -> Status {
+    match help_or_mistake.print() {
+        Ok(()) if !help_or_mistake.use_stderr() => Status::Answered,
+        Err(error) if error.kind() == std::io::ErrorKind::BrokenPipe => Status::Answered,
+        _ => Status::Trouble,
+    }
+}

@@ -1,0 +1,97 @@
+//! Where answers go: standard output, or a file that appears only when it is whole.
+
+use std::fs::{self, File, OpenOptions};
+use std::io::{self, BufWriter, ErrorKind, Write};
+use std::path::{Path, PathBuf};
+
+use crate::failure::Failure;
+
+const BUFFER: usize = 1 << 16;
+
+/// What writes an answer.
+pub type Writing<'a> = dyn Fn(&mut dyn Write) -> io::Result<()> + 'a;
+
+/// Writes an answer to a file, or to standard output where none (or `-`) is named.
+pub fn write(target: Option<&Path>, writing: &Writing) -> Result<(), Failure> {
+    match target.filter(|path| *path != Path::new("-")) {
+        None => told(
+            "standard output",
+            to_open(&mut io::stdout().lock(), writing),
+        ),
+        Some(path) => told(&path.display().to_string(), to_file(path, writing)),
+    }
+}
+
+/// Writes a text to standard output.
+pub fn print(text: &str) -> Result<(), Failure> {
+    write(None, &|out| out.write_all(text.as_bytes()))
+}
+
+fn told(name: &str, outcome: io::Result<()>) -> Result<(), Failure> {
+    outcome.map_err(|error| match error.kind() {
+        ErrorKind::BrokenPipe => Failure::ReaderGone,
+        _ => Failure::Trouble(format!("can't write {name}: {error}")),
+    })
+}
+
+/// Writes to what is open already, whole blocks at a time.
+fn to_open(out: &mut dyn Write, writing: &Writing) -> io::Result<()> {
+    let mut buffered = BufWriter::with_capacity(BUFFER, out);
+    writing(&mut buffered)?;
+    buffered.flush()
+}
+
+/// Writes a file. Devices and pipes are written as they are; a plain file is replaced, behind links too, and keeps its permissions.
+fn to_file(path: &Path, writing: &Writing) -> io::Result<()> {
+    match fs::metadata(path) {
+        Ok(about) if about.is_file() => {
+            let target = fs::canonicalize(path)?;
+            replaced(&target, Some(about.permissions()), writing)
+        }
+        Ok(_) => to_open(&mut OpenOptions::new().write(true).open(path)?, writing),
+        Err(error) if error.kind() == ErrorKind::NotFound => replaced(path, None, writing),
+        Err(error) => Err(error),
+    }
+}
+
+/// Writes under a temporary name beside the target, and renames once everything is there.
+fn replaced(
+    target: &Path,
+    permissions: Option<fs::Permissions>,
+    writing: &Writing,
+) -> io::Result<()> {
+    let (mut file, temporary) = Temporary::beside(target)?;
+    if let Some(permissions) = permissions {
+        file.set_permissions(permissions)?;
+    }
+    to_open(&mut file, writing)?;
+    file.sync_all()?;
+    fs::rename(&temporary.0, target)?;
+    // There is nothing left under the temporary name.
+    std::mem::forget(temporary);
+    Ok(())
+}
+
+/// A file that goes away unless it is renamed.
+struct Temporary(PathBuf);
+
+impl Temporary {
+    fn beside(target: &Path) -> io::Result<(File, Self)> {
+        let name = target.file_name().ok_or(ErrorKind::InvalidInput)?;
+        let mut hidden = std::ffi::OsString::from(".");
+        hidden.push(name);
+        hidden.push(format!(".{}.tmp", std::process::id()));
+        let path = target.with_file_name(hidden);
+        let file = OpenOptions::new()
+            .write(true)
+            .create_new(true)
+            .open(&path)?;
+        Ok((file, Temporary(path)))
+    }
+}
+
+impl Drop for Temporary {
+    fn drop(&mut self) {
+        let _ = fs::remove_file(&self.0);
+    }
+}

@@ -1,0 +1,55 @@
+//! `zs validate`: one verdict for each file.
+
+use std::path::Path;
+
+use crate::answers::check;
+use crate::arguments::Validate;
+use crate::failure::{complain, Failure, Status};
+use crate::{input, output, progress};
+
+/// Goes on behind a bad file; the worst status is that of the command.
+pub fn run(asked: &Validate) -> Status {
+    let mut worst = Status::Answered;
+    for file in &asked.files {
+        let failure = match verdict(file) {
+            Ok(()) => continue,
+            Err(failure) => failure,
+        };
+        worst = worst.max(failure.status());
+        match failure {
+            Failure::ReaderGone => return worst,
+            Failure::Trouble(words) => complain(&words),
+            Failure::Refused(_) => {}
+        }
+    }
+    worst
+}
+
+/// Prints the verdict on a file, be it good or bad.
+fn verdict(file: &Path) -> Result<(), Failure> {
+    let input = input::read(file)?;
+    let bytes = input.bytes();
+    let checked = progress::during("checking", file, bytes.len(), || check(bytes));
+    match checked {
+        Ok(contents) => output::print(&format!(
+            "{}: valid, {} in {}\n",
+            file.display(),
+            counted(contents.records, "record", "records"),
+            counted(contents.blocks, "block", "blocks"),
+        )),
+        Err(failure) => {
+            if let (Failure::Refused(_), Some(line)) = (&failure, failure.said_of(file)) {
+                output::print(&format!("{line}\n"))?;
+            }
+            Err(failure)
+        }
+    }
+}
+
+/// A number and what it counts.
+pub fn counted(number: u64, one: &str, more: &str) -> String {
+    match number {
+        1 => format!("1 {one}"),
+        _ => format!("{number} {more}"),
+    }
+}
