@@ -1,8 +1,12 @@
 # test: everything that must hold, as the gate runs it.   demo: build and run the main job.
-.PHONY: test demo
+# bench: measure, and write docs/PERFORMANCE.md.
+.PHONY: test demo bench
 
 test:
 	@scripts/test.sh
 
 demo:
 	@scripts/demo.sh
+
+bench:
+	@scripts/bench.sh
