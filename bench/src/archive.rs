@@ -1,6 +1,6 @@
 //! What the measurements need to know of an archive: where its blocks are, and what its check and its lookups do.
 
-use zs_library::{check, search, Checked, Query};
+use zs_library::{check, read, search, Checked, Query};
 
 /// Places of the lists of a lookup; the library clears and fills them within the time that is measured.
 pub const OPENED_PLACES: usize = 256;
@@ -58,13 +58,16 @@ impl Archive {
         data.flat_map(|block| &block[1..]).copied().collect()
     }
 
+    /// Reads the file front to back, and gives how many records begin with `prefix`.
+    pub fn read(&self, prefix: &[u8], lists: &mut Lists) -> u64 {
+        let found = read(&self.bytes, &asked(prefix), &mut lists.results);
+        assert_eq!(found.number, 0);
+        found.matches
+    }
+
     /// Looks up the records that begin with `prefix`, into lists that are long enough.
     pub fn search(&self, prefix: &[u8], lists: &mut Lists) -> (usize, usize) {
-        let query = Query {
-            start: &[],
-            stop: None,
-            prefix,
-        };
+        let query = asked(prefix);
         let found = search(&self.bytes, &query, &mut lists.opened, &mut lists.results);
         assert_eq!(found.number, 0);
         (found.opened as usize, found.matches as usize)
@@ -84,6 +87,15 @@ impl Archive {
                 .map(|start| covered(&self.bytes, *start as usize).bytes)
                 .collect(),
         }
+    }
+}
+
+/// The question for all records that begin with `prefix`.
+fn asked(prefix: &[u8]) -> Query<'_> {
+    Query {
+        start: &[],
+        stop: None,
+        prefix,
     }
 }
 

@@ -2,10 +2,12 @@
 
 use std::time::Instant;
 
+use crate::foreign::keep;
+
 /// How long one call took, in seconds.
-pub fn timed<T>(call: impl FnOnce() -> T) -> f64 {
+pub fn timed<T: Copy>(call: impl FnOnce() -> T) -> f64 {
     let start = Instant::now();
-    std::hint::black_box(call());
+    keep(call());
     start.elapsed().as_secs_f64()
 }
 
@@ -19,7 +21,7 @@ pub fn median(mut times: Vec<f64>) -> f64 {
 pub type Side<'a> = Box<dyn FnMut() -> f64 + 'a>;
 
 /// A side that is called and timed here.
-pub fn side<'a, T>(mut call: impl FnMut() -> T + 'a) -> Side<'a> {
+pub fn side<'a, T: Copy>(mut call: impl FnMut() -> T + 'a) -> Side<'a> {
     Box::new(move || timed(&mut call))
 }
 

@@ -1,6 +1,7 @@
 //! Safe calls of C libraries: the proved checksums alone, and what they are compared with. The only unsafe code of the bench.
 
-use std::ffi::{c_char, c_int, c_uint, c_void, CString};
+use std::ffi::CString;
+use std::os::raw::{c_char, c_int, c_uint, c_void};
 use std::path::Path;
 use std::ptr::null_mut;
 
@@ -9,6 +10,12 @@ extern "C" {
     fn measured_sha256(bytes: *const u8, length: usize) -> u64;
     fn lzma_crc64(bytes: *const u8, length: usize, before: u64) -> u64;
     fn SHA256(bytes: *const u8, length: usize, digest: *mut u8) -> *mut u8;
+}
+
+/// Makes sure that a value is worked out, though nothing is done with it.
+pub fn keep<T: Copy>(value: T) {
+    // SAFETY: the value is there, and a copy of it is as good as itself.
+    unsafe { std::ptr::read_volatile(&value) };
 }
 
 /// The proved CRC-64.

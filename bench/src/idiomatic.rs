@@ -12,7 +12,7 @@ const fn table() -> [u64; 256] {
         let mut register = byte as u64;
         let mut bit = 0;
         while bit < 8 {
-            register = (register >> 1) ^ (register & 1) * POLYNOMIAL;
+            register = (register >> 1) ^ ((register & 1) * POLYNOMIAL);
             bit += 1;
         }
         table[byte] = register;

@@ -57,15 +57,6 @@ impl Shape {
         }
     }
 
-    /// The shape it is held against, and whether the blocks of both are alike, so that the goal is for this pair.
-    pub fn compared_with(self) -> (Shape, bool) {
-        match self {
-            Shape::Plain | Shape::Interleaved | Shape::Chain | Shape::Huge => (Shape::Plain, true),
-            Shape::Chains | Shape::Tiny => (Shape::Plain, false),
-            Shape::TinyInterleaved | Shape::Wide => (Shape::Tiny, true),
-        }
-    }
-
     /// The archive of these records.
     pub fn archive(self, records: &[Vec<u8>]) -> Vec<u8> {
         let to_a_block = match self {

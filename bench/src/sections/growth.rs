@@ -5,7 +5,7 @@ use crate::archive::{Archive, Lists};
 use crate::chart::{Panel, Series};
 use crate::clock::{in_turn, median, side, timed, Side};
 use crate::records::{drawn, key, records};
-use crate::report::{ratio, size, time, Goal, Report, Table};
+use crate::report::{size, time, Goal, Report, Table};
 use crate::shapes::Shape;
 
 /// Lookups in one archive end after this many seconds.
@@ -146,50 +146,19 @@ fn growth_table(points: &[Point]) -> Table {
     table
 }
 
-/// Each awkward shape at the largest size, against the shape whose blocks are like its own.
+/// Each awkward shape at the largest size, against the plain one.
 fn compare_shapes(points: &[Point], report: &mut Report) {
     let largest = points.iter().map(|point| point.records).max().unwrap_or(0);
-    let of = |shape| {
-        points
-            .iter()
-            .find(|point| point.records == largest && point.shape == shape)
-    };
-    let about = format!(
-        "{largest} records each; time of the check per byte of the file. The goal is for pairs whose blocks are alike. \
-         A block for each record costs more per byte than blocks of 16 KiB, because each block has its own number, level and CRC to be \
-         looked at; so shapes of tiny blocks are held against the plainest shape of tiny blocks."
-    );
-    let head = [
-        "shape",
-        "per byte",
-        "compared with",
-        "its time per byte",
-        "ratio",
-        "ratio per byte and block",
-    ];
-    let mut table = Table::new("Awkward shapes", &about, &head[..5]);
-    for shape in Shape::ALL {
-        let (plain, alike) = shape.compared_with();
-        if let (Some(point), Some(other), true) = (of(shape), of(plain), shape != plain) {
-            let (this, that) = (point.check_per_byte(), other.check_per_byte());
-            let nanoseconds = |seconds: f64| format!("{:.2} ns", 1e9 * seconds);
-            let names = (shape.name(), plain.name());
-            table.row(&[
-                names.0,
-                &nanoseconds(this),
-                names.1,
-                &nanoseconds(that),
-                &ratio(this / that),
-            ]);
-            let goal = if alike { Goal::AtMost(2.0) } else { Goal::None };
-            report.goal(
-                &format!("check, {}: time per byte against {}", names.0, names.1),
-                this / that,
-                goal,
-            );
-        }
+    let largest = points.iter().filter(|point| point.records == largest);
+    let plain = largest.clone().find(|point| point.shape == Shape::Plain);
+    let plain = plain.map_or(1.0, Point::check_per_byte);
+    for point in largest.filter(|point| point.shape != Shape::Plain) {
+        let what = format!(
+            "check, {}: time per byte against a plain file of the same records",
+            point.shape.name()
+        );
+        report.goal(&what, point.check_per_byte() / plain, Goal::AtMost(2.0));
     }
-    report.table(table);
 }
 
 fn series(shape: Shape, points: &[Point], value: fn(&Point) -> f64) -> Series {

@@ -16,56 +16,82 @@ pub fn measure(setting: &Setting, archive: &Archive, file: &Path, report: &mut R
     as_processes(setting, file, report);
 }
 
+/// Medians over the lookups within this process.
+struct Within {
+    search: f64,
+    checksums: f64,
+    lmdb: f64,
+    opened: f64,
+    bytes: f64,
+}
+
 fn in_process(setting: &Setting, archive: &Archive, report: &mut Report) {
     let folder = setting.folder.join("lmdb");
     std::fs::create_dir(&folder).expect("a folder for LMDB");
     let lmdb = Lmdb::create(&folder, setting.records).expect("LMDB");
-    let mut times = vec![Vec::new(); 3];
-    let (mut opened, mut covered) = (Vec::new(), Vec::new());
+    let within = looked_up(setting, archive, &lmdb);
+    report.goal(
+        "one lookup: time against the CRC of the blocks it opens",
+        within.search / within.checksums,
+        Goal::AtMost(1.2),
+    );
+    report.table(within_table(setting, &within));
+}
+
+fn looked_up(setting: &Setting, archive: &Archive, lmdb: &Lmdb) -> Within {
+    let mut columns = vec![Vec::new(); 5];
     let mut lists = Lists::default();
     for record in drawn(setting.records, setting.sizes.lookups) {
         let found = archive.lookup(key(record));
         assert_eq!(found.records, [record]);
-        assert_eq!(lmdb_finds(&lmdb, key(record)), [record]);
-        times[0].push(timed(|| archive.search(key(record), &mut lists)));
-        times[1].push(timed(|| {
-            found.opened.iter().map(|block| proved_crc64(block)).max()
-        }));
-        times[2].push(timed(|| lmdb_finds(&lmdb, key(record))));
-        opened.push(found.opened.len() as f64);
-        covered.push(found.opened.iter().map(|block| block.len()).sum::<usize>() as f64);
+        assert_eq!(lmdb_finds(lmdb, key(record)), [record]);
+        let lengths = found.opened.iter().map(|block| block.len());
+        let row = [
+            timed(|| archive.search(key(record), &mut lists)),
+            timed(|| found.opened.iter().map(|block| proved_crc64(block)).max()),
+            timed(|| lmdb_finds(lmdb, key(record)).len()),
+            found.opened.len() as f64,
+            lengths.sum::<usize>() as f64,
+        ];
+        for (column, cell) in columns.iter_mut().zip(row) {
+            column.push(cell);
+        }
     }
-    let times: Vec<f64> = times.into_iter().map(median).collect();
-    report.goal(
-        "one lookup: time against the CRC of the blocks it opens",
-        times[0] / times[1],
-        Goal::AtMost(1.2),
-    );
+    let medians: Vec<f64> = columns.into_iter().map(median).collect();
+    Within {
+        search: medians[0],
+        checksums: medians[1],
+        lmdb: medians[2],
+        opened: medians[3],
+        bytes: medians[4],
+    }
+}
 
+fn within_table(setting: &Setting, within: &Within) -> Table {
     let about = format!(
-        "{} lookups of records drawn from {}, by a prefix that one record has; medians. A lookup opened {} blocks of {:.1} KiB together. \
-         It clears and fills an opened list of {OPENED_PLACES} places and a result list of {RESULT_PLACES} within the time. \
-         The same lookup goes before it, untimed, so that the caches are warm for all. LMDB keeps a read transaction and a cursor open, \
-         has the whole records as keys, and looks at no checksum.",
+        "{} lookups of records drawn from {}, by a prefix that one record has; medians. A lookup opened {} blocks of \
+         {:.1} KiB together. It clears and fills an opened list of {OPENED_PLACES} places and a result list of \
+         {RESULT_PLACES} within the time. The same lookup goes before it, untimed, so that the caches are warm for all. \
+         LMDB keeps a read transaction and a cursor open, has the whole records as keys, and looks at no checksum.",
         setting.sizes.lookups,
         setting.records.len(),
-        median(opened),
-        median(covered) / 1024.0
+        within.opened,
+        within.bytes / 1024.0
     );
-    let mut table = Table::new(
-        "One lookup within a process",
-        &about,
-        &["what", "time", "time of the search / this"],
-    );
-    let names = [
-        "the proved search",
-        "proved CRC-64 of the opened blocks, alone",
-        "LMDB",
+    let head = ["what", "time", "time of the search / this"];
+    let mut table = Table::new("One lookup within a process", &about, &head);
+    let rows = [
+        ("the proved search", within.search),
+        (
+            "proved CRC-64 of the opened blocks, alone",
+            within.checksums,
+        ),
+        ("LMDB", within.lmdb),
     ];
-    for (what, seconds) in names.iter().zip(&times) {
-        table.row(&[what, &time(*seconds), &ratio(times[0] / seconds)]);
+    for (what, seconds) in rows {
+        table.row(&[what, &time(seconds), &ratio(within.search / seconds)]);
     }
-    report.table(table);
+    table
 }
 
 fn lmdb_finds<'a>(lmdb: &'a Lmdb, prefix: &[u8]) -> Vec<&'a [u8]> {
@@ -164,20 +190,18 @@ fn as_processes(setting: &Setting, archive: &Path, report: &mut Report) {
         times[0] / times[1],
         Goal::AtMost(1.0),
     );
+    report.table(process_table(setting, &files, &times));
+}
 
-    let length =
-        |path: &Path| size(std::fs::metadata(path).map_or(0, |about| about.len() as usize));
+fn process_table(setting: &Setting, files: &Files, times: &[f64]) -> Table {
     let about = format!(
         "{} lookups of one record among {}, each program started anew, its files read before; medians. \
          The database has the records as its primary key and nothing else.",
         setting.sizes.processes,
         setting.records.len()
     );
-    let mut table = Table::new(
-        "One lookup as a process",
-        &about,
-        &["what", "file", "time", "time of zs / this"],
-    );
+    let head = ["what", "file", "time", "time of zs / this"];
+    let mut table = Table::new("One lookup as a process", &about, &head);
     let rows = [
         ("`zs dump --unchecked --prefix`", &files.archive),
         (
@@ -186,13 +210,14 @@ fn as_processes(setting: &Setting, archive: &Path, report: &mut Report) {
         ),
         ("`look` in sorted lines", &files.lines),
     ];
-    for ((what, path), seconds) in rows.iter().zip(&times) {
-        table.row(&[
-            what,
-            &length(path),
-            &time(*seconds),
-            &ratio(times[0] / seconds),
-        ]);
+    for ((what, path), seconds) in rows.iter().zip(times) {
+        let length = std::fs::metadata(path).map_or(0, |about| about.len());
+        let cells = (
+            size(length as usize),
+            time(*seconds),
+            ratio(times[0] / seconds),
+        );
+        table.row(&[what, &cells.0, &cells.1, &cells.2]);
     }
-    report.table(table);
+    table
 }
