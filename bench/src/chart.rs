@@ -42,7 +42,7 @@ impl Axis {
         part * self.length
     }
 
-    /// The numbers 1, 2 and 5 times a power of ten on the axis.
+    /// The numbers on the axis that are one of the steps times a power of ten.
     fn ticks(&self, steps: &[f64]) -> Vec<f64> {
         let powers = (-3..9).map(|power| 10_f64.powi(power));
         let ticks = powers.flat_map(|power| steps.iter().map(move |step| step * power));
@@ -51,7 +51,7 @@ impl Axis {
     }
 }
 
-/// The least axis that begins and ends at 1, 2 or 5 times a power of ten and holds the values.
+/// The least axis that begins and ends at a power of ten and holds the values.
 fn axis(values: impl Iterator<Item = f64> + Clone, length: f64) -> Axis {
     let least = values.clone().fold(f64::INFINITY, f64::min);
     let most = values.fold(0.0, f64::max);
@@ -60,7 +60,7 @@ fn axis(values: impl Iterator<Item = f64> + Clone, length: f64) -> Axis {
         high: 1e9,
         length,
     };
-    let marks = whole.ticks(&[1.0, 2.0, 5.0]);
+    let marks = whole.ticks(&[1.0]);
     let low = marks.iter().rev().find(|mark| **mark <= least);
     let high = marks.iter().find(|mark| **mark >= most && **mark > least);
     Axis {
@@ -73,7 +73,7 @@ fn axis(values: impl Iterator<Item = f64> + Clone, length: f64) -> Axis {
 /// The panels as one SVG.
 pub fn svg(panels: &[Panel]) -> String {
     let legend = panels.first().map_or(0, |panel| panel.series.len());
-    let width = panels.len() as f64 * (WIDTH + GAP) + LEFT - GAP + 30.0;
+    let width = panels.len() as f64 * (WIDTH + GAP) + LEFT - GAP + 40.0;
     let height = TOP + HEIGHT + 60.0 + LEGEND_LINE * ((legend + 1) / 2) as f64;
     let mut out = format!(
         "<svg xmlns=\"http://www.w3.org/2000/svg\" viewBox=\"0 0 {width} {height}\" width=\"{width}\" height=\"{height}\" \
