@@ -57,6 +57,19 @@ impl Shape {
         }
     }
 
+    /// The shapes it is held against, each with whether the blocks of both are alike, so that there is a goal for this pair.
+    ///
+    /// Tiny blocks have more bytes around each record, which the CRC covers and the SHA doesn't: their time per byte says little
+    /// beside that of 16 KiB blocks.
+    pub fn compared_with(self) -> &'static [(Shape, bool)] {
+        match self {
+            Shape::Plain => &[],
+            Shape::Interleaved | Shape::Chain | Shape::Huge => &[(Shape::Plain, true)],
+            Shape::Chains | Shape::Tiny => &[(Shape::Plain, false)],
+            Shape::TinyInterleaved | Shape::Wide => &[(Shape::Tiny, true), (Shape::Plain, false)],
+        }
+    }
+
     /// The archive of these records.
     pub fn archive(self, records: &[Vec<u8>]) -> Vec<u8> {
         let to_a_block = match self {

@@ -146,18 +146,23 @@ fn growth_table(points: &[Point]) -> Table {
     table
 }
 
-/// Each awkward shape at the largest size, against the plain one.
+/// Each awkward shape at the largest size, against plainer ones of the same records.
 fn compare_shapes(points: &[Point], report: &mut Report) {
     let largest = points.iter().map(|point| point.records).max().unwrap_or(0);
     let largest = points.iter().filter(|point| point.records == largest);
-    let plain = largest.clone().find(|point| point.shape == Shape::Plain);
-    let plain = plain.map_or(1.0, Point::check_per_byte);
-    for point in largest.filter(|point| point.shape != Shape::Plain) {
-        let what = format!(
-            "check, {}: time per byte against a plain file of the same records",
-            point.shape.name()
-        );
-        report.goal(&what, point.check_per_byte() / plain, Goal::AtMost(2.0));
+    for point in largest.clone() {
+        for (plainer, alike) in point.shape.compared_with() {
+            let other = largest.clone().find(|other| other.shape == *plainer);
+            let ratio = other.map_or(0.0, |o| point.check_per_byte() / o.check_per_byte());
+            let names = (point.shape.name(), plainer.name());
+            let what = format!("check, {}: time per byte against {}", names.0, names.1);
+            let goal = if *alike {
+                Goal::AtMost(2.0)
+            } else {
+                Goal::None
+            };
+            report.goal(&what, ratio, goal);
+        }
     }
 }
 
