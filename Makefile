@@ -1,6 +1,7 @@
 # test: everything that must hold, as the gate runs it.   demo: build and run the main job.
 # fuzz: compare both readers until stopped; ARGS="--seed 7 --cases 1000000" repeats a run.
-.PHONY: test demo fuzz
+# bench: measure, and write docs/PERFORMANCE.md.
+.PHONY: test demo fuzz bench
 
 test:
 	@scripts/test.sh
@@ -10,3 +11,6 @@ demo:
 
 fuzz:
 	@scripts/fuzz.sh $(ARGS)
+
+bench:
+	@scripts/bench.sh

@@ -1,5 +1,5 @@
 #!/bin/sh
-# Installs what cli/ needs on a Debian 12 machine, and only what is missing.
+# Installs what cli/ needs on a Debian 12 machine, and only what is missing; with --bench also what bench/ compares with.
 # apt-get isn't called at all where nothing is missing.
 set -eu
 
@@ -26,6 +26,17 @@ need librust-indicatif-dev
 # The crates that the independent reader uses.
 need librust-crc-dev
 need librust-sha2-dev
+
+# The libraries and programs that the library is measured against.
+if [ "${1:-}" = --bench ]; then
+    need liblmdb-dev
+    need libssl-dev
+    need liblzma-dev
+    have sqlite3 || need sqlite3
+    have openssl || need openssl
+    have xz || need xz-utils
+    have look || need bsdextrautils
+fi
 
 # A Rust tool chain from elsewhere does as well as Debian's (1.63 is enough).
 have cargo || need cargo

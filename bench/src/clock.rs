@@ -1,0 +1,40 @@
+//! Times: medians of runs in which the sides take turns, so that a slow minute of the machine is slow for all of them.
+
+use std::time::Instant;
+
+use crate::foreign::keep;
+
+/// How long one call took, in seconds.
+pub fn timed<T: Copy>(call: impl FnOnce() -> T) -> f64 {
+    let start = Instant::now();
+    keep(call());
+    start.elapsed().as_secs_f64()
+}
+
+/// The median; 0 of nothing.
+pub fn median(mut times: Vec<f64>) -> f64 {
+    times.sort_by(f64::total_cmp);
+    times.get(times.len() / 2).copied().unwrap_or(0.0)
+}
+
+/// One side of a comparison: runs once and says how many seconds that took.
+pub type Side<'a> = Box<dyn FnMut() -> f64 + 'a>;
+
+/// A side that is called and timed here.
+pub fn side<'a, T: Copy>(mut call: impl FnMut() -> T + 'a) -> Side<'a> {
+    Box::new(move || timed(&mut call))
+}
+
+/// Runs every side once in each round, one after the other, and gives the median of each. One round before them isn't counted.
+pub fn in_turn(rounds: usize, mut sides: Vec<Side>) -> Vec<f64> {
+    let mut times = vec![Vec::new(); sides.len()];
+    for round in 0..=rounds {
+        for (side, times) in sides.iter_mut().zip(&mut times) {
+            let time = side();
+            if round > 0 {
+                times.push(time);
+            }
+        }
+    }
+    times.into_iter().map(median).collect()
+}

@@ -1,0 +1,43 @@
+//! What was measured on and with.
+
+use crate::others::version;
+
+/// The processor and the versions of the programs, in Markdown.
+pub fn described() -> String {
+    let about = std::fs::read_to_string("/proc/cpuinfo").unwrap_or_default();
+    let field = |name: &str| {
+        let line = about.lines().find(|line| line.starts_with(name));
+        let value = line.and_then(|line| line.split(": ").nth(1));
+        value.unwrap_or("unknown").to_string()
+    };
+    let flags = field("flags");
+    let has = |flag: &str| match flags.split(' ').any(|word| word == flag) {
+        true => "with",
+        false => "without",
+    };
+    let cores = about
+        .lines()
+        .filter(|line| line.starts_with("processor"))
+        .count();
+    let programs = [
+        version("rustc", "--version"),
+        format!(
+            "sqlite3 {}",
+            version("sqlite3", "--version")
+                .split(' ')
+                .next()
+                .unwrap_or("")
+        ),
+        version("xz", "--version"),
+        version("openssl", "version"),
+        version("sha256sum", "--version"),
+        version("look", "--version"),
+    ];
+    format!(
+        "Measured on: {}, {cores} processors, {} instructions for SHA-256 and {} carry-less multiplication.\n\nWith: {}.",
+        field("model name"),
+        has("sha_ni"),
+        has("pclmulqdq"),
+        programs.join("; ")
+    )
+}

@@ -1,0 +1,153 @@
+//! Measures the proved library against others, all in one run, and prints the tables in Markdown.
+//!
+//!     zs-bench --zs PATH --portable PATH --accelerated PATH [--quick | --write DOCS]
+//!
+//! `--quick` uses small sizes, to see that everything runs. `--write` puts the tables into DOCS/PERFORMANCE.md, between its two marks,
+//! and the growth curves into DOCS/growth.svg.
+//!
+//! * [`records`], [`shapes`], [`archive`]: what is measured on, made by the independent reader's maker.
+//! * [`clock`], [`others`], [`foreign`], [`idiomatic`]: time, other programs, other libraries, the same in plain Rust.
+//! * [`sections`]: one module for each group of rows. Each compares answers before it measures.
+//! * [`report`], [`chart`], [`machine`]: tables, goals, curves and the machine.
+#![deny(unsafe_code)]
+
+mod archive;
+mod chart;
+mod clock;
+#[allow(unsafe_code)]
+mod foreign;
+mod idiomatic;
+mod machine;
+mod others;
+mod records;
+mod report;
+mod sections;
+mod shapes;
+
+use std::path::{Path, PathBuf};
+
+use archive::Archive;
+use chart::Panel;
+use others::Programs;
+use report::Report;
+use sections::{checking, checksums, growth, lookups, Setting, FULL, QUICK};
+use shapes::Shape;
+
+const FIRST_MARK: &str = "<!-- measured -->\n";
+const LAST_MARK: &str = "<!-- end of what is measured -->\n";
+
+/// What is asked for.
+struct Arguments {
+    programs: Programs,
+    quick: bool,
+    write: Option<PathBuf>,
+}
+
+/// A folder for files that are measured on, removed however the program ends.
+struct Folder(PathBuf);
+
+impl Folder {
+    fn new() -> std::io::Result<Self> {
+        let path = std::env::temp_dir().join(format!("zs-bench-{}", std::process::id()));
+        std::fs::create_dir(&path)?;
+        Ok(Folder(path))
+    }
+}
+
+impl Drop for Folder {
+    fn drop(&mut self) {
+        // What can't be removed stays in the folder for temporary files.
+        let _ = std::fs::remove_dir_all(&self.0);
+    }
+}
+
+fn main() -> Result<(), String> {
+    let arguments = arguments(std::env::args().skip(1))?;
+    let folder = Folder::new().map_err(|error| error.to_string())?;
+    let (report, panels) = measured(arguments.programs, arguments.quick, &folder.0);
+    drop(folder);
+    println!("{}", report.markdown());
+    match arguments.write {
+        Some(docs) => write(&docs, &report, &panels),
+        None => Ok(()),
+    }
+}
+
+fn arguments(mut words: impl Iterator<Item = String>) -> Result<Arguments, String> {
+    let (mut zs, mut portable, mut accelerated) = (None, None, None);
+    let (mut quick, mut write) = (false, None);
+    while let Some(word) = words.next() {
+        let path = match word.as_str() {
+            "--quick" => {
+                quick = true;
+                continue;
+            }
+            "--zs" => &mut zs,
+            "--portable" => &mut portable,
+            "--accelerated" => &mut accelerated,
+            "--write" => &mut write,
+            _ => return Err(format!("{word}: not understood")),
+        };
+        *path = Some(
+            words
+                .next()
+                .map(PathBuf::from)
+                .ok_or(format!("{word} what?"))?,
+        );
+    }
+    match (zs, portable, accelerated) {
+        (Some(zs), Some(portable), Some(accelerated)) => Ok(Arguments {
+            programs: Programs {
+                zs,
+                portable,
+                accelerated,
+            },
+            quick,
+            write,
+        }),
+        _ => Err("--zs, --portable and --accelerated are needed".to_string()),
+    }
+}
+
+/// Measures everything. A wrong answer on any side ends the program.
+fn measured(programs: Programs, quick: bool, folder: &Path) -> (Report, [Panel; 2]) {
+    let sizes = if quick { QUICK } else { FULL };
+    let records = records::records(sizes.records);
+    let setting = Setting {
+        sizes,
+        programs,
+        folder,
+        records: &records,
+    };
+    let mut report = Report::new(machine::described());
+    let mut archive = Archive::new(Shape::Plain.archive(&records), records.len());
+    let file = folder.join("records.zs");
+    std::fs::write(&file, &archive.bytes).expect("room for the archive");
+    checking::measure(&setting, &mut archive, &file, &mut report);
+    lookups::measure(&setting, &archive, &file, &mut report);
+    checksums::measure(&setting, &archive.bytes, &mut report);
+    drop(archive);
+    let panels = growth::measure(&setting, &mut report);
+    (report, panels)
+}
+
+/// Puts the tables between the marks of the document, and the curves beside it.
+fn write(docs: &Path, report: &Report, panels: &[Panel]) -> Result<(), String> {
+    let document = docs.join("PERFORMANCE.md");
+    let text = std::fs::read_to_string(&document).map_err(|error| error.to_string())?;
+    let marks = (text.find(FIRST_MARK), text.find(LAST_MARK));
+    let (first, last) = match marks {
+        (Some(first), Some(last)) => (first + FIRST_MARK.len(), last),
+        _ => return Err("PERFORMANCE.md has lost its marks".to_string()),
+    };
+    let text = format!(
+        "{}\n{}\n{}",
+        &text[..first],
+        report.markdown(),
+        &text[last..]
+    );
+    let written = std::fs::write(&document, text);
+    let written =
+        written.and_then(|()| std::fs::write(docs.join("growth.svg"), chart::svg(panels)));
+    written.map_err(|error| error.to_string())
+}

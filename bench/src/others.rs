@@ -1,0 +1,128 @@
+//! Other programs, run as processes.
+
+use std::io::{BufRead, BufReader, Write};
+use std::path::{Path, PathBuf};
+use std::process::{Child, ChildStdin, ChildStdout, Command, Stdio};
+
+/// Where the programs are that this bench was built with.
+pub struct Programs {
+    /// The command `zs`.
+    pub zs: PathBuf,
+    /// `reference-check` with portable checksums.
+    pub portable: PathBuf,
+    /// `reference-check` with the processor's instructions for SHA.
+    pub accelerated: PathBuf,
+}
+
+/// A program and its arguments.
+pub struct Call {
+    program: PathBuf,
+    arguments: Vec<String>,
+}
+
+impl Call {
+    /// A call that is made when it is run.
+    pub fn new(program: impl AsRef<Path>, arguments: &[&str]) -> Self {
+        Call {
+            program: program.as_ref().to_path_buf(),
+            arguments: arguments.iter().map(|word| word.to_string()).collect(),
+        }
+    }
+
+    fn command(&self) -> Command {
+        let mut command = Command::new(&self.program);
+        command.args(&self.arguments).env("LC_ALL", "C");
+        command.stdin(Stdio::null()).stderr(Stdio::null());
+        command
+    }
+
+    /// Runs the program, with its output thrown away.
+    pub fn run(&self) {
+        let status = self.command().stdout(Stdio::null()).status();
+        let fine = status.map_or(false, |status| status.success());
+        assert!(fine, "{} failed", self.program.display());
+    }
+
+    /// Runs the program and gives what it wrote.
+    pub fn output(&self) -> Vec<u8> {
+        let output = self.command().output();
+        match output {
+            Ok(output) if output.status.success() => output.stdout,
+            _ => panic!("{} failed", self.program.display()),
+        }
+    }
+}
+
+/// The first line that a program writes about itself; `unknown` where it can't be run.
+pub fn version(program: &str, argument: &str) -> String {
+    let output = Command::new(program).arg(argument).output();
+    let text = output.map_or(Vec::new(), |output| output.stdout);
+    let text = String::from_utf8_lossy(&text);
+    text.lines().next().unwrap_or("unknown").to_string()
+}
+
+/// The independent reader in a process of its own, with a file in its memory.
+pub struct Reference {
+    child: Child,
+    asked: ChildStdin,
+    told: BufReader<ChildStdout>,
+}
+
+/// What the independent reader says: seconds, number, place, blocks, records.
+pub struct Told {
+    /// How long its check took.
+    pub seconds: f64,
+    /// Number, place, blocks and records.
+    pub answer: [u64; 4],
+}
+
+impl Reference {
+    /// Starts the program on a file.
+    pub fn start(program: &Path, file: &Path) -> std::io::Result<Self> {
+        let mut command = Command::new(program);
+        command
+            .arg(file)
+            .stdin(Stdio::piped())
+            .stdout(Stdio::piped());
+        let mut child = command.spawn()?;
+        let pipes = (child.stdin.take(), child.stdout.take());
+        match pipes {
+            (Some(asked), Some(told)) => Ok(Reference {
+                child,
+                asked,
+                told: BufReader::new(told),
+            }),
+            _ => Err(std::io::ErrorKind::BrokenPipe.into()),
+        }
+    }
+
+    /// Has the file checked once.
+    pub fn check(&mut self) -> Told {
+        let mut line = String::new();
+        let asked = self
+            .asked
+            .write_all(b"\n")
+            .and_then(|()| self.asked.flush());
+        let told = asked.and_then(|()| self.told.read_line(&mut line));
+        assert!(told.is_ok(), "the independent reader is gone");
+        let numbers: Vec<u64> = line
+            .split_whitespace()
+            .filter_map(|word| word.parse().ok())
+            .collect();
+        match numbers[..] {
+            [time, number, place, blocks, records] => Told {
+                seconds: time as f64 / 1e9,
+                answer: [number, place, blocks, records],
+            },
+            _ => panic!("the independent reader said {line:?}"),
+        }
+    }
+}
+
+impl Drop for Reference {
+    fn drop(&mut self) {
+        // It may have ended already; either way nothing is left to do.
+        let _ = self.child.kill();
+        let _ = self.child.wait();
+    }
+}

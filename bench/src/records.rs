@@ -1,0 +1,60 @@
+//! Fictitious records in order: a name and a number that no other record has, a telephone number that nobody is given, an address.
+
+use zs_reference::maker::random::Random;
+
+const GIVEN: [&str; 12] = [
+    "Ada", "Bram", "Cleo", "Dov", "Edda", "Fenn", "Greta", "Hob", "Ines", "Jory", "Nell", "Otto",
+];
+const FAMILY: [&str; 12] = [
+    "Anyname",
+    "Blank",
+    "Dummy",
+    "Exampleton",
+    "Fictional",
+    "Imagine",
+    "Invented",
+    "Madeup",
+    "Mockley",
+    "Nobody",
+    "Pretend",
+    "Unreal",
+];
+const STREETS: [&str; 6] = [
+    "Nowhere Lane",
+    "Sample Street",
+    "Placeholder Road",
+    "Template Avenue",
+    "Example Crescent",
+    "Blueprint Way",
+];
+
+/// The same records each time, all of them different, sorted.
+pub fn records(count: usize) -> Vec<Vec<u8>> {
+    let mut random = Random::new(2010);
+    let mut records: Vec<Vec<u8>> = (0..count)
+        .map(|number| record(&mut random, number))
+        .collect();
+    records.sort();
+    records
+}
+
+fn record(random: &mut Random, number: usize) -> Vec<u8> {
+    let name = format!("{} {}", random.pick(&GIVEN), random.pick(&FAMILY));
+    let telephone = format!("555-01{:02}", random.below(100));
+    let address = format!("{} {}", 1 + random.below(999), random.pick(&STREETS));
+    let code = random.below(1_000_000);
+    format!("{name} {number:07}\t{telephone}\t{address}\tNoplace {code:06}").into_bytes()
+}
+
+/// What only this record begins with: the name and the number.
+pub fn key(record: &[u8]) -> &[u8] {
+    let end = record.iter().position(|byte| *byte == b'\t');
+    &record[..end.unwrap_or(record.len())]
+}
+
+/// Some of the records, drawn from all of them.
+pub fn drawn(records: &[Vec<u8>], count: usize) -> Vec<&[u8]> {
+    let mut random = Random::new(64);
+    let draw = |_| records[random.below(records.len())].as_slice();
+    (0..count).map(draw).collect()
+}

@@ -1,0 +1,149 @@
+//! The check of a large plain file: against its checksums alone, the independent reader, `sha256sum` and `xz -t`.
+
+use std::path::{Path, PathBuf};
+
+use super::Setting;
+use crate::archive::{Archive, Lists};
+use crate::clock::{in_turn, side, Side};
+use crate::foreign::{proved_crc64, proved_sha256};
+use crate::others::{Call, Reference};
+use crate::records::key;
+use crate::report::{ratio, size, speed, time, Goal, Report, Table};
+
+/// Measures all of it on the archive at `file`, which stands in memory too.
+pub fn measure(setting: &Setting, archive: &mut Archive, file: &Path, report: &mut Report) {
+    in_process(setting, archive, file, report);
+    as_processes(setting, archive.bytes.len(), file, report);
+}
+
+fn in_process(setting: &Setting, archive: &mut Archive, file: &Path, report: &mut Report) {
+    let started = |program: &Path| Reference::start(program, file).expect("the independent reader");
+    let mut portable = started(&setting.programs.portable);
+    let mut accelerated = started(&setting.programs.accelerated);
+    let answer = archive.check();
+    let answer = [answer.number, answer.place, answer.blocks, answer.records];
+    assert_eq!(answer, portable.check().answer);
+    assert_eq!(answer, accelerated.check().answer);
+
+    let copy = Archive::new(archive.bytes.clone(), setting.records.len());
+    let (bytes, payloads) = (&copy.bytes, copy.payloads());
+    let (middle, mut lists) = (
+        key(&setting.records[setting.records.len() / 2]),
+        Lists::default(),
+    );
+    assert_eq!(copy.read(middle, &mut lists), 1);
+    let sides: Vec<Side> = vec![
+        side(|| archive.check()),
+        side(|| proved_crc64(bytes)),
+        side(|| proved_sha256(&payloads)),
+        Box::new(|| portable.check().seconds),
+        Box::new(|| accelerated.check().seconds),
+        side(|| copy.read(middle, &mut lists)),
+    ];
+    let times = in_turn(setting.sizes.rounds, sides);
+    goals(&times, report);
+    report.table(large_file(setting, &times, bytes.len(), payloads.len()));
+}
+
+fn goals(times: &[f64], report: &mut Report) {
+    let (check, alone) = (times[0], times[1] + times[2]);
+    let against = "check: speed against the independent reader";
+    report.goal(
+        "check of a large file: time against its CRC and SHA alone",
+        check / alone,
+        Goal::AtMost(1.15),
+    );
+    report.goal(
+        &format!("{against}, portable checksums"),
+        times[3] / check,
+        Goal::AtLeast(1.0),
+    );
+    report.goal(
+        &format!("{against}, SHA by the processor"),
+        times[4] / check,
+        Goal::None,
+    );
+}
+
+fn large_file(setting: &Setting, times: &[f64], length: usize, hashed: usize) -> Table {
+    let about = format!(
+        "One archive of {}, {} records in data blocks of about 16 KiB, in memory. The work list has a place for each block \
+         and is cleared within the time of the check. The independent reader runs in a process of its own and times itself.",
+        size(length),
+        setting.records.len()
+    );
+    let head = ["what", "time", "speed", "time of the check / this"];
+    let mut table = Table::new("Check of a large file", &about, &head);
+    let rows = [
+        ("the proved check", times[0], length),
+        ("proved CRC-64 of the whole file, alone", times[1], length),
+        (
+            "proved SHA-256 of the data payloads, alone",
+            times[2],
+            hashed,
+        ),
+        ("both alone", times[1] + times[2], length),
+        (
+            "independent reader, Rust -O, portable checksums",
+            times[3],
+            length,
+        ),
+        (
+            "independent reader, Rust -O, SHA by the processor",
+            times[4],
+            length,
+        ),
+        (
+            "the proved reading front to back, for one record",
+            times[5],
+            length,
+        ),
+    ];
+    for (what, seconds, length) in rows {
+        let cells = (
+            time(seconds),
+            speed(length, seconds),
+            ratio(times[0] / seconds),
+        );
+        table.row(&[what, &cells.0, &cells.1, &cells.2]);
+    }
+    table
+}
+
+fn as_processes(setting: &Setting, length: usize, file: &Path, report: &mut Report) {
+    let path = file.to_string_lossy();
+    let packed = PathBuf::from(format!("{path}.xz"));
+    Call::new("xz", &["--keep", "--check=crc64", &path]).run();
+    let validate = Call::new(&setting.programs.zs, &["validate", &path]);
+    let sum = Call::new("sha256sum", &[&path]);
+    let test = Call::new("xz", &["-t", &packed.to_string_lossy()]);
+    let times = in_turn(
+        setting.sizes.rounds,
+        vec![
+            side(|| validate.run()),
+            side(|| sum.run()),
+            side(|| test.run()),
+        ],
+    );
+    let about = format!(
+        "The same file on disk, read before, each program started anew. The packed file has {}; its check is CRC-64 too.",
+        size(std::fs::metadata(&packed).map_or(0, |about| about.len() as usize))
+    );
+    let mut table = Table::new(
+        "Check as a process",
+        &about,
+        &["what", "time", "speed", "time of zs / this"],
+    );
+    for (what, seconds) in ["`zs validate`", "`sha256sum`", "`xz -t` of the packed file"]
+        .iter()
+        .zip(&times)
+    {
+        table.row(&[
+            what,
+            &time(*seconds),
+            &speed(length, *seconds),
+            &ratio(times[0] / seconds),
+        ]);
+    }
+    report.table(table);
+}

@@ -1,0 +1,40 @@
+-- `measured::measured_sha256` meets its contract: the state absorbed all bytes at once. Assumes nothing.
+use mathlib.Core.Path.{_∙_}
+use borrow.Author.Needs.{needs}
+use denote.Ref.{now}
+use Rattle.measured.proofs.MeasuredLaws.{digestStart-long, finished-at-once}
+use Rattle.measured.proofs.measured_sha256.Statement.{statement}
+use Rattle.measured.proofs.measured_sha256.Tie as tie
+
+returns : tie.Need-returns
+returns c = digestStart-long (now (c .before .before .args .bytes)) (c .if1 .taken)
+
+begin-requires : tie.Need-begin-requires
+begin-requires c κs = search needs
+
+absorb-requires : tie.Need-absorb-requires
+absorb-requires c κs = search needs
+
+finish-requires : tie.Need-finish-requires
+finish-requires c κs = search needs
+
+slice-aggregate-le64-at : tie.Need-slice-aggregate-le64-at
+slice-aggregate-le64-at c = search needs
+
+le64-at-requires : tie.Need-le64-at-requires
+le64-at-requires c κs = search needs
+
+returns-2 : tie.Need-returns-2
+returns-2 c = c .le64-at .ensures ∙ finished-at-once (now (c .before .before .before .before .before .before .before .args .bytes)) (c .before .before .before .before .before .if1 .left) _ (c .before .before .before .before .begin .ensures) _ (c .before .before .before .absorb .ensures) _ (c .before .before .finish .ensures)
+
+pub measured-sha256-spec : {M : Type 1} → statement M
+measured-sha256-spec =
+    tie.close
+    (tie.spec
+    returns
+    begin-requires
+    absorb-requires
+    finish-requires
+    slice-aggregate-le64-at
+    le64-at-requires
+    returns-2)

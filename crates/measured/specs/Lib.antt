@@ -1,0 +1,2 @@
+-- The meaning of what is measured.
+pub mod Measured
