@@ -3,11 +3,11 @@
 use mathlib.Core.Path.{_≡_, refl, sym, ap, _∙_}
 use mathlib.Core.List.{List, [], _∷_, _++_}
 use Prim.Native.Nat.{ℕ, zero, suc, _+_, _-_, _*_, _/_, _%_, _<_, _≤_}
-use native.Mathlib.Nat.{add-sub-cancel-left, div-eq-of-lt, not-suc-le-zero}
+use native.Mathlib.Nat.{add-sub-cancel-left, div-eq-of-lt, ne-of-lt, not-suc-le-zero}
 use native.Mathlib.Numerals.{add-one}
 use native.Mathlib.Omega.{arith}
 use lib.ListN.{length, take, drop, getD, set, length-append, length-take, length-drop}
-use lib.Seq.{drop-cons, drop-drop, getD-take, take-all, take-suc, take-suc-set, take-append-le, drop-append-le}
+use lib.Seq.{drop-cons, drop-drop, getD-set-same, getD-set-other, getD-take, take-all, take-suc, take-suc-set, take-append-le, drop-append-le}
 use Rattle.fixed_width.specs.FixedWidth.{bigEndian, bigBytes, littleBytes}
 use Rattle.fixed_width.proofs.FixedWidthLaws.{bigBytes-length}
 use Rattle.sha256.specs.declared.Words.{Words}
@@ -56,6 +56,19 @@ extended-set w ws t x h k before word =
     let one-more : t + 1 - 16 ≡ t - 16 + 1 = omega arith in
     rw (one-more, extended-more, ← before, ← word, add-one) (take-suc-set w t x k)
 
+-- the word stored is the last of them
+pub set-last : (w : List ℕ) (t x : ℕ) → t < length w → x ≡ getD (set w t x) (t + 1 - 1) 0
+set-last w t x h =
+    let same : t + 1 - 1 ≡ t = omega arith in
+    rw same (sym (getD-set-same w t x 0 h))
+
+-- the last of those before is the one before it
+pub set-before-last : (w : List ℕ) (t x y : ℕ) → 16 ≤ t → y ≡ getD w (t - 1) 0 → y ≡ getD (set w t x) (t + 1 - 2) 0
+set-before-last w t x y h e =
+    let same : t + 1 - 2 ≡ t - 1 = omega arith in
+    let lower : t - 1 < t = omega arith in
+    rw same (e ∙ sym (getD-set-other w t (t - 1) x 0 (ne-of-lt lower)))
+
 -- The steps
 
 -- step t, and then the others
@@ -63,6 +76,32 @@ pub rounds-drop : (ks ws : List ℕ) (v : Words) (t : ℕ) → t < length ks →
     → rounds (drop t ks) (drop t ws) v ≡ rounds (drop (t + 1) ks) (drop (t + 1) ws) (round v (getD ks t 0) (getD ws t 0))
 unfolding rounds
 rounds-drop ks ws v t h k = rw (add-one, drop-cons ks t 0, drop-cons ws t 0)
+
+-- a step, to a position that is named otherwise
+rounds-to : (ks ws : List ℕ) (v v' : Words) (t u : ℕ) → u ≡ t + 1 → t < length ks → t < length ws → v' ≡ round v (getD ks t 0) (getD ws t 0)
+    → rounds (drop t ks) (drop t ws) v ≡ rounds (drop u ks) (drop u ws) v'
+rounds-to ks ws v v' t u e h k r = rw (e, r) (rounds-drop ks ws v t h k)
+
+-- eight steps
+pub rounds-eight : (ks ws : List ℕ) (t : ℕ) → t + 7 < length ks → t + 7 < length ws → (v v₁ v₂ v₃ v₄ v₅ v₆ v₇ v₈ : Words)
+    → v₁ ≡ round v (getD ks t 0) (getD ws t 0)
+    → v₂ ≡ round v₁ (getD ks (t + 1) 0) (getD ws (t + 1) 0)
+    → v₃ ≡ round v₂ (getD ks (t + 2) 0) (getD ws (t + 2) 0)
+    → v₄ ≡ round v₃ (getD ks (t + 3) 0) (getD ws (t + 3) 0)
+    → v₅ ≡ round v₄ (getD ks (t + 4) 0) (getD ws (t + 4) 0)
+    → v₆ ≡ round v₅ (getD ks (t + 5) 0) (getD ws (t + 5) 0)
+    → v₇ ≡ round v₆ (getD ks (t + 6) 0) (getD ws (t + 6) 0)
+    → v₈ ≡ round v₇ (getD ks (t + 7) 0) (getD ws (t + 7) 0)
+    → rounds (drop t ks) (drop t ws) v ≡ rounds (drop (t + 8) ks) (drop (t + 8) ws) v₈
+rounds-eight ks ws t h k v v₁ v₂ v₃ v₄ v₅ v₆ v₇ v₈ e₁ e₂ e₃ e₄ e₅ e₆ e₇ e₈ =
+    rounds-to ks ws v v₁ t (t + 1) (omega arith) (omega arith) (omega arith) e₁
+    ∙ rounds-to ks ws v₁ v₂ (t + 1) (t + 2) (omega arith) (omega arith) (omega arith) e₂
+    ∙ rounds-to ks ws v₂ v₃ (t + 2) (t + 3) (omega arith) (omega arith) (omega arith) e₃
+    ∙ rounds-to ks ws v₃ v₄ (t + 3) (t + 4) (omega arith) (omega arith) (omega arith) e₄
+    ∙ rounds-to ks ws v₄ v₅ (t + 4) (t + 5) (omega arith) (omega arith) (omega arith) e₅
+    ∙ rounds-to ks ws v₅ v₆ (t + 5) (t + 6) (omega arith) (omega arith) (omega arith) e₆
+    ∙ rounds-to ks ws v₆ v₇ (t + 6) (t + 7) (omega arith) (omega arith) (omega arith) e₇
+    ∙ rounds-to ks ws v₇ v₈ (t + 7) (t + 8) (omega arith) (omega arith) (omega arith) e₈
 
 -- A run of blocks
 

@@ -25,14 +25,20 @@ fn first_words(block: &[u8]) -> [u32; 64]
     w
 }
 
+// The last two words are carried along: the next one needs them at once, and a store takes a while to be read back.
 fn schedule(block: &[u8]) -> [u32; 64]
     ensures { λ r. ⌜ r ≡ sha.schedule (now (block .entry)) ⌝ }
 {
     let mut w = first_words(block);
+    let mut before_last = w[14];
+    let mut last = w[15];
     let mut t = 16;
     while t < 64 {
-        let recent = add(small_sigma1(w[t - 2]), w[t - 7]);
-        w[t] = add(add(recent, small_sigma0(w[t - 15])), w[t - 16]);
+        let recent = add(small_sigma1(before_last), w[t - 7]);
+        let next = add(add(recent, small_sigma0(w[t - 15])), w[t - 16]);
+        w[t] = next;
+        before_last = last;
+        last = next;
         t += 1;
     }
     w
@@ -55,15 +61,23 @@ fn round(v: Words, k: u32, w: u32) -> Words
     }
 }
 
+// The rounds are written out eight at a time, so that the compiler renames the words instead of moving them.
 fn rounds(w: [u32; 64], hash: Words) -> Words
     ensures { λ r. ⌜ r ≡ sha.rounds sha.K w hash ⌝ }
 {
     let k = K;
     let mut v = hash;
     let mut t = 0;
-    while t < 64 {
-        v = round(v, k[t], w[t]);
-        t += 1;
+    while t < 57 {
+        let v1 = round(v, k[t], w[t]);
+        let v2 = round(v1, k[t + 1], w[t + 1]);
+        let v3 = round(v2, k[t + 2], w[t + 2]);
+        let v4 = round(v3, k[t + 3], w[t + 3]);
+        let v5 = round(v4, k[t + 4], w[t + 4]);
+        let v6 = round(v5, k[t + 5], w[t + 5]);
+        let v7 = round(v6, k[t + 6], w[t + 6]);
+        v = round(v7, k[t + 7], w[t + 7]);
+        t += 8;
     }
     v
 }

@@ -1,36 +1,34 @@
--- The loop's invariant: the first `t` words of the array are the first `t` of the schedule.
-use mathlib.Core.Path.{_≡_, sym, _∙_}
+-- The loop's invariant: the first `t` words of the array are the first `t` of the schedule, and the last two of them are carried along.
+use mathlib.Core.Path.{_≡_, refl, sym, _∙_}
 use Prim.Native.Nat.{_≤_, _-_}
 use native.Mathlib.Omega.{arith}
 use borrow.Author.Needs.{needs}
-use lib.ListN.{take, length, length-set}
+use lib.ListN.{take, getD, length, length-set}
 use lib.Seq.{take-all}
 use Rattle.sha256.specs.Sha256.{extended, wordsOf, nextWord, schedule}
-use Rattle.sha256.proofs.BlockLaws.{extended-set, nextWord-take}
+use Rattle.sha256.proofs.BlockLaws.{extended-set, nextWord-take, set-last, set-before-last}
 use Rattle.sha256.proofs.block.schedule.Statement.{statement}
 use Rattle.sha256.proofs.block.schedule.Tie as tie
 
 abbrev Inv-loop : tie.InvT-loop
-Inv-loop block w₀ t₀ w t = (16 ≤ t) × (t ≤ 64) × (length w ≡ 64) × (take t w ≡ extended (t - 16) (wordsOf 16 block))
+Inv-loop block w₀ before-last₀ last₀ t₀ w before-last last t =
+    (16 ≤ t) × (t ≤ 64) × (length w ≡ 64) × (take t w ≡ extended (t - 16) (wordsOf 16 block)) × (before-last ≡ getD w (t - 2) 0) × (last ≡ getD w (t - 1) 0)
 
 abbrev μ-loop : tie.MeasureT-loop
-μ-loop block w₀ t₀ w t = 64 - t
+μ-loop block w₀ before-last₀ last₀ t₀ w before-last last t = 64 - t
 
 first-words-requires : tie.Need-first-words-requires Inv-loop μ-loop
 first-words-requires c κs = search needs
 
+array-read-before-last : tie.Need-array-read-before-last Inv-loop μ-loop
+array-read-before-last c = search needs
+
+array-read-last : tie.Need-array-read-last Inv-loop μ-loop
+array-read-last c = search needs
+
 loop-holds : tie.Need-loop-holds Inv-loop μ-loop
 unfolding extended
-loop-holds c = (omega arith, omega arith, search needs, c .first-words .ensures)
-
-sub-small-sigma1 : tie.Need-sub-small-sigma1 Inv-loop μ-loop
-sub-small-sigma1 c = search needs
-
-mul-small-sigma1 : tie.Need-mul-small-sigma1 Inv-loop μ-loop
-mul-small-sigma1 c = search needs
-
-array-read-small-sigma1 : tie.Need-array-read-small-sigma1 Inv-loop μ-loop
-array-read-small-sigma1 c = search needs
+loop-holds c = (omega arith, omega arith, search needs, c .first-words .ensures, refl, refl)
 
 small-sigma1-requires : tie.Need-small-sigma1-requires Inv-loop μ-loop
 small-sigma1-requires c κs = search needs
@@ -90,15 +88,12 @@ loop-again : tie.Need-loop-again Inv-loop μ-loop
 loop-again c =
     let at = c .before .before .before .before .before .before .loop in
     let block = c .before .before .before .before .before .before .before .before .before .args .block .now in
-    let sum2 = c .before .before .before .add in
-    let sum3 = c .before .add2 in
-    let s0 = c .before .before .small-sigma0 in
-    let s1 = c .before .before .before .before .small-sigma1 in
+    let few = c .before .before .before .before .before .loop-test .taken in
     let word : c .add3 .result ≡ nextWord (take (at .t) (at .w)) =
-    rw (c .add3 .ensures, sum3 .ensures, s0 .ensures, sum2 .ensures, s1 .ensures)
+    rw (c .add3 .ensures, c .before .add2 .ensures, c .before .before .small-sigma0 .ensures, c .before .before .before .add .ensures, c .before .before .before .before .small-sigma1 .ensures, at .inv .4)
     (sym (nextWord-take (at .w) (at .t) (at .inv .0) (omega arith))) in
     let more = extended-set (at .w) (wordsOf 16 block) (at .t) (c .add3 .result) (at .inv .0) in
-    (omega arith, omega arith, simp length-set (at .inv .2), more (omega arith) (at .inv .3) word)
+    (omega arith, omega arith, simp length-set (at .inv .2), more (omega arith) (at .inv .3) word, set-before-last (at .w) (at .t) (c .add3 .result) (at .last) (at .inv .0) (at .inv .5), set-last (at .w) (at .t) (c .add3 .result) (omega arith))
 
 returns : tie.Need-returns Inv-loop μ-loop
 unfolding schedule
@@ -114,10 +109,9 @@ schedule-spec =
     Inv-loop
     μ-loop
     first-words-requires
+    array-read-before-last
+    array-read-last
     loop-holds
-    sub-small-sigma1
-    mul-small-sigma1
-    array-read-small-sigma1
     small-sigma1-requires
     sub-add
     mul-add
