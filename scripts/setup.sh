@@ -42,6 +42,8 @@ fi
 have cargo || need cargo
 have rustc || need rustc
 have cc || need gcc
+# What a linker and C programs need; gcc only recommends it.
+need libc6-dev
 
 if [ -n "$missing" ]; then
     as_root=""
