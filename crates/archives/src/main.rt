@@ -7,7 +7,7 @@ mod index_search;
 mod lists;
 mod print;
 mod read;
-mod record;
+mod record_part;
 
 use cases::Case;
 use cases::Parsed;
@@ -32,7 +32,7 @@ fn answer(file: &[u8], stored: &[u8], case: Case) {
         1 => read::run(file, stored, case),
         2 => check::run(file, case),
         3 => index_search::run(file, stored, case),
-        4 => record::run(file, case),
+        4 => record_part::run(file, case),
         _ => print::number(b" unknown call ", call as u64),
     }
     print::text(b"\n");

@@ -9,7 +9,7 @@ use native.Mathlib.Omega.{arith}
 use lib.Dec.{eqb}
 use lib.ListN.{length}
 use borrow.Author.Tests.{eq-eqb, ne-eqb}
-use Rattle.outcome.proofs.ListsLaws.{keep-member, member-keep}
+use Rattle.outcome.proofs.ListsLaws.{keep-member}
 use Rattle.outcome.specs.Lists.{keep}
 use Rattle.outcome.proofs.ListsLaws.{Below, Ascending, below-member, flatMap-append}
 

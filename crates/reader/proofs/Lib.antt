@@ -1,5 +1,4 @@
--- Laws and theorems of reading a file front to back, and of handing back a record.
-pub mod RecordLaws
+-- Laws and theorems of reading a file front to back.
 pub mod MatchLaws
 pub mod StoreLaws
 pub mod CollectLaws

@@ -21,8 +21,8 @@ use Rattle.block.specs.Block.{Block, blocksAt}
 use Rattle.block.specs.Survey.{recordsOf}
 use Rattle.query.specs.Query.{Query, matches}
 use Rattle.reader.specs.Read.{matching, numbersOf, readBlocks, readOf, readAnswer, readList}
-use Rattle.reader.specs.Record.{recordOf}
-use Rattle.reader.proofs.RecordLaws.{within-of, record-within}
+use Rattle.record.specs.Record.{recordOf}
+use Rattle.record.proofs.RecordLaws.{within-of, record-within}
 use Rattle.reader.proofs.MatchLaws.{matching-member, member-matching}
 use Rattle.reader.proofs.StoreLaws.{length-numbers, numbers-pair}
 use Rattle.reader.proofs.ReadLaws.{answer-of-refusal, list-of-refusal, answer-of-matches, list-of-matches, blocks-refused, blocks-fit, blocks-overflow, header-accepts}

@@ -10,14 +10,13 @@ use Rattle.output_list.specs.OutputList.{withPair}
 use Rattle.output_list.proofs.OutputListLaws.{length-withPair}
 use Rattle.outcome.specs.Outcome.{answer, refused}
 use Rattle.outcome.specs.Items.{soundFrom}
-use Rattle.outcome.proofs.PartLaws.{length-part}
+use Rattle.outcome.proofs.PartLaws.{length-part, lent-part}
 use Rattle.payload.specs.Payload.{textAt}
 use Rattle.payload.specs.Answers.{textIn}
 use Rattle.payload.proofs.PayloadLaws.{text⇒Placed}
 use Rattle.query.specs.Query.{Query, matches}
 use Rattle.reader.specs.Read.{matching}
 use Rattle.reader.specs.Collect.{Stored, put, putAll, recordsFrom}
-use Rattle.reader.proofs.RecordLaws.{lent-part}
 use Rattle.reader.proofs.MatchLaws.{matching-nil, matching-kept, matching-passed}
 use Rattle.reader.proofs.CollectLaws.{Collected, collected-more, collected-end, collected-refused}
 

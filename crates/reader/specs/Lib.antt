@@ -1,4 +1,3 @@
--- The meaning of reading a file front to back, and of handing back a record.
+-- The meaning of reading a file front to back.
 pub mod Read
 pub mod Collect
-pub mod Record

@@ -1,4 +1,4 @@
-// Reading a file front to back under a query, and handing back a record.
+// Reading a file front to back under a query.
 ghost use mathlib.Core.Path.{_≡_};
 ghost use Prim.Native.Nat.{_≤_};
 ghost use lib.ListN.{length};
@@ -8,7 +8,6 @@ ghost use Rattle.query.specs.Query.{queryOf};
 ghost use Rattle.reader.specs.Read.{readBlocks, readOf, readAnswer, readList};
 
 pub mod collect;
-pub mod record;
 
 use crate::collect::collect;
 use block::pass::SurveyOutcome;

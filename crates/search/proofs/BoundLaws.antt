@@ -11,14 +11,13 @@ use Rattle.outcome.specs.Outcome.{answer, refused}
 use Rattle.outcome.specs.Items.{Step, part, itemsFrom}
 use Rattle.outcome.proofs.OutcomeLaws.{answer-injective, refused-not-answer}
 use Rattle.outcome.proofs.ItemsLaws.{Read, at-end, one-more, items⁻¹, items-end}
-use Rattle.outcome.proofs.PartLaws.{part-take}
+use Rattle.outcome.proofs.PartLaws.{part-take, lent-part}
 use Rattle.payload.specs.Payload.{Text, Entry, textAt, entryAt}
 use Rattle.payload.specs.Answers.{textIn}
 use Rattle.payload.proofs.PayloadLaws.{text⇒Placed}
 use Rattle.payload.proofs.ReadLaws.{entry⁻¹}
 use Rattle.query.specs.Query.{Query, given}
 use Rattle.query.specs.Opening.{mayMatch}
-use Rattle.reader.proofs.RecordLaws.{lent-part}
 use Rattle.search.specs.declared.bound.Bound.{Bound}
 use Rattle.search.specs.Search.{nextKey}
 use Rattle.search.specs.Steps.{boundOf, BoundWithin}

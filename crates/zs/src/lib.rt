@@ -6,7 +6,7 @@ ghost use lib.ListN.{length};
 ghost use Rattle.output_list.specs.OutputList.{zeros};
 ghost use Rattle.query.specs.Query.{queryOf};
 ghost use Rattle.reader.specs.Read.{readOf, readAnswer, readList};
-ghost use Rattle.reader.specs.Record.{isWithin, partStart, partLength};
+ghost use Rattle.record.specs.Record.{isWithin, partStart, partLength};
 ghost use Rattle.checker.specs.Check.{checkOf, checkAnswer};
 ghost use Rattle.search.specs.Search.{searchOf, searchAnswer, openedList, resultList};
 use checker::CheckAnswer;
@@ -68,7 +68,7 @@ pub extern "C" fn zs_search(
 pub extern "C" fn zs_record(file: &[u8], offset: u64, size: u64) -> Part
     ensures { λ r. ⌜ r ≡ record { offset = partStart (now (file .entry)) offset size; size = partLength (now (file .entry)) offset size } ⌝ }
 {
-    if reader::record::is_within(file, offset, size) {
+    if record::is_within(file, offset, size) {
         Part { offset, size }
     } else {
         Part { offset: 0, size: 0 }
@@ -80,5 +80,5 @@ pub extern "C" fn zs_record(file: &[u8], offset: u64, size: u64) -> Part
 pub extern "C" fn zs_within(file: &[u8], offset: u64, size: u64) -> bool
     ensures { λ r. ⌜ r ≡ isWithin (now (file .entry)) offset size ⌝ }
 {
-    reader::record::is_within(file, offset, size)
+    record::is_within(file, offset, size)
 }

@@ -3,7 +3,7 @@ use mathlib.Core.Path.{sym, ap, _∙_}
 use mathlib.Core.Bool.{Bool, cond}
 use Prim.Native.Nat.{ℕ}
 use borrow.Author.Needs.{needs}
-use Rattle.reader.specs.Record.{partStart, partLength}
+use Rattle.record.specs.Record.{partStart, partLength}
 use Rattle.zs.specs.declared.Part.{Part}
 use Rattle.zs.proofs.zs_record.Statement.{statement}
 use Rattle.zs.proofs.zs_record.Tie as tie

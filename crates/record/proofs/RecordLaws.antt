@@ -4,19 +4,14 @@ use mathlib.Core.Path.{_≡_, refl, sym, ap, _∙_}
 use mathlib.Core.Bool.{Bool, true, false}
 use mathlib.Core.List.{List, []}
 use Prim.Native.Nat.{ℕ, _+_, _-_, _≤_, _<_}
-use native.Mathlib.Nat.{add-comm, add-zero, add-sub-cancel-left}
+use native.Mathlib.Nat.{add-comm, add-zero}
 use native.Mathlib.Omega.{arith}
 use lib.Dec.{leb}
 use lib.ListN.{length, take, drop}
 use borrow.Author.Tests.{le-leb, lt-leb, leb-true, leb-false}
 use Rattle.outcome.specs.Items.{part}
-use Rattle.outcome.proofs.PartLaws.{part-empty}
-use Rattle.reader.specs.Record.{isWithin, partStart, partLength, recordOf}
-
--- a part as code lends it, from a start to an end
-pub lent-part : (s : List ℕ) (at n : ℕ) → take (at + n - at) (drop at s) ≡ part s at n
-unfolding part
-lent-part s at n = ap (λ (k : ℕ). take k (drop at s)) (add-sub-cancel-left at n)
+use Rattle.outcome.proofs.PartLaws.{part-empty, lent-part}
+use Rattle.record.specs.Record.{isWithin, partStart, partLength, recordOf}
 
 module _ (file : List ℕ) (offset n : ℕ) where
   -- ---- the test

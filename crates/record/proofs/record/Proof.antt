@@ -1,11 +1,11 @@
--- `reader::record::record` meets its contract: a part that lies within is lent, or the empty part at 0. Assumes nothing.
+-- `record::record` meets its contract: a part that lies within is lent, or the empty part at 0. Assumes nothing.
 use mathlib.Core.Path.{sym, _∙_}
 use native.Mathlib.Omega.{arith}
 use borrow.Author.Needs.{needs}
 use denote.Ref.{now, ptr}
-use Rattle.reader.proofs.RecordLaws.{within⁻¹, lent-within, record-outside, place-within, place-outside}
-use Rattle.reader.proofs.record.record.Statement.{statement}
-use Rattle.reader.proofs.record.record.Tie as tie
+use Rattle.record.proofs.RecordLaws.{within⁻¹, lent-within, record-outside, place-within, place-outside}
+use Rattle.record.proofs.record.Statement.{statement}
+use Rattle.record.proofs.record.Tie as tie
 
 is-within-requires : tie.Need-is-within-requires
 is-within-requires c κs = search needs

@@ -1,8 +1,8 @@
 // Call 4: handing back a record.
 use crate::cases::Case;
 use crate::print;
-use reader::record::is_within;
-use reader::record::record;
+use record::is_within;
+use record::record;
 
 pub fn run(file: &[u8], case: Case) {
     let offset = case.offset;

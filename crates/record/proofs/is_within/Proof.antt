@@ -1,9 +1,9 @@
--- `reader::record::is_within` meets its contract: the test is on what is left behind the offset, so that no sum wraps. Assumes nothing.
+-- `record::is_within` meets its contract: the test is on what is left behind the offset, so that no sum wraps. Assumes nothing.
 use mathlib.Core.Path.{sym}
 use denote.Ref.{now}
-use Rattle.reader.proofs.RecordLaws.{not-within, within-left}
-use Rattle.reader.proofs.record.is_within.Statement.{statement}
-use Rattle.reader.proofs.record.is_within.Tie as tie
+use Rattle.record.proofs.RecordLaws.{not-within, within-left}
+use Rattle.record.proofs.is_within.Statement.{statement}
+use Rattle.record.proofs.is_within.Tie as tie
 
 returns : tie.Need-returns
 returns c = sym (not-within (now (c .before .args .file)) (c .before .args .offset) (c .before .args .length) (c .if1 .taken))

@@ -2,7 +2,7 @@
 ghost use mathlib.Core.Path.{_≡_};
 ghost use Prim.Native.Nat.{_+_};
 ghost use denote.Ref.{ptr};
-ghost use Rattle.reader.specs.Record.{isWithin, partStart, recordOf};
+ghost use Rattle.record.specs.Record.{isWithin, partStart, recordOf};
 
 // Whether the `length` bytes from `offset` on lie within the file.
 pub fn is_within(file: &[u8], offset: u64, length: u64) -> bool

@@ -1,0 +1,2 @@
+-- The meaning of handing back a record.
+pub mod Record
