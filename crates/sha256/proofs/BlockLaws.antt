@@ -135,8 +135,8 @@ Mixed-step ws hash w v v' x t u at sixteen few next place m step word =
       long = length-set w at x ∙ full;
       words = rw (next, place, one-more, take-suc-set w (t + 16) x (omega arith), m .words, extended-more, word (omega arith), place, m .words);
       steps =
-      sym (rounds-to K (extended 48 ws) v v' t u next (omega arith) (omega arith) (step ∙ ap (round v (getD K t 0)) early))
-      ∙ m .steps;
+          sym (rounds-to K (extended 48 ws) v v' t u next (omega arith) (omega arith) (step ∙ ap (round v (getD K t 0)) early))
+          ∙ m .steps;
     }
 
 -- the last word is there

@@ -1,15 +1,13 @@
 -- The loop's invariant: going on from step `t` gives what all sixteen steps give.
--- Assumes nothing.
 use mathlib.Core.Path.{refl, sym, _∙_, _≡_}
 use Prim.Native.Nat.{_≤_, _-_, _%_}
 use native.Mathlib.Omega.{arith}
 use borrow.Author.Needs.{needs}
-use lib.ListN.{drop, length}
+use lib.ListN.{drop}
 use Rattle.sha256.specs.Sha256.{rounds}
 use Rattle.sha256.proofs.BlockLaws.{rounds-four, rounds-done}
 use Rattle.sha256.proofs.block.last_rounds.Statement.{statement}
 use Rattle.sha256.proofs.block.last_rounds.Tie as tie
-use Rattle.sha256.proofs.block.last_rounds.Lts as lts
 
 abbrev Inv-loop : tie.InvT-loop
 Inv-loop k w v₀ t₀ v t = (48 ≤ t) × (t ≤ 64) × (t % 4 ≡ 0) × (rounds (drop t k) (drop t w) v ≡ rounds (drop 48 k) (drop 48 w) v₀)
@@ -105,7 +103,7 @@ loop-less : tie.Need-loop-less Inv-loop μ-loop
 loop-less c = search needs
 
 loop-again : tie.Need-loop-again Inv-loop μ-loop
-loop-again c = 
+loop-again c =
     let at = c .before .before .before .before .before .before .before .before .before .before .before .before .before .loop in
     let few = c .before .before .before .before .before .before .before .before .before .before .before .before .loop-test .taken in
     let even = at .inv .2 in
@@ -118,7 +116,7 @@ loop-again c =
     (omega arith, omega arith, omega arith, sym step ∙ at .inv .3)
 
 returns : tie.Need-returns Inv-loop μ-loop
-returns c = 
+returns c =
     let at = c .before .loop in
     let even = at .inv .2 in
     let left = c .loop-test .left in

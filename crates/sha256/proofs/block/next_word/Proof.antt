@@ -1,12 +1,10 @@
 -- The definition, call by call.
--- Assumes nothing.
 use mathlib.Core.Path.{sym}
 use native.Mathlib.Omega.{arith}
 use borrow.Author.Needs.{needs}
 use Rattle.sha256.proofs.BlockLaws.{nextWord-take}
 use Rattle.sha256.proofs.block.next_word.Statement.{statement}
 use Rattle.sha256.proofs.block.next_word.Tie as tie
-use Rattle.sha256.proofs.block.next_word.Lts as lts
 
 sub-small-sigma1 : tie.Need-sub-small-sigma1
 sub-small-sigma1 c = search needs
@@ -60,7 +58,7 @@ add-requires-3 : tie.Need-add-requires-3
 add-requires-3 c κs = search needs
 
 returns : tie.Need-returns
-returns c long = 
+returns c long =
     let a = c .before .before .before .before .before .before .before .before .before .args in
     rw (c .add3 .ensures, c .before .before .add2 .ensures, c .before .before .before .small-sigma0 .ensures, c .before .before .before .before .before .add .ensures, c .before .before .before .before .before .before .before .small-sigma1 .ensures)
     (sym (nextWord-take (a .w .now) (a .t) (omega arith) long))

@@ -1,15 +1,12 @@
 -- The loop's invariant is `Mixed`: before step `t` there are `t + 16` words. The constants are compared with the standard's here.
--- Assumes nothing.
 use mathlib.Core.Path.{refl, _∙_, _≡_}
 use Prim.Native.Nat.{_≤_, _-_, _%_, _+_}
 use native.Mathlib.Omega.{arith}
 use borrow.Author.Needs.{needs}
-use lib.ListN.{length, set}
 use Rattle.sha256.specs.Sha256.{K, wordsOf, schedule}
 use Rattle.sha256.proofs.BlockLaws.{Mixed, Mixed-start, Mixed-step, Mixed-last, wordsOf-length}
 use Rattle.sha256.proofs.block.rounds.Statement.{statement}
 use Rattle.sha256.proofs.block.rounds.Tie as tie
-use Rattle.sha256.proofs.block.rounds.Lts as lts
 
 abbrev Inv-loop : tie.InvT-loop
 Inv-loop block k w₀ v₀ t₀ w v t = (t ≤ 48) × (t % 4 ≡ 0) × Mixed (wordsOf 16 block) v₀ w v t
@@ -21,8 +18,7 @@ first-words-requires : tie.Need-first-words-requires Inv-loop μ-loop
 first-words-requires c κs = search needs
 
 loop-holds : tie.Need-loop-holds Inv-loop μ-loop
-unfolding K
-loop-holds c = 
+loop-holds c =
     let block = c .before .before .args .block .now in
     (omega arith, omega arith, Mixed-start (wordsOf 16 block) (c .before .before .args .hash) (c .first-words .result) (search needs) (c .first-words .ensures))
 
@@ -172,17 +168,17 @@ loop-less c = search needs
 
 loop-again : tie.Need-loop-again Inv-loop μ-loop
 unfolding K
-loop-again c = 
+loop-again c =
     let at = c .before .before .before .before .before .before .before .before .before .before .before .before .before .loop in
     let few = c .before .before .before .before .before .before .before .before .before .before .before .before .loop-test .taken in
     let even = at .inv .1 in
     let block = c .before .before .before .before .before .before .before .before .before .before .before .before .before .before .before .before .args .block .now in
     let hash = c .before .before .before .before .before .before .before .before .before .before .before .before .before .before .before .before .args .hash in
     let sixteen = wordsOf-length 16 block in
-    let m1 = Mixed-step (wordsOf 16 block) hash (at .w) (at .v) (c .before .before .before .before .before .before .before .before .before .before .before .round .result) (c .before .before .before .before .before .before .before .before .before .next-word .result) (at .t) (at .t + 1) (at .t + 16) sixteen (omega arith) (omega arith) (omega arith) (at .inv .2) (c .before .before .before .before .before .before .before .before .before .before .before .round .ensures) (c .before .before .before .before .before .before .before .before .before .next-word .ensures) in
-    let m2 = Mixed-step (wordsOf 16 block) hash (set (at .w) (at .t + 16) (c .before .before .before .before .before .before .before .before .before .next-word .result)) (c .before .before .before .before .before .before .before .before .before .before .before .round .result) (c .before .before .before .before .before .before .before .before .round2 .result) (c .before .before .before .before .before .before .next-word2 .result) (at .t + 1) (at .t + 2) (at .t + 17) sixteen (omega arith) (omega arith) (omega arith) m1 (c .before .before .before .before .before .before .before .before .round2 .ensures) (c .before .before .before .before .before .before .next-word2 .ensures) in
-    let m3 = Mixed-step (wordsOf 16 block) hash (set (set (at .w) (at .t + 16) (c .before .before .before .before .before .before .before .before .before .next-word .result)) (at .t + 17) (c .before .before .before .before .before .before .next-word2 .result)) (c .before .before .before .before .before .before .before .before .round2 .result) (c .before .before .before .before .before .round3 .result) (c .before .before .before .next-word3 .result) (at .t + 2) (at .t + 3) (at .t + 18) sixteen (omega arith) (omega arith) (omega arith) m2 (c .before .before .before .before .before .round3 .ensures) (c .before .before .before .next-word3 .ensures) in
-    let m4 = Mixed-step (wordsOf 16 block) hash (set (set (set (at .w) (at .t + 16) (c .before .before .before .before .before .before .before .before .before .next-word .result)) (at .t + 17) (c .before .before .before .before .before .before .next-word2 .result)) (at .t + 18) (c .before .before .before .next-word3 .result)) (c .before .before .before .before .before .round3 .result) (c .before .before .round4 .result) (c .next-word4 .result) (at .t + 3) (at .t + 4) (at .t + 19) sixteen (omega arith) (omega arith) (omega arith) m3 (c .before .before .round4 .ensures) (c .next-word4 .ensures) in
+    let m1 = Mixed-step (wordsOf 16 block) hash (at .w) (at .v) _ _ (at .t) (at .t + 1) (at .t + 16) sixteen (omega arith) (omega arith) (omega arith) (at .inv .2) (c .before .before .before .before .before .before .before .before .before .before .before .round .ensures) (c .before .before .before .before .before .before .before .before .before .next-word .ensures) in
+    let m2 = Mixed-step (wordsOf 16 block) hash _ _ _ _ (at .t + 1) (at .t + 2) (at .t + 17) sixteen (omega arith) (omega arith) (omega arith) m1 (c .before .before .before .before .before .before .before .before .round2 .ensures) (c .before .before .before .before .before .before .next-word2 .ensures) in
+    let m3 = Mixed-step (wordsOf 16 block) hash _ _ _ _ (at .t + 2) (at .t + 3) (at .t + 18) sixteen (omega arith) (omega arith) (omega arith) m2 (c .before .before .before .before .before .round3 .ensures) (c .before .before .before .next-word3 .ensures) in
+    let m4 = Mixed-step (wordsOf 16 block) hash _ _ _ _ (at .t + 3) (at .t + 4) (at .t + 19) sixteen (omega arith) (omega arith) (omega arith) m3 (c .before .before .round4 .ensures) (c .next-word4 .ensures) in
     (omega arith, omega arith, m4)
 
 last-rounds-requires : tie.Need-last-rounds-requires Inv-loop μ-loop
@@ -190,7 +186,7 @@ last-rounds-requires c κs = (refl, c .before .before .before .loop .inv .2 .lon
 
 returns : tie.Need-returns Inv-loop μ-loop
 unfolding K schedule
-returns c = 
+returns c =
     let at = c .before .before .before .before .loop in
     let even = at .inv .1 in
     let left = c .before .before .before .loop-test .left in
