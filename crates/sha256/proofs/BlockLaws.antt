@@ -122,7 +122,7 @@ unfolding extended
 Mixed-start ws hash w long words = record { long = long; words = words; steps = refl }
 
 -- a step and a word
-pub Mixed-step : (ws : List ℕ) (hash : Words) (w : List ℕ) (v v' : Words) (x t u at : ℕ) → length ws ≡ 16 → t < 48 → u ≡ t + 1 → at ≡ t + 16
+Mixed-step : (ws : List ℕ) (hash : Words) (w : List ℕ) (v v' : Words) (x t u at : ℕ) → length ws ≡ 16 → t < 48 → u ≡ t + 1 → at ≡ t + 16
     → Mixed ws hash w v t → v' ≡ round v (getD K t 0) (getD w t 0) → (at ≤ length w → x ≡ nextWord (take at w)) → Mixed ws hash (set w at x) v' u
 unfolding K
 Mixed-step ws hash w v v' x t u at sixteen few next place m step word =
@@ -138,6 +138,19 @@ Mixed-step ws hash w v v' x t u at sixteen few next place m step word =
           sym (rounds-to K (extended 48 ws) v v' t u next (omega arith) (omega arith) (step ∙ ap (round v (getD K t 0)) early))
           ∙ m .steps;
     }
+
+-- four of both
+pub Mixed-four : (ws : List ℕ) (hash : Words) (w : List ℕ) (v v₁ v₂ v₃ v₄ : Words) (x₁ x₂ x₃ x₄ t : ℕ) → length ws ≡ 16 → t + 3 < 48 → Mixed ws hash w v t
+    → v₁ ≡ round v (getD K t 0) (getD w t 0) → (t + 16 ≤ length w → x₁ ≡ nextWord (take (t + 16) w))
+    → v₂ ≡ round v₁ (getD K (t + 1) 0) (getD (set w (t + 16) x₁) (t + 1) 0) → (t + 17 ≤ length (set w (t + 16) x₁) → x₂ ≡ nextWord (take (t + 17) (set w (t + 16) x₁)))
+    → v₃ ≡ round v₂ (getD K (t + 2) 0) (getD (set (set w (t + 16) x₁) (t + 17) x₂) (t + 2) 0) → (t + 18 ≤ length (set (set w (t + 16) x₁) (t + 17) x₂) → x₃ ≡ nextWord (take (t + 18) (set (set w (t + 16) x₁) (t + 17) x₂)))
+    → v₄ ≡ round v₃ (getD K (t + 3) 0) (getD (set (set (set w (t + 16) x₁) (t + 17) x₂) (t + 18) x₃) (t + 3) 0) → (t + 19 ≤ length (set (set (set w (t + 16) x₁) (t + 17) x₂) (t + 18) x₃) → x₄ ≡ nextWord (take (t + 19) (set (set (set w (t + 16) x₁) (t + 17) x₂) (t + 18) x₃)))
+    → Mixed ws hash (set (set (set (set w (t + 16) x₁) (t + 17) x₂) (t + 18) x₃) (t + 19) x₄) v₄ (t + 4)
+Mixed-four ws hash w v v₁ v₂ v₃ v₄ x₁ x₂ x₃ x₄ t sixteen few m e₁ f₁ e₂ f₂ e₃ f₃ e₄ f₄ =
+    let m₁ = Mixed-step ws hash w v v₁ x₁ t (t + 1) (t + 16) sixteen (omega arith) (omega arith) (omega arith) m e₁ f₁ in
+    let m₂ = Mixed-step ws hash (set w (t + 16) x₁) v₁ v₂ x₂ (t + 1) (t + 2) (t + 17) sixteen (omega arith) (omega arith) (omega arith) m₁ e₂ f₂ in
+    let m₃ = Mixed-step ws hash (set (set w (t + 16) x₁) (t + 17) x₂) v₂ v₃ x₃ (t + 2) (t + 3) (t + 18) sixteen (omega arith) (omega arith) (omega arith) m₂ e₃ f₃ in
+    Mixed-step ws hash (set (set (set w (t + 16) x₁) (t + 17) x₂) (t + 18) x₃) v₃ v₄ x₄ (t + 3) (t + 4) (t + 19) sixteen (omega arith) (omega arith) (omega arith) m₃ e₄ f₄
 
 -- the last word is there
 pub Mixed-last : (ws : List ℕ) (hash : Words) (w : List ℕ) (v : Words) → Mixed ws hash w v 48

@@ -1,10 +1,10 @@
 -- The loop's invariant is `Mixed`: before step `t` there are `t + 16` words. The constants are compared with the standard's here.
 use mathlib.Core.Path.{refl, _∙_, _≡_}
-use Prim.Native.Nat.{_≤_, _-_, _%_, _+_}
+use Prim.Native.Nat.{_≤_, _-_, _%_}
 use native.Mathlib.Omega.{arith}
 use borrow.Author.Needs.{needs}
 use Rattle.sha256.specs.Sha256.{K, wordsOf, schedule}
-use Rattle.sha256.proofs.BlockLaws.{Mixed, Mixed-start, Mixed-step, Mixed-last, wordsOf-length}
+use Rattle.sha256.proofs.BlockLaws.{Mixed, Mixed-start, Mixed-four, Mixed-last, wordsOf-length}
 use Rattle.sha256.proofs.block.rounds.Statement.{statement}
 use Rattle.sha256.proofs.block.rounds.Tie as tie
 
@@ -174,12 +174,16 @@ loop-again c =
     let even = at .inv .1 in
     let block = c .before .before .before .before .before .before .before .before .before .before .before .before .before .before .before .before .args .block .now in
     let hash = c .before .before .before .before .before .before .before .before .before .before .before .before .before .before .before .before .args .hash in
-    let sixteen = wordsOf-length 16 block in
-    let m1 = Mixed-step (wordsOf 16 block) hash (at .w) (at .v) _ _ (at .t) (at .t + 1) (at .t + 16) sixteen (omega arith) (omega arith) (omega arith) (at .inv .2) (c .before .before .before .before .before .before .before .before .before .before .before .round .ensures) (c .before .before .before .before .before .before .before .before .before .next-word .ensures) in
-    let m2 = Mixed-step (wordsOf 16 block) hash _ _ _ _ (at .t + 1) (at .t + 2) (at .t + 17) sixteen (omega arith) (omega arith) (omega arith) m1 (c .before .before .before .before .before .before .before .before .round2 .ensures) (c .before .before .before .before .before .before .next-word2 .ensures) in
-    let m3 = Mixed-step (wordsOf 16 block) hash _ _ _ _ (at .t + 2) (at .t + 3) (at .t + 18) sixteen (omega arith) (omega arith) (omega arith) m2 (c .before .before .before .before .before .round3 .ensures) (c .before .before .before .next-word3 .ensures) in
-    let m4 = Mixed-step (wordsOf 16 block) hash _ _ _ _ (at .t + 3) (at .t + 4) (at .t + 19) sixteen (omega arith) (omega arith) (omega arith) m3 (c .before .before .round4 .ensures) (c .next-word4 .ensures) in
-    (omega arith, omega arith, m4)
+    let v1 = c .before .before .before .before .before .before .before .before .before .before .before .round in
+    let x1 = c .before .before .before .before .before .before .before .before .before .next-word in
+    let v2 = c .before .before .before .before .before .before .before .before .round2 in
+    let x2 = c .before .before .before .before .before .before .next-word2 in
+    let v3 = c .before .before .before .before .before .round3 in
+    let x3 = c .before .before .before .next-word3 in
+    let v4 = c .before .before .round4 in
+    let x4 = c .next-word4 in
+    let more = Mixed-four (wordsOf 16 block) hash (at .w) (at .v) (v1 .result) (v2 .result) (v3 .result) (v4 .result) (x1 .result) (x2 .result) (x3 .result) (x4 .result) (at .t) (wordsOf-length 16 block) (omega arith) (at .inv .2) in
+    (omega arith, omega arith, more (v1 .ensures) (x1 .ensures) (v2 .ensures) (x2 .ensures) (v3 .ensures) (x3 .ensures) (v4 .ensures) (x4 .ensures))
 
 last-rounds-requires : tie.Need-last-rounds-requires Inv-loop μ-loop
 last-rounds-requires c κs = (refl, c .before .before .before .loop .inv .2 .long)
