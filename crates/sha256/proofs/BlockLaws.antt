@@ -3,15 +3,15 @@
 use mathlib.Core.Path.{_≡_, refl, sym, ap, _∙_}
 use mathlib.Core.List.{List, [], _∷_, _++_}
 use Prim.Native.Nat.{ℕ, zero, suc, _+_, _-_, _*_, _/_, _%_, _<_, _≤_}
-use native.Mathlib.Nat.{add-sub-cancel-left, div-eq-of-lt, ne-of-lt, not-suc-le-zero}
+use native.Mathlib.Nat.{add-sub-cancel-left, div-eq-of-lt, not-suc-le-zero, suc-add, zero-add}
 use native.Mathlib.Numerals.{add-one}
 use native.Mathlib.Omega.{arith}
-use lib.ListN.{length, take, drop, getD, set, length-append, length-take, length-drop}
-use lib.Seq.{drop-cons, drop-drop, getD-set-same, getD-set-other, getD-take, take-all, take-suc, take-suc-set, take-append-le, drop-append-le}
+use lib.ListN.{length, take, drop, getD, set, length-append, length-take, length-drop, length-set, drop-of-length-le, List·getD-append}
+use lib.Seq.{drop-cons, drop-drop, getD-take, take-all, take-suc, take-suc-set, take-append-le, drop-append-le}
 use Rattle.fixed_width.specs.FixedWidth.{bigEndian, bigBytes, littleBytes}
 use Rattle.fixed_width.proofs.FixedWidthLaws.{bigBytes-length}
 use Rattle.sha256.specs.declared.Words.{Words}
-use Rattle.sha256.specs.Sha256.{wordsOf, nextWord, extended, rounds, round, compress, compressBlocks, over, digest, add, σ₀, σ₁}
+use Rattle.sha256.specs.Sha256.{K, wordsOf, nextWord, extended, rounds, round, compress, compressBlocks, over, digest, add, σ₀, σ₁}
 
 -- The words of a block
 
@@ -49,25 +49,34 @@ nextWord-take w t h k =
     let t16 = getD-take t w (t - 16) 0 (omega arith) in
     rw (long, t2, t7, t15, t16)
 
--- storing it behind them
-pub extended-set : (w ws : List ℕ) (t x : ℕ) → 16 ≤ t → t < length w → take t w ≡ extended (t - 16) ws
-    → x ≡ nextWord (take t w) → take (t + 1) (set w t x) ≡ extended (t + 1 - 16) ws
-extended-set w ws t x h k before word =
-    let one-more : t + 1 - 16 ≡ t - 16 + 1 = omega arith in
-    rw (one-more, extended-more, ← before, ← word, add-one) (take-suc-set w t x k)
+-- n words more are there
+extended-length : (n : ℕ) (ws : List ℕ) → length (extended n ws) ≡ n + length ws
+unfolding extended
+extended-length zero ws = sym (zero-add (length ws))
+extended-length (suc n) ws = rw (extended-length n (ws ++ (nextWord ws ∷ [])), length-append) (omega arith)
 
--- the word stored is the last of them
-pub set-last : (w : List ℕ) (t x : ℕ) → t < length w → x ≡ getD (set w t x) (t + 1 - 1) 0
-set-last w t x h =
-    let same : t + 1 - 1 ≡ t = omega arith in
-    rw same (sym (getD-set-same w t x 0 h))
+-- they come behind those before
+extended-getD : (n : ℕ) (ws : List ℕ) (i : ℕ) → i < length ws → getD (extended n ws) i 0 ≡ getD ws i 0
+unfolding extended
+extended-getD zero ws i h = refl
+extended-getD (suc n) ws i h =
+    let all = length-append ws (nextWord ws ∷ []) in
+    extended-getD n (ws ++ (nextWord ws ∷ [])) i (omega arith) ∙ List·getD-append ws (nextWord ws ∷ []) 0 i h
 
--- the last of those before is the one before it
-pub set-before-last : (w : List ℕ) (t x y : ℕ) → 16 ≤ t → y ≡ getD w (t - 1) 0 → y ≡ getD (set w t x) (t + 1 - 2) 0
-set-before-last w t x y h e =
-    let same : t + 1 - 2 ≡ t - 1 = omega arith in
-    let lower : t - 1 < t = omega arith in
-    rw same (e ∙ sym (getD-set-other w t (t - 1) x 0 (ne-of-lt lower)))
+-- some more, and then the others
+extended-extended : (n m : ℕ) (ws : List ℕ) → extended (n + m) ws ≡ extended m (extended n ws)
+unfolding extended
+extended-extended zero m ws = rw (zero-add m)
+extended-extended (suc n) m ws = rw (suc-add n m) (extended-extended n m (ws ++ (nextWord ws ∷ [])))
+
+-- of the sixteen words and 48 more, the word at t is there as soon as t more are
+extended-early : (ws : List ℕ) (t : ℕ) → length ws ≡ 16 → t < 48 → getD (extended 48 ws) t 0 ≡ getD (extended t ws) t 0
+extended-early ws t long few =
+    let both : t + (48 - t) ≡ 48 = omega arith in
+    let early = extended-length t ws in
+    ap (λ (n : ℕ). getD (extended n ws) t 0) (sym both)
+    ∙ ap (λ (l : List ℕ). getD l t 0) (extended-extended t (48 - t) ws)
+    ∙ extended-getD (48 - t) (extended t ws) t (omega arith)
 
 -- The steps
 
@@ -82,26 +91,79 @@ rounds-to : (ks ws : List ℕ) (v v' : Words) (t u : ℕ) → u ≡ t + 1 → t 
     → rounds (drop t ks) (drop t ws) v ≡ rounds (drop u ks) (drop u ws) v'
 rounds-to ks ws v v' t u e h k r = rw (e, r) (rounds-drop ks ws v t h k)
 
--- eight steps
-pub rounds-eight : (ks ws : List ℕ) (t : ℕ) → t + 7 < length ks → t + 7 < length ws → (v v₁ v₂ v₃ v₄ v₅ v₆ v₇ v₈ : Words)
+-- four steps
+pub rounds-four : (ks ws : List ℕ) (t : ℕ) → t + 3 < length ks → t + 3 < length ws → (v v₁ v₂ v₃ v₄ : Words)
     → v₁ ≡ round v (getD ks t 0) (getD ws t 0)
     → v₂ ≡ round v₁ (getD ks (t + 1) 0) (getD ws (t + 1) 0)
     → v₃ ≡ round v₂ (getD ks (t + 2) 0) (getD ws (t + 2) 0)
     → v₄ ≡ round v₃ (getD ks (t + 3) 0) (getD ws (t + 3) 0)
-    → v₅ ≡ round v₄ (getD ks (t + 4) 0) (getD ws (t + 4) 0)
-    → v₆ ≡ round v₅ (getD ks (t + 5) 0) (getD ws (t + 5) 0)
-    → v₇ ≡ round v₆ (getD ks (t + 6) 0) (getD ws (t + 6) 0)
-    → v₈ ≡ round v₇ (getD ks (t + 7) 0) (getD ws (t + 7) 0)
-    → rounds (drop t ks) (drop t ws) v ≡ rounds (drop (t + 8) ks) (drop (t + 8) ws) v₈
-rounds-eight ks ws t h k v v₁ v₂ v₃ v₄ v₅ v₆ v₇ v₈ e₁ e₂ e₃ e₄ e₅ e₆ e₇ e₈ =
+    → rounds (drop t ks) (drop t ws) v ≡ rounds (drop (t + 4) ks) (drop (t + 4) ws) v₄
+rounds-four ks ws t h k v v₁ v₂ v₃ v₄ e₁ e₂ e₃ e₄ =
     rounds-to ks ws v v₁ t (t + 1) (omega arith) (omega arith) (omega arith) e₁
     ∙ rounds-to ks ws v₁ v₂ (t + 1) (t + 2) (omega arith) (omega arith) (omega arith) e₂
     ∙ rounds-to ks ws v₂ v₃ (t + 2) (t + 3) (omega arith) (omega arith) (omega arith) e₃
     ∙ rounds-to ks ws v₃ v₄ (t + 3) (t + 4) (omega arith) (omega arith) (omega arith) e₄
-    ∙ rounds-to ks ws v₄ v₅ (t + 4) (t + 5) (omega arith) (omega arith) (omega arith) e₅
-    ∙ rounds-to ks ws v₅ v₆ (t + 5) (t + 6) (omega arith) (omega arith) (omega arith) e₆
-    ∙ rounds-to ks ws v₆ v₇ (t + 6) (t + 7) (omega arith) (omega arith) (omega arith) e₇
-    ∙ rounds-to ks ws v₇ v₈ (t + 7) (t + 8) (omega arith) (omega arith) (omega arith) e₈
+
+-- none is left
+pub rounds-done : (ks ws : List ℕ) (v : Words) (t : ℕ) → length ks ≤ t → rounds (drop t ks) ws v ≡ v
+unfolding rounds
+rounds-done ks ws v t h = rw (drop-of-length-le ks h)
+
+-- The steps with the schedule
+
+-- before step t: sixteen words of the schedule more than steps are there, and the other steps give what all of them give
+pub record Mixed (ws : List ℕ) (hash : Words) (w : List ℕ) (v : Words) (t : ℕ) : Type 0 where
+  pub long : length w ≡ 64
+  pub words : take (t + 16) w ≡ extended t ws
+  pub steps : rounds (drop t K) (drop t (extended 48 ws)) v ≡ rounds K (extended 48 ws) hash
+
+pub Mixed-start : (ws : List ℕ) (hash : Words) (w : List ℕ) → length w ≡ 64 → take 16 w ≡ ws → Mixed ws hash w hash 0
+unfolding extended
+Mixed-start ws hash w long words = record { long = long; words = words; steps = refl }
+
+-- a step and a word
+Mixed-step : (ws : List ℕ) (hash : Words) (w : List ℕ) (v v' : Words) (x t u at : ℕ) → length ws ≡ 16 → t < 48 → u ≡ t + 1 → at ≡ t + 16
+    → Mixed ws hash w v t → v' ≡ round v (getD K t 0) (getD w t 0) → (at ≤ length w → x ≡ nextWord (take at w)) → Mixed ws hash (set w at x) v' u
+unfolding K
+Mixed-step ws hash w v v' x t u at sixteen few next place m step word =
+    let full = m .long in
+    let count = extended-length 48 ws in
+    let early : getD w t 0 ≡ getD (extended 48 ws) t 0 =
+    sym (getD-take (t + 16) w t 0 (omega arith)) ∙ ap (λ (l : List ℕ). getD l t 0) (m .words) ∙ sym (extended-early ws t sixteen few) in
+    let one-more : t + 1 + 16 ≡ suc (t + 16) = omega arith in
+    record {
+      long = length-set w at x ∙ full;
+      words = rw (next, place, one-more, take-suc-set w (t + 16) x (omega arith), m .words, extended-more, word (omega arith), place, m .words);
+      steps =
+          sym (rounds-to K (extended 48 ws) v v' t u next (omega arith) (omega arith) (step ∙ ap (round v (getD K t 0)) early))
+          ∙ m .steps;
+    }
+
+-- four of both
+pub Mixed-four : (ws : List ℕ) (hash : Words) (w : List ℕ) (v v₁ v₂ v₃ v₄ : Words) (x₁ x₂ x₃ x₄ t : ℕ) → length ws ≡ 16 → t + 3 < 48 → Mixed ws hash w v t
+    → v₁ ≡ round v (getD K t 0) (getD w t 0) → (t + 16 ≤ length w → x₁ ≡ nextWord (take (t + 16) w))
+    → v₂ ≡ round v₁ (getD K (t + 1) 0) (getD (set w (t + 16) x₁) (t + 1) 0) → (t + 17 ≤ length (set w (t + 16) x₁) → x₂ ≡ nextWord (take (t + 17) (set w (t + 16) x₁)))
+    → v₃ ≡ round v₂ (getD K (t + 2) 0) (getD (set (set w (t + 16) x₁) (t + 17) x₂) (t + 2) 0) → (t + 18 ≤ length (set (set w (t + 16) x₁) (t + 17) x₂) → x₃ ≡ nextWord (take (t + 18) (set (set w (t + 16) x₁) (t + 17) x₂)))
+    → v₄ ≡ round v₃ (getD K (t + 3) 0) (getD (set (set (set w (t + 16) x₁) (t + 17) x₂) (t + 18) x₃) (t + 3) 0) → (t + 19 ≤ length (set (set (set w (t + 16) x₁) (t + 17) x₂) (t + 18) x₃) → x₄ ≡ nextWord (take (t + 19) (set (set (set w (t + 16) x₁) (t + 17) x₂) (t + 18) x₃)))
+    → Mixed ws hash (set (set (set (set w (t + 16) x₁) (t + 17) x₂) (t + 18) x₃) (t + 19) x₄) v₄ (t + 4)
+Mixed-four ws hash w v v₁ v₂ v₃ v₄ x₁ x₂ x₃ x₄ t sixteen few m e₁ f₁ e₂ f₂ e₃ f₃ e₄ f₄ =
+    let m₁ = Mixed-step ws hash w v v₁ x₁ t (t + 1) (t + 16) sixteen (omega arith) (omega arith) (omega arith) m e₁ f₁ in
+    let m₂ = Mixed-step ws hash (set w (t + 16) x₁) v₁ v₂ x₂ (t + 1) (t + 2) (t + 17) sixteen (omega arith) (omega arith) (omega arith) m₁ e₂ f₂ in
+    let m₃ = Mixed-step ws hash (set (set w (t + 16) x₁) (t + 17) x₂) v₂ v₃ x₃ (t + 2) (t + 3) (t + 18) sixteen (omega arith) (omega arith) (omega arith) m₂ e₃ f₃ in
+    Mixed-step ws hash (set (set (set w (t + 16) x₁) (t + 17) x₂) (t + 18) x₃) v₃ v₄ x₄ (t + 3) (t + 4) (t + 19) sixteen (omega arith) (omega arith) (omega arith) m₃ e₄ f₄
+
+-- the last word is there
+pub Mixed-last : (ws : List ℕ) (hash : Words) (w : List ℕ) (v : Words) → Mixed ws hash w v 48
+    → rounds (drop 48 K) (drop 48 w) v ≡ rounds K (extended 48 ws) hash
+Mixed-last ws hash w v m =
+    let full = m .long in
+    let all : w ≡ extended 48 ws = sym (take-all 64 w (omega arith)) ∙ m .words in
+    ap (λ (l : List ℕ). rounds (drop 48 K) (drop 48 l) v) all ∙ m .steps
+
+pub wordsOf-length : (n : ℕ) (s : List ℕ) → length (wordsOf n s) ≡ n
+unfolding wordsOf
+wordsOf-length zero s = refl
+wordsOf-length (suc n) s = ap suc (wordsOf-length n (drop 4 s))
 
 -- A run of blocks
 

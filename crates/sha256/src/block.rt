@@ -1,6 +1,7 @@
 // One block of 64 bytes, and a run of them, taken into a hash value (FIPS 180-4, 6.2.2).
 ghost use mathlib.Core.Path.{_≡_};
-ghost use lib.ListN.{take};
+ghost use Prim.Native.Nat.{_<_, _≤_};
+ghost use lib.ListN.{length, take, drop};
 ghost use Rattle.sha256.specs.Sha256 as sha;
 use crate::Words;
 use crate::word::K;
@@ -25,23 +26,13 @@ fn first_words(block: &[u8]) -> [u32; 64]
     w
 }
 
-// The last two words are carried along: the next one needs them at once, and a store takes a while to be read back.
-fn schedule(block: &[u8]) -> [u32; 64]
-    ensures { λ r. ⌜ r ≡ sha.schedule (now (block .entry)) ⌝ }
+// The word that comes after the first `t`.
+fn next_word(w: &[u32; 64], t: usize) -> u32
+    requires { ⌜ (16 ≤ t) × (t < 64) ⌝ }
+    ensures { λ r. ⌜ (t ≤ length (now (w .entry)) → r ≡ sha.nextWord (take t (now (w .entry)))) ⌝ }
 {
-    let mut w = first_words(block);
-    let mut before_last = w[14];
-    let mut last = w[15];
-    let mut t = 16;
-    while t < 64 {
-        let recent = add(small_sigma1(before_last), w[t - 7]);
-        let next = add(add(recent, small_sigma0(w[t - 15])), w[t - 16]);
-        w[t] = next;
-        before_last = last;
-        last = next;
-        t += 1;
-    }
-    w
+    let recent = add(small_sigma1(w[t - 2]), w[t - 7]);
+    add(add(recent, small_sigma0(w[t - 15])), w[t - 16])
 }
 
 fn round(v: Words, k: u32, w: u32) -> Words
@@ -61,25 +52,44 @@ fn round(v: Words, k: u32, w: u32) -> Words
     }
 }
 
-// The rounds are written out eight at a time, so that the compiler renames the words instead of moving them.
-fn rounds(w: [u32; 64], hash: Words) -> Words
-    ensures { λ r. ⌜ r ≡ sha.rounds sha.K w hash ⌝ }
+// The last sixteen rounds: all words of the schedule are there.
+fn last_rounds(k: &[u32; 64], w: &[u32; 64], hash: Words) -> Words
+    requires { ⌜ (length (now k) ≡ 64) × (length (now w) ≡ 64) ⌝ }
+    ensures { λ r. ⌜ r ≡ sha.rounds (drop 48 (now (k .entry))) (drop 48 (now (w .entry))) hash ⌝ }
 {
-    let k = K;
     let mut v = hash;
-    let mut t = 0;
-    while t < 57 {
+    let mut t = 48;
+    while t < 61 {
         let v1 = round(v, k[t], w[t]);
         let v2 = round(v1, k[t + 1], w[t + 1]);
         let v3 = round(v2, k[t + 2], w[t + 2]);
-        let v4 = round(v3, k[t + 3], w[t + 3]);
-        let v5 = round(v4, k[t + 4], w[t + 4]);
-        let v6 = round(v5, k[t + 5], w[t + 5]);
-        let v7 = round(v6, k[t + 6], w[t + 6]);
-        v = round(v7, k[t + 7], w[t + 7]);
-        t += 8;
+        v = round(v3, k[t + 3], w[t + 3]);
+        t += 4;
     }
     v
+}
+
+// A round, and the word that is due sixteen rounds later: neither waits for the other. Four of both are written out, so
+// that the compiler renames the working variables instead of moving them.
+fn rounds(block: &[u8], hash: Words) -> Words
+    ensures { λ r. ⌜ r ≡ sha.rounds sha.K (sha.schedule (now (block .entry))) hash ⌝ }
+{
+    let k = K;
+    let mut w = first_words(block);
+    let mut v = hash;
+    let mut t = 0;
+    while t < 45 {
+        let v1 = round(v, k[t], w[t]);
+        w[t + 16] = next_word(&w, t + 16);
+        let v2 = round(v1, k[t + 1], w[t + 1]);
+        w[t + 17] = next_word(&w, t + 17);
+        let v3 = round(v2, k[t + 2], w[t + 2]);
+        w[t + 18] = next_word(&w, t + 18);
+        v = round(v3, k[t + 3], w[t + 3]);
+        w[t + 19] = next_word(&w, t + 19);
+        t += 4;
+    }
+    last_rounds(&k, &w, v)
 }
 
 fn sums(x: Words, y: Words) -> Words
@@ -100,7 +110,7 @@ fn sums(x: Words, y: Words) -> Words
 fn compress(hash: Words, block: &[u8]) -> Words
     ensures { λ r. ⌜ r ≡ sha.compress hash (now (block .entry)) ⌝ }
 {
-    sums(rounds(schedule(block), hash), hash)
+    sums(rounds(block, hash), hash)
 }
 
 // The hash value after the whole blocks of `s`.

@@ -4,9 +4,6 @@ use Rattle.sha256.specs.Sha256.{compress}
 use Rattle.sha256.proofs.block.compress.Statement.{statement}
 use Rattle.sha256.proofs.block.compress.Tie as tie
 
-schedule-requires : tie.Need-schedule-requires
-schedule-requires c κs = search needs
-
 rounds-requires : tie.Need-rounds-requires
 rounds-requires c κs = search needs
 
@@ -15,7 +12,7 @@ sums-requires c κs = search needs
 
 returns : tie.Need-returns
 unfolding compress
-returns c = rw (c .sums .ensures, c .before .rounds .ensures, c .before .before .schedule .ensures)
+returns c = rw (c .sums .ensures, c .before .rounds .ensures)
 
 pub compress-spec : {M : Type 1} → statement M
-compress-spec = tie.close (tie.spec schedule-requires rounds-requires sums-requires returns)
+compress-spec = tie.close (tie.spec rounds-requires sums-requires returns)

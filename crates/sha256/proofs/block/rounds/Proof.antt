@@ -1,22 +1,26 @@
--- The loop's invariant: going on from step `t` gives what all the steps give. The constants are compared with the standard's here.
-use mathlib.Core.Path.{refl, sym, _∙_, _≡_}
+-- The loop's invariant is `Mixed`: before step `t` there are `t + 16` words. The constants are compared with the standard's here.
+use mathlib.Core.Path.{refl, _∙_, _≡_}
 use Prim.Native.Nat.{_≤_, _-_, _%_}
 use native.Mathlib.Omega.{arith}
 use borrow.Author.Needs.{needs}
-use lib.ListN.{drop, length}
-use Rattle.sha256.specs.Sha256.{rounds, K}
-use Rattle.sha256.proofs.BlockLaws.{rounds-eight}
+use Rattle.sha256.specs.Sha256.{K, wordsOf, schedule}
+use Rattle.sha256.proofs.BlockLaws.{Mixed, Mixed-start, Mixed-four, Mixed-last, wordsOf-length}
 use Rattle.sha256.proofs.block.rounds.Statement.{statement}
 use Rattle.sha256.proofs.block.rounds.Tie as tie
 
 abbrev Inv-loop : tie.InvT-loop
-Inv-loop w k v₀ t₀ v t = (t ≤ 64) × (t % 8 ≡ 0) × (rounds (drop t K) (drop t w) v ≡ rounds K w v₀)
+Inv-loop block k w₀ v₀ t₀ w v t = (t ≤ 48) × (t % 4 ≡ 0) × Mixed (wordsOf 16 block) v₀ w v t
 
 abbrev μ-loop : tie.MeasureT-loop
-μ-loop w k v₀ t₀ v t = 64 - t
+μ-loop block k w₀ v₀ t₀ w v t = 48 - t
+
+first-words-requires : tie.Need-first-words-requires Inv-loop μ-loop
+first-words-requires c κs = search needs
 
 loop-holds : tie.Need-loop-holds Inv-loop μ-loop
-loop-holds c = (omega arith, omega arith, refl)
+loop-holds c =
+    let block = c .before .before .args .block .now in
+    (omega arith, omega arith, Mixed-start (wordsOf 16 block) (c .before .before .args .hash) (c .first-words .result) (search needs) (c .first-words .ensures))
 
 mul-round : tie.Need-mul-round Inv-loop μ-loop
 mul-round c = search needs
@@ -32,6 +36,21 @@ array-read-round-2 c = search needs
 
 round-requires : tie.Need-round-requires Inv-loop μ-loop
 round-requires c κs = search needs
+
+add-next-word : tie.Need-add-next-word Inv-loop μ-loop
+add-next-word c = search needs
+
+next-word-requires : tie.Need-next-word-requires Inv-loop μ-loop
+next-word-requires c κs = search needs
+
+add-w : tie.Need-add-w Inv-loop μ-loop
+add-w c = search needs
+
+mul-w : tie.Need-mul-w Inv-loop μ-loop
+mul-w c = search needs
+
+array-write-w : tie.Need-array-write-w Inv-loop μ-loop
+array-write-w c = omega arith
 
 add-round : tie.Need-add-round Inv-loop μ-loop
 add-round c = search needs
@@ -54,6 +73,21 @@ array-read-round-4 c = search needs
 round-requires-2 : tie.Need-round-requires-2 Inv-loop μ-loop
 round-requires-2 c κs = search needs
 
+add-next-word-2 : tie.Need-add-next-word-2 Inv-loop μ-loop
+add-next-word-2 c = search needs
+
+next-word-requires-2 : tie.Need-next-word-requires-2 Inv-loop μ-loop
+next-word-requires-2 c κs = search needs
+
+add-w-2 : tie.Need-add-w-2 Inv-loop μ-loop
+add-w-2 c = search needs
+
+mul-w-2 : tie.Need-mul-w-2 Inv-loop μ-loop
+mul-w-2 c = search needs
+
+array-write-w-2 : tie.Need-array-write-w-2 Inv-loop μ-loop
+array-write-w-2 c = omega arith
+
 add-round-3 : tie.Need-add-round-3 Inv-loop μ-loop
 add-round-3 c = search needs
 
@@ -74,6 +108,21 @@ array-read-round-6 c = search needs
 
 round-requires-3 : tie.Need-round-requires-3 Inv-loop μ-loop
 round-requires-3 c κs = search needs
+
+add-next-word-3 : tie.Need-add-next-word-3 Inv-loop μ-loop
+add-next-word-3 c = search needs
+
+next-word-requires-3 : tie.Need-next-word-requires-3 Inv-loop μ-loop
+next-word-requires-3 c κs = search needs
+
+add-w-3 : tie.Need-add-w-3 Inv-loop μ-loop
+add-w-3 c = search needs
+
+mul-w-3 : tie.Need-mul-w-3 Inv-loop μ-loop
+mul-w-3 c = search needs
+
+array-write-w-3 : tie.Need-array-write-w-3 Inv-loop μ-loop
+array-write-w-3 c = omega arith
 
 add-round-5 : tie.Need-add-round-5 Inv-loop μ-loop
 add-round-5 c = search needs
@@ -96,89 +145,20 @@ array-read-round-8 c = search needs
 round-requires-4 : tie.Need-round-requires-4 Inv-loop μ-loop
 round-requires-4 c κs = search needs
 
-add-round-7 : tie.Need-add-round-7 Inv-loop μ-loop
-add-round-7 c = search needs
+add-next-word-4 : tie.Need-add-next-word-4 Inv-loop μ-loop
+add-next-word-4 c = search needs
 
-mul-round-9 : tie.Need-mul-round-9 Inv-loop μ-loop
-mul-round-9 c = search needs
+next-word-requires-4 : tie.Need-next-word-requires-4 Inv-loop μ-loop
+next-word-requires-4 c κs = search needs
 
-array-read-round-9 : tie.Need-array-read-round-9 Inv-loop μ-loop
-array-read-round-9 c = search needs
+add-w-4 : tie.Need-add-w-4 Inv-loop μ-loop
+add-w-4 c = search needs
 
-add-round-8 : tie.Need-add-round-8 Inv-loop μ-loop
-add-round-8 c = search needs
+mul-w-4 : tie.Need-mul-w-4 Inv-loop μ-loop
+mul-w-4 c = search needs
 
-mul-round-10 : tie.Need-mul-round-10 Inv-loop μ-loop
-mul-round-10 c = search needs
-
-array-read-round-10 : tie.Need-array-read-round-10 Inv-loop μ-loop
-array-read-round-10 c = search needs
-
-round-requires-5 : tie.Need-round-requires-5 Inv-loop μ-loop
-round-requires-5 c κs = search needs
-
-add-round-9 : tie.Need-add-round-9 Inv-loop μ-loop
-add-round-9 c = search needs
-
-mul-round-11 : tie.Need-mul-round-11 Inv-loop μ-loop
-mul-round-11 c = search needs
-
-array-read-round-11 : tie.Need-array-read-round-11 Inv-loop μ-loop
-array-read-round-11 c = search needs
-
-add-round-10 : tie.Need-add-round-10 Inv-loop μ-loop
-add-round-10 c = search needs
-
-mul-round-12 : tie.Need-mul-round-12 Inv-loop μ-loop
-mul-round-12 c = search needs
-
-array-read-round-12 : tie.Need-array-read-round-12 Inv-loop μ-loop
-array-read-round-12 c = search needs
-
-round-requires-6 : tie.Need-round-requires-6 Inv-loop μ-loop
-round-requires-6 c κs = search needs
-
-add-round-11 : tie.Need-add-round-11 Inv-loop μ-loop
-add-round-11 c = search needs
-
-mul-round-13 : tie.Need-mul-round-13 Inv-loop μ-loop
-mul-round-13 c = search needs
-
-array-read-round-13 : tie.Need-array-read-round-13 Inv-loop μ-loop
-array-read-round-13 c = search needs
-
-add-round-12 : tie.Need-add-round-12 Inv-loop μ-loop
-add-round-12 c = search needs
-
-mul-round-14 : tie.Need-mul-round-14 Inv-loop μ-loop
-mul-round-14 c = search needs
-
-array-read-round-14 : tie.Need-array-read-round-14 Inv-loop μ-loop
-array-read-round-14 c = search needs
-
-round-requires-7 : tie.Need-round-requires-7 Inv-loop μ-loop
-round-requires-7 c κs = search needs
-
-add-round-13 : tie.Need-add-round-13 Inv-loop μ-loop
-add-round-13 c = search needs
-
-mul-round-15 : tie.Need-mul-round-15 Inv-loop μ-loop
-mul-round-15 c = search needs
-
-array-read-round-15 : tie.Need-array-read-round-15 Inv-loop μ-loop
-array-read-round-15 c = search needs
-
-add-round-14 : tie.Need-add-round-14 Inv-loop μ-loop
-add-round-14 c = search needs
-
-mul-round-16 : tie.Need-mul-round-16 Inv-loop μ-loop
-mul-round-16 c = search needs
-
-array-read-round-16 : tie.Need-array-read-round-16 Inv-loop μ-loop
-array-read-round-16 c = search needs
-
-round-requires-8 : tie.Need-round-requires-8 Inv-loop μ-loop
-round-requires-8 c κs = search needs
+array-write-w-4 : tie.Need-array-write-w-4 Inv-loop μ-loop
+array-write-w-4 c = omega arith
 
 add-t : tie.Need-add-t Inv-loop μ-loop
 add-t c = search needs
@@ -189,21 +169,33 @@ loop-less c = search needs
 loop-again : tie.Need-loop-again Inv-loop μ-loop
 unfolding K
 loop-again c =
-    let at = c .before .before .before .before .before .before .before .before .before .loop in
-    let few = c .before .before .before .before .before .before .before .before .loop-test .taken in
+    let at = c .before .before .before .before .before .before .before .before .before .before .before .before .before .loop in
+    let few = c .before .before .before .before .before .before .before .before .before .before .before .before .loop-test .taken in
     let even = at .inv .1 in
-    let w = c .before .before .before .before .before .before .before .before .before .before .args .t1 in
-    let good = c .before .before .before .before .before .before .before .before .before .before .good in
-    let long : length w ≡ 64 = search (good, needs) in
-    let step = rounds-eight K w (at .t) (omega arith) (omega arith) (at .v) _ _ _ _ _ _ _ _ (c .before .before .before .before .before .before .before .round .ensures) (c .before .before .before .before .before .before .round2 .ensures) (c .before .before .before .before .before .round3 .ensures) (c .before .before .before .before .round4 .ensures) (c .before .before .before .round5 .ensures) (c .before .before .round6 .ensures) (c .before .round7 .ensures) (c .round8 .ensures) in
-    (omega arith, omega arith, sym step ∙ at .inv .2)
+    let block = c .before .before .before .before .before .before .before .before .before .before .before .before .before .before .before .before .args .block .now in
+    let hash = c .before .before .before .before .before .before .before .before .before .before .before .before .before .before .before .before .args .hash in
+    let v1 = c .before .before .before .before .before .before .before .before .before .before .before .round in
+    let x1 = c .before .before .before .before .before .before .before .before .before .next-word in
+    let v2 = c .before .before .before .before .before .before .before .before .round2 in
+    let x2 = c .before .before .before .before .before .before .next-word2 in
+    let v3 = c .before .before .before .before .before .round3 in
+    let x3 = c .before .before .before .next-word3 in
+    let v4 = c .before .before .round4 in
+    let x4 = c .next-word4 in
+    let more = Mixed-four (wordsOf 16 block) hash (at .w) (at .v) (v1 .result) (v2 .result) (v3 .result) (v4 .result) (x1 .result) (x2 .result) (x3 .result) (x4 .result) (at .t) (wordsOf-length 16 block) (omega arith) (at .inv .2) in
+    (omega arith, omega arith, more (v1 .ensures) (x1 .ensures) (v2 .ensures) (x2 .ensures) (v3 .ensures) (x3 .ensures) (v4 .ensures) (x4 .ensures))
+
+last-rounds-requires : tie.Need-last-rounds-requires Inv-loop μ-loop
+last-rounds-requires c κs = (refl, c .before .before .before .loop .inv .2 .long)
 
 returns : tie.Need-returns Inv-loop μ-loop
-unfolding rounds K
+unfolding K schedule
 returns c =
-    let even = c .before .loop .inv .1 in
-    let done : c .before .loop .t ≡ 64 = omega arith in
-    rw done at (c .before .loop .inv .2)
+    let at = c .before .before .before .before .loop in
+    let even = at .inv .1 in
+    let left = c .before .before .before .loop-test .left in
+    let done : at .t ≡ 48 = omega arith in
+    c .last-rounds .ensures ∙ Mixed-last (wordsOf 16 (c .before .before .before .before .before .before .before .args .block .now)) (c .before .before .before .before .before .before .before .args .hash) (at .w) (at .v) (rw done at (at .inv .2))
 
 pub rounds-spec : {M : Type 1} → statement M
 rounds-spec =
@@ -211,12 +203,18 @@ rounds-spec =
     (tie.spec
     Inv-loop
     μ-loop
+    first-words-requires
     loop-holds
     mul-round
     array-read-round
     mul-round-2
     array-read-round-2
     round-requires
+    add-next-word
+    next-word-requires
+    add-w
+    mul-w
+    array-write-w
     add-round
     mul-round-3
     array-read-round-3
@@ -224,6 +222,11 @@ rounds-spec =
     mul-round-4
     array-read-round-4
     round-requires-2
+    add-next-word-2
+    next-word-requires-2
+    add-w-2
+    mul-w-2
+    array-write-w-2
     add-round-3
     mul-round-5
     array-read-round-5
@@ -231,6 +234,11 @@ rounds-spec =
     mul-round-6
     array-read-round-6
     round-requires-3
+    add-next-word-3
+    next-word-requires-3
+    add-w-3
+    mul-w-3
+    array-write-w-3
     add-round-5
     mul-round-7
     array-read-round-7
@@ -238,35 +246,13 @@ rounds-spec =
     mul-round-8
     array-read-round-8
     round-requires-4
-    add-round-7
-    mul-round-9
-    array-read-round-9
-    add-round-8
-    mul-round-10
-    array-read-round-10
-    round-requires-5
-    add-round-9
-    mul-round-11
-    array-read-round-11
-    add-round-10
-    mul-round-12
-    array-read-round-12
-    round-requires-6
-    add-round-11
-    mul-round-13
-    array-read-round-13
-    add-round-12
-    mul-round-14
-    array-read-round-14
-    round-requires-7
-    add-round-13
-    mul-round-15
-    array-read-round-15
-    add-round-14
-    mul-round-16
-    array-read-round-16
-    round-requires-8
+    add-next-word-4
+    next-word-requires-4
+    add-w-4
+    mul-w-4
+    array-write-w-4
     add-t
     loop-less
     loop-again
+    last-rounds-requires
     returns)
