@@ -116,7 +116,7 @@ impl Tree {
         while level < 1 || row.len() > 1 || level < self.root_level.min(HIGHEST_LEVEL) {
             level += 1;
             let mut above = Vec::new();
-            for children in self.shared_out(row, level) {
+            for children in self.shared_out(&row, level) {
                 above.push(nodes.len());
                 let group = children.first().map_or(0, |child| nodes[*child].group);
                 nodes.push(Node {
@@ -131,18 +131,19 @@ impl Tree {
     }
 
     /// The children of each index block on a level.
-    fn shared_out(&self, mut row: Vec<usize>, level: u8) -> Vec<Vec<usize>> {
+    fn shared_out(&self, row: &[usize], level: u8) -> Vec<Vec<usize>> {
         let most = self.entries_on(level);
         let mut random = self
             .ragged
             .map(|seed| Random::new(seed ^ u64::from(level)))
             .filter(|_| level < HIGHEST_LEVEL);
         let mut shares = Vec::new();
-        while !row.is_empty() {
+        let mut left = row;
+        while !left.is_empty() {
             let entries = random.as_mut().map_or(most, |r| 1 + r.below(most));
-            let rest = row.split_off(entries.min(row.len()));
-            shares.push(row);
-            row = rest;
+            let (share, behind) = left.split_at(entries.min(left.len()));
+            shares.push(share.to_vec());
+            left = behind;
         }
         shares
     }
