@@ -10,7 +10,8 @@ PATH="$PATH:${CARGO_HOME:-$HOME/.cargo}/bin"
 scripts/setup.sh
 rt fmt --check
 echo "1 passed, 0 failed"
-rt ci
+# One job more than two processors, so that none waits for the last of a pair.
+RT_JOBS="${RT_JOBS:-3}" rt ci
 rt staticlib zs >/dev/null
 (cd cli && cargo test --offline --quiet --workspace --exclude zs-differential)
 (cd cli && cargo test --offline --quiet -p zs-differential -- --nocapture)
