@@ -1,2 +1,3 @@
 -- What the contracts of the driver cite.
 pub mod Onward
+pub mod Spanned

@@ -1,7 +1,9 @@
 // The stored cases, one behind the other: what stands where is said in cli/reference/README.md.
 ghost use Prim.Native.Nat.{_≤_};
+ghost use mathlib.Core.Path.{_≡_};
 ghost use lib.ListN.{length};
 ghost use Rattle.archives.specs.Onward.{Onward};
+ghost use Rattle.archives.specs.Spanned.{bytesOf};
 use fixed_width::le64_at;
 
 // A string of bytes among the stored cases, by its first position and the one behind its last.
@@ -60,7 +62,9 @@ fn string_at(stored: &[u8], at: usize) -> Span
 }
 
 // The bytes of a string; none where it doesn't lie among the stored bytes.
-pub fn part(stored: &[u8], span: Span) -> &[u8] {
+pub fn part(stored: &[u8], span: Span) -> &[u8]
+    ensures { λ r. ⌜ now r ≡ bytesOf (now (stored .entry)) span ⌝ }
+{
     let from = span.from;
     let end = span.end;
     if end < from {

@@ -1,0 +1,2 @@
+-- Laws of the strings among the stored cases.
+pub mod SpannedLaws
