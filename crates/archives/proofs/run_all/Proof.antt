@@ -45,7 +45,11 @@ run-case-requires : tie.Need-run-case-requires Inv-loop μ-loop
 run-case-requires c κs = search needs
 
 loop-less : tie.Need-loop-less Inv-loop μ-loop
-loop-less c = omega (arith, subst (Onward (c .before .before .before .before .before .before .loop .at)) (c .before .before .parsed .given .1) (c .before .before .before .before .case-at .ensures))
+loop-less c =
+    let loop = c .before .before .before .before .before .before .loop in
+    let parsed = c .before .before .parsed in
+    let case-at = c .before .before .before .before .case-at in
+    omega (arith, subst (Onward (loop .at)) (parsed .given .1) (case-at .ensures))
 
 loop-again : tie.Need-loop-again Inv-loop μ-loop
 loop-again c = search needs

@@ -18,7 +18,9 @@ loop-holds : tie.Need-loop-holds Inv-loop μ-loop
 loop-holds c = agreed-none _ _
 
 returns : tie.Need-returns Inv-loop μ-loop
-returns c = agreed-right-ended _ _ _ (c .if1 .taken) (c .before .before .loop .inv)
+returns c =
+    let loop = c .before .before .loop in
+    agreed-right-ended _ _ _ (c .if1 .taken) (loop .inv)
 
 shared-slice-read-if2 : tie.Need-shared-slice-read-if2 Inv-loop μ-loop
 shared-slice-read-if2 c = search needs
@@ -27,7 +29,9 @@ shared-slice-read-if2-2 : tie.Need-shared-slice-read-if2-2 Inv-loop μ-loop
 shared-slice-read-if2-2 c = search needs
 
 returns-2 : tie.Need-returns-2 Inv-loop μ-loop
-returns-2 c = agreed-differ _ _ _ (omega arith) (omega arith) (c .if2 .taken) (c .before .before .before .before .before .loop .inv)
+returns-2 c =
+    let loop = c .before .before .before .before .before .loop in
+    agreed-differ _ _ _ (omega arith) (omega arith) (c .if2 .taken) (loop .inv)
 
 add-n : tie.Need-add-n Inv-loop μ-loop
 add-n c = search needs
@@ -36,7 +40,9 @@ loop-less : tie.Need-loop-less Inv-loop μ-loop
 loop-less c = search needs
 
 loop-again : tie.Need-loop-again Inv-loop μ-loop
-loop-again c = agreed-more _ _ _ (omega arith) (omega arith) (c .if2 .left) (c .before .before .before .before .before .loop .inv)
+loop-again c =
+    let loop = c .before .before .before .before .before .loop in
+    agreed-more _ _ _ (omega arith) (omega arith) (c .if2 .left) (loop .inv)
 
 returns-3 : tie.Need-returns-3 Inv-loop μ-loop
 returns-3 c = agreed-left-ended _ _ _ (omega arith) (c .before .loop .inv)

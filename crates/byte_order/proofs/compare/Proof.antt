@@ -12,15 +12,21 @@ agreement-requires c κs = search needs
 
 returns : tie.Need-returns
 unfolding signed
-returns c = ap signed (sym (order-both-ended _ _ _ (c .before .before .agreement .ensures) (c .before .if1 .taken) (c .if2 .taken)))
+returns c =
+    let agreement = c .before .before .agreement in
+    ap signed (sym (order-both-ended _ _ _ (agreement .ensures) (c .before .if1 .taken) (c .if2 .taken)))
 
 returns-2 : tie.Need-returns-2
 unfolding signed
-returns-2 c = ap signed (sym (order-left-ended _ _ _ (c .before .before .agreement .ensures) (c .before .if1 .taken) (c .if2 .left)))
+returns-2 c =
+    let agreement = c .before .before .agreement in
+    ap signed (sym (order-left-ended _ _ _ (agreement .ensures) (c .before .if1 .taken) (c .if2 .left)))
 
 returns-3 : tie.Need-returns-3
 unfolding signed
-returns-3 c = ap signed (sym (order-right-ended _ _ _ (c .before .before .agreement .ensures) (c .before .if1 .left) (c .if3 .taken)))
+returns-3 c =
+    let agreement = c .before .before .agreement in
+    ap signed (sym (order-right-ended _ _ _ (agreement .ensures) (c .before .if1 .left) (c .if3 .taken)))
 
 shared-slice-read-if4 : tie.Need-shared-slice-read-if4
 shared-slice-read-if4 c = search needs
@@ -31,18 +37,18 @@ shared-slice-read-if4-2 c = search needs
 returns-4 : tie.Need-returns-4
 unfolding signed
 returns-4 c =
-    ap signed
-    (sym
-    (order-parted-below _ _ _ (c .before .before .before .before .before .agreement .ensures)
-    (c .before .before .before .before .if1 .left) (c .before .before .before .if3 .left) (c .if4 .taken)))
+    let agreement = c .before .before .before .before .before .agreement in
+    let if1 = c .before .before .before .before .if1 in
+    let if3 = c .before .before .before .if3 in
+    ap signed (sym (order-parted-below _ _ _ (agreement .ensures) (if1 .left) (if3 .left) (c .if4 .taken)))
 
 returns-5 : tie.Need-returns-5
 unfolding signed
 returns-5 c =
-    ap signed
-    (sym
-    (order-parted-above _ _ _ (c .before .before .before .before .before .agreement .ensures)
-    (c .before .before .before .before .if1 .left) (c .before .before .before .if3 .left) (c .if4 .left)))
+    let agreement = c .before .before .before .before .before .agreement in
+    let if1 = c .before .before .before .before .if1 in
+    let if3 = c .before .before .before .if3 in
+    ap signed (sym (order-parted-above _ _ _ (agreement .ensures) (if1 .left) (if3 .left) (c .if4 .left)))
 
 pub compare-spec : {M : Type 1} → statement M
 compare-spec =

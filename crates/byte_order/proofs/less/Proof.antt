@@ -13,7 +13,9 @@ returns : tie.Need-returns
 returns c = sym (less-right-ended _ _ _ (c .before .agreement .ensures) (c .if1 .taken))
 
 returns-2 : tie.Need-returns-2
-returns-2 c = sym (less-left-ended _ _ _ (c .before .before .agreement .ensures) (c .if2 .taken) (c .before .if1 .left))
+returns-2 c =
+    let agreement = c .before .before .agreement in
+    sym (less-left-ended _ _ _ (agreement .ensures) (c .if2 .taken) (c .before .if1 .left))
 
 shared-slice-read-result : tie.Need-shared-slice-read-result
 shared-slice-read-result c = search needs
@@ -23,9 +25,10 @@ shared-slice-read-result-2 c = search needs
 
 returns-3 : tie.Need-returns-3
 returns-3 c =
-    sym
-    (less-parted _ _ _ (c .before .before .before .before .agreement .ensures)
-    (c .before .before .if2 .left) (c .before .before .before .if1 .left))
+    let agreement = c .before .before .before .before .agreement in
+    let if2 = c .before .before .if2 in
+    let if1 = c .before .before .before .if1 in
+    sym (less-parted _ _ _ (agreement .ensures) (if2 .left) (if1 .left))
 
 pub less-spec : {M : Type 1} → statement M
 less-spec =

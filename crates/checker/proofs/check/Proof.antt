@@ -15,7 +15,10 @@ same-length : tie.Need-same-length
 same-length c = search needs
 
 returns : tie.Need-returns
-returns c = (c .before .before .before .before .before .before .check-file .ensures, c .before .before .clear .ensures ∙ ap zeros (c .before .before .before .before .before .before .check-file .kept .1 .0))
+returns c =
+    let check-file = c .before .before .before .before .before .before .check-file in
+    let clear = c .before .before .clear in
+    (check-file .ensures, clear .ensures ∙ ap zeros (check-file .kept .1 .0))
 
 pub check-spec : {M : Type 1} → statement M
 check-spec = tie.close (tie.spec check-file-requires clear-requires same-length returns)

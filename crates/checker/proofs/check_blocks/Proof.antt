@@ -14,7 +14,11 @@ use Rattle.checker.proofs.check_blocks.Tie as tie
 
 add-from : tie.Need-add-from
 unfolding blocksFrom
-add-from c = let within = blocks-within (now (c .before .before .args .file)) (c .before .before .args .h) (c .before .before .pre) in omega (arith, c .before .before .good)
+add-from c =
+    let args = c .before .before .args in
+    let pre = c .before .before .pre in
+    let good = c .before .before .good in
+    let within = blocks-within (now (args .file)) (args .h) (pre) in omega (arith, good)
 
 survey-requires : tie.Need-survey-requires
 survey-requires c κs = search needs
@@ -33,14 +37,27 @@ refusal-requires-2 c κs = search needs
 
 returns : tie.Need-returns
 unfolding survey blocksFrom
-returns c = told-17 (now (c .before .before .before .before .before .before .before .before .before .args .file)) (length (now (c .before .before .before .before .before .before .before .before .before .args .work))) (c .before .before .before .before .before .before .before .before .before .args .h) (c .before .before .before .before .before .before .before .before .before .pre) _ (sym (c .before .before .before .before .before .before .survey .ensures) ∙ ap survey (c .before .before .before .before .stage2 .given .1)) (not-true _ (c .before .if1 .taken)) _ (c .refusal2 .ensures)
+returns c =
+    let args = c .before .before .before .before .before .before .before .before .before .args in
+    let pre = c .before .before .before .before .before .before .before .before .before .pre in
+    let the-survey = c .before .before .before .before .before .before .survey in
+    let stage2 = c .before .before .before .before .stage2 in
+    told-17 (now (args .file)) (length (now (args .work))) (args .h) (pre) _ (sym (the-survey .ensures) ∙ ap survey (stage2 .given .1))
+    (not-true _ (c .before .if1 .taken)) _ (c .refusal2 .ensures)
 
 refusal-requires-3 : tie.Need-refusal-requires-3
 refusal-requires-3 c κs = search needs
 
 returns-2 : tie.Need-returns-2
 unfolding survey blocksFrom
-returns-2 c = told-18 (now (c .before .before .before .before .before .before .before .before .before .before .args .file)) (length (now (c .before .before .before .before .before .before .before .before .before .before .args .work))) (c .before .before .before .before .before .before .before .before .before .before .args .h) (c .before .before .before .before .before .before .before .before .before .before .pre) _ (sym (c .before .before .before .before .before .before .before .survey .ensures) ∙ ap survey (c .before .before .before .before .before .stage2 .given .1)) (not-false _ (c .before .before .if1 .left)) (c .before .if2 .taken) _ (c .refusal3 .ensures)
+returns-2 c =
+    let args = c .before .before .before .before .before .before .before .before .before .before .args in
+    let pre = c .before .before .before .before .before .before .before .before .before .before .pre in
+    let the-survey = c .before .before .before .before .before .before .before .survey in
+    let stage2 = c .before .before .before .before .before .stage2 in
+    let if1 = c .before .before .if1 in
+    told-18 (now (args .file)) (length (now (args .work))) (args .h) (pre) _ (sym (the-survey .ensures) ∙ ap survey (stage2 .given .1))
+    (not-false _ (if1 .left)) (c .before .if2 .taken) _ (c .refusal3 .ensures)
 
 tree-fault-requires : tie.Need-tree-fault-requires
 tree-fault-requires c κs = search needs
@@ -53,18 +70,43 @@ same-length c = search needs
 
 returns-3 : tie.Need-returns-3
 unfolding survey blocksFrom
-returns-3 c = told-fault (now (c .before .before .before .before .before .before .before .before .before .before .before .before .before .before .before .before .args .file)) (length (now (c .before .before .before .before .before .before .before .before .before .before .before .before .before .before .before .before .args .work))) (c .before .before .before .before .before .before .before .before .before .before .before .before .before .before .before .before .args .h) (c .before .before .before .before .before .before .before .before .before .before .before .before .before .before .before .before .pre) _ (sym (c .before .before .before .before .before .before .before .before .before .before .before .before .before .survey .ensures) ∙ ap survey (c .before .before .before .before .before .before .before .before .before .before .before .stage2 .given .1)) (not-false _ (c .before .before .before .before .before .before .before .before .if1 .left)) (c .before .before .before .before .before .before .before .if2 .left) _ (λ bs read root many. c .before .before .before .before .before .tree-fault .ensures bs read root many (c .before .before .before .before .before .before .before .if2 .left)) (c .before .if3 .taken) _ (c .refusal4 .ensures)
+returns-3 c =
+    let args = c .before .before .before .before .before .before .before .before .before .before .before .before .before .before .before .before .args in
+    let pre = c .before .before .before .before .before .before .before .before .before .before .before .before .before .before .before .before .pre in
+    let the-survey = c .before .before .before .before .before .before .before .before .before .before .before .before .before .survey in
+    let stage2 = c .before .before .before .before .before .before .before .before .before .before .before .stage2 in
+    let if1 = c .before .before .before .before .before .before .before .before .if1 in
+    let if2 = c .before .before .before .before .before .before .before .if2 in
+    let tree-fault = c .before .before .before .before .before .tree-fault in
+    told-fault (now (args .file)) (length (now (args .work))) (args .h) (pre) _ (sym (the-survey .ensures) ∙ ap survey (stage2 .given .1))
+    (not-false _ (if1 .left)) (if2 .left) _ (λ bs read root many. tree-fault .ensures bs read root many (if2 .left)) (c .before .if3 .taken)
+    _ (c .refusal4 .ensures)
 
 returns-4 : tie.Need-returns-4
 unfolding survey blocksFrom
-returns-4 c = told-unsound (now (c .before .before .before .before .before .before .before .args .file)) (length (now (c .before .before .before .before .before .before .before .args .work))) (c .before .before .before .before .before .before .before .args .h) (c .before .before .before .before .before .before .before .pre) _ _ (sym (c .before .before .before .before .survey .ensures) ∙ ap survey (c .before .before .stage .given .1)) _ (c .refusal .ensures)
+returns-4 c =
+    let args = c .before .before .before .before .before .before .before .args in
+    let pre = c .before .before .before .before .before .before .before .pre in
+    let the-survey = c .before .before .before .before .survey in
+    let stage = c .before .before .stage in
+    told-unsound (now (args .file)) (length (now (args .work))) (args .h) (pre) _ _ (sym (the-survey .ensures) ∙ ap survey
+    (stage .given .1)) _ (c .refusal .ensures)
 
 same-length-2 : tie.Need-same-length-2
 same-length-2 c = search needs
 
 returns-5 : tie.Need-returns-5
 unfolding survey blocksFrom
-returns-5 c = told-sound (now (c .before .before .before .before .before .before .before .before .before .before .before .before .before .before .before .args .file)) (length (now (c .before .before .before .before .before .before .before .before .before .before .before .before .before .before .before .args .work))) (c .before .before .before .before .before .before .before .before .before .before .before .before .before .before .before .args .h) (c .before .before .before .before .before .before .before .before .before .before .before .before .before .before .before .pre) _ (sym (c .before .before .before .before .before .before .before .before .before .before .before .before .survey .ensures) ∙ ap survey (c .before .before .before .before .before .before .before .before .before .before .stage2 .given .1)) (not-false _ (c .before .before .before .before .before .before .before .if1 .left)) (c .before .before .before .before .before .before .if2 .left) _ (λ bs read root many. c .before .before .before .before .tree-fault .ensures bs read root many (c .before .before .before .before .before .before .if2 .left)) (c .if3 .left)
+returns-5 c =
+    let args = c .before .before .before .before .before .before .before .before .before .before .before .before .before .before .before .args in
+    let pre = c .before .before .before .before .before .before .before .before .before .before .before .before .before .before .before .pre in
+    let the-survey = c .before .before .before .before .before .before .before .before .before .before .before .before .survey in
+    let stage2 = c .before .before .before .before .before .before .before .before .before .before .stage2 in
+    let if1 = c .before .before .before .before .before .before .before .if1 in
+    let if2 = c .before .before .before .before .before .before .if2 in
+    let tree-fault = c .before .before .before .before .tree-fault in
+    told-sound (now (args .file)) (length (now (args .work))) (args .h) (pre) _ (sym (the-survey .ensures) ∙ ap survey (stage2 .given .1))
+    (not-false _ (if1 .left)) (if2 .left) _ (λ bs read root many. tree-fault .ensures bs read root many (if2 .left)) (c .if3 .left)
 
 pub check-blocks-spec : {M : Type 1} → statement M
 check-blocks-spec =

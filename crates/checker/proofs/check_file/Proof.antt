@@ -23,11 +23,19 @@ enum-known-made-2 c = search needs
 
 check-blocks-requires : tie.Need-check-blocks-requires
 unfolding meaning
-check-blocks-requires c κs = sym (c .before .before .before .before .read .ensures) ∙ ap meaning (c .before .before .made2 .given .1)
+check-blocks-requires c κs =
+    let read = c .before .before .before .before .read in
+    let made2 = c .before .before .made2 in
+    sym (read .ensures) ∙ ap meaning (made2 .given .1)
 
 returns : tie.Need-returns
 unfolding meaning
-returns c = told (checkOf (now (c .before .before .before .before .before .before .before .args .file)) (length (now (c .before .before .before .before .before .before .before .args .work)))) _ _ (check-header (now (c .before .before .before .before .before .before .before .args .file)) (length (now (c .before .before .before .before .before .before .before .args .work))) _ _ (sym (c .before .before .before .before .read .ensures) ∙ ap meaning (c .before .before .made .given .1))) _ (c .refusal .ensures)
+returns c =
+    let args = c .before .before .before .before .before .before .before .args in
+    let read = c .before .before .before .before .read in
+    let made = c .before .before .made in
+    told (checkOf (now (args .file)) (length (now (args .work)))) _ _ (check-header (now (args .file)) (length (now (args .work))) _ _ (sym
+    (read .ensures) ∙ ap meaning (made .given .1))) _ (c .refusal .ensures)
 
 same-length : tie.Need-same-length
 same-length c = search needs

@@ -10,7 +10,11 @@ use Rattle.checker.proofs.tree_fault.Tie as tie
 
 add-from : tie.Need-add-from
 unfolding blocksFrom
-add-from c = let within = blocks-within (now (c .before .before .args .file)) (c .before .before .args .h) (c .before .before .pre) in omega (arith, c .before .before .good)
+add-from c =
+    let args = c .before .before .args in
+    let pre = c .before .before .pre in
+    let good = c .before .before .good in
+    let within = blocks-within (now (args .file)) (args .h) (pre) in omega (arith, good)
 
 naming-fault-requires : tie.Need-naming-fault-requires
 naming-fault-requires c κs = search needs
@@ -20,7 +24,12 @@ same-length c = search needs
 
 returns : tie.Need-returns
 unfolding blocksFrom
-returns c = λ bs read root many room. misnamed (now (c .before .before .before .before .before .before .before .before .args .file)) (c .before .before .before .before .before .before .before .before .args .h) bs (c .before .before .before .before .before .before .before .before .pre) read root _ (c .before .before .before .before .naming-fault .ensures bs (is-header (now (c .before .before .before .before .before .before .before .before .args .file)) (c .before .before .before .before .before .before .before .before .args .h) (c .before .before .before .before .before .before .before .before .pre) .small) read many room) (c .if1 .taken)
+returns c =
+    let args = c .before .before .before .before .before .before .before .before .args in
+    let pre = c .before .before .before .before .before .before .before .before .pre in
+    let naming-fault = c .before .before .before .before .naming-fault in
+    λ bs read root many room. misnamed (now (args .file)) (args .h) bs (pre) read root _ (naming-fault .ensures bs (is-header (now
+    (args .file)) (args .h) (pre) .small) read many room) (c .if1 .taken)
 
 walk-fault-requires : tie.Need-walk-fault-requires
 walk-fault-requires c κs = search needs
@@ -30,7 +39,12 @@ same-length-2 c = search needs
 
 returns-2 : tie.Need-returns-2
 unfolding blocksFrom
-returns-2 c = λ bs read root many room. walked (now (c .before .before .before .before .before .before .before .before .before .args .file)) (c .before .before .before .before .before .before .before .before .before .args .h) bs (c .before .before .before .before .before .before .before .before .before .pre) read root _ (c .before .before .before .before .before .naming-fault .ensures bs (is-header (now (c .before .before .before .before .before .before .before .before .before .args .file)) (c .before .before .before .before .before .before .before .before .before .args .h) (c .before .before .before .before .before .before .before .before .before .pre) .small) read many room) (c .before .if1 .left) _ (c .walk-fault .ensures)
+returns-2 c =
+    let args = c .before .before .before .before .before .before .before .before .before .args in
+    let pre = c .before .before .before .before .before .before .before .before .before .pre in
+    let naming-fault = c .before .before .before .before .before .naming-fault in
+    λ bs read root many room. walked (now (args .file)) (args .h) bs (pre) read root _ (naming-fault .ensures bs (is-header (now
+    (args .file)) (args .h) (pre) .small) read many room) (c .before .if1 .left) _ (c .walk-fault .ensures)
 
 pub tree-fault-spec : {M : Type 1} → statement M
 tree-fault-spec =

@@ -31,7 +31,8 @@ loop-less c = omega arith
 
 loop-again : tie.Need-loop-again Inv-loop μ-loop
 loop-again c =
-    taken-more _ _ _ _ (c .before .before .before .loop .inv) (omega arith) (c .byte-step .ensures)
+    let loop = c .before .before .before .loop in
+    taken-more _ _ _ _ (loop .inv) (omega arith) (c .byte-step .ensures)
 
 returns : tie.Need-returns Inv-loop μ-loop
 returns c = taken-all _ _ _ (c .before .loop .inv) (omega arith)

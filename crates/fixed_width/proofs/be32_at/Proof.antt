@@ -11,7 +11,9 @@ use Rattle.fixed_width.proofs.be32_at.Tie as tie
 
 returns : tie.Need-returns
 unfolding bigEndian littleEndian
-returns c = rw (part-none (c .before .before .args .s .now) (c .before .before .args .at) 4 (c .if1 .taken))
+returns c =
+    let args = c .before .before .args in
+    rw (part-none (args .s .now) (args .at) 4 (c .if1 .taken))
 
 sub-if2 : tie.Need-sub-if2
 sub-if2 c = search needs
@@ -38,7 +40,8 @@ whole c = let a = c .before .before .before .before .before .args in c .big .ens
 cast-result : tie.Need-cast-result
 cast-result c =
     let a = c .before .before .before .before .before .args in
-    omega (arith, whole c, bigEndian-part-lt 4 (a .s .now) (λ (k : ℕ) _. c .before .before .before .before .shared-slice-known .given k .fits) (a .at))
+    let shared-slice-known = c .before .before .before .before .shared-slice-known in
+    omega (arith, whole c, bigEndian-part-lt 4 (a .s .now) (λ (k : ℕ) _. shared-slice-known .given k .fits) (a .at))
 
 returns-2 : tie.Need-returns-2
 returns-2 c = whole c
@@ -62,7 +65,8 @@ rest c = let a = c .before .before .before .before .before .args in c .big2 .ens
 cast-result-2 : tie.Need-cast-result-2
 cast-result-2 c =
     let a = c .before .before .before .before .before .args in
-    omega (arith, rest c, bigEndian-part-lt 4 (a .s .now) (λ (k : ℕ) _. c .before .before .before .before .shared-slice-known .given k .fits) (a .at))
+    let shared-slice-known = c .before .before .before .before .shared-slice-known in
+    omega (arith, rest c, bigEndian-part-lt 4 (a .s .now) (λ (k : ℕ) _. shared-slice-known .given k .fits) (a .at))
 
 returns-3 : tie.Need-returns-3
 returns-3 c = rest c

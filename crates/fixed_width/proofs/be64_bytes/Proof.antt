@@ -46,12 +46,10 @@ array-read-t30 c = search needs
 
 returns : tie.Need-returns
 returns c =
-    let high = c .before .be32-bytes in
-    let low = c .be32-bytes2 in
-    let x = c .before .before .args .x in
-    bigBytes-four-elements (high .result) (x / 4294967296) (high .ensures) _
-    ∙ ap (λ (l : List ℕ). bigBytes 4 (x / 4294967296) ++ l) (bigBytes-four-elements (low .result) (x % 4294967296) (low .ensures) [])
-    ∙ rw append-nil (sym (bigBytes-eight x))
+    let args = c .before .before .args in
+    let high = c .before .be32-bytes in let low = c .be32-bytes2 in let x = args .x in bigBytes-four-elements (high .result) (x /
+    4294967296) (high .ensures) _ ∙ ap (λ (l : List ℕ). bigBytes 4 (x / 4294967296) ++ l) (bigBytes-four-elements (low .result) (x %
+    4294967296) (low .ensures) []) ∙ rw append-nil (sym (bigBytes-eight x))
 
 pub be64-bytes-spec : {M : Type 1} → statement M
 be64-bytes-spec =

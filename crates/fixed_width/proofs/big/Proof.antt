@@ -23,9 +23,10 @@ loop-holds c = search needs
 -- fewer than 8 bytes leave room for one more
 room : (c : tie.In-loop Inv-loop μ-loop) → c .before .loop .value < 256 ^ 7
 room c =
-    let part = c .before .before .before .args .part .now in
-    let bytes : Bytes part = λ k _. c .before .before .shared-slice-known .given k .fits in
-    rw (c .before .loop .inv .1) (bigEndian-take-lt 7 part bytes (c .before .loop .i) (omega arith))
+    let args = c .before .before .before .args in
+    let shared-slice-known = c .before .before .shared-slice-known in
+    let part = args .part .now in let bytes : Bytes part = λ k _. shared-slice-known .given k .fits in rw (c .before .loop .inv .1)
+    (bigEndian-take-lt 7 part bytes (c .before .loop .i) (omega arith))
 
 mul-value : tie.Need-mul-value Inv-loop μ-loop
 mul-value c = omega (arith, room c)
@@ -38,7 +39,8 @@ wide-requires c κs = search needs
 
 add-value : tie.Need-add-value Inv-loop μ-loop
 add-value c =
-    omega (arith, room (c .before .before), c .before .shared-slice-known2 .given (c .before .before .before .loop .i))
+    let loop = c .before .before .before .loop in
+    omega (arith, room (c .before .before), c .before .shared-slice-known2 .given (loop .i))
 
 add-i : tie.Need-add-i Inv-loop μ-loop
 add-i c = search needs
@@ -48,13 +50,15 @@ loop-less c = search needs
 
 loop-again : tie.Need-loop-again Inv-loop μ-loop
 loop-again c =
-    let part = c .before .before .before .before .before .args .part .now in
-    (omega arith, omega (arith, bigEndian-take-more part (c .before .before .before .loop .i) (c .before .before .loop-test .taken)))
+    let args = c .before .before .before .before .before .args in
+    let loop = c .before .before .before .loop in
+    let loop-test = c .before .before .loop-test in
+    let part = args .part .now in (omega arith, omega (arith, bigEndian-take-more part (loop .i) (loop-test .taken)))
 
 returns : tie.Need-returns Inv-loop μ-loop
 returns c =
-    let at = c .before .loop in
-    at .inv .1 ∙ ap bigEndian (take-all (at .i) (c .before .before .before .args .part .now) (c .loop-test .left))
+    let args = c .before .before .before .args in
+    let at = c .before .loop in at .inv .1 ∙ ap bigEndian (take-all (at .i) (args .part .now) (c .loop-test .left))
 
 pub big-spec : {M : Type 1} → statement M
 big-spec =

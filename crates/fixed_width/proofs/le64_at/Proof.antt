@@ -9,7 +9,9 @@ use Rattle.fixed_width.proofs.le64_at.Tie as tie
 
 returns : tie.Need-returns
 unfolding littleEndian
-returns c = rw (part-none (c .before .before .args .s .now) (c .before .before .args .at) 8 (c .if1 .taken))
+returns c =
+    let args = c .before .before .args in
+    rw (part-none (args .s .now) (args .at) 8 (c .if1 .taken))
 
 sub-if2 : tie.Need-sub-if2
 sub-if2 c = search needs

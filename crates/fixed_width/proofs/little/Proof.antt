@@ -29,9 +29,10 @@ sub-i c = search needs
 -- fewer than 8 bytes leave room for one more
 room : (c : tie.In-loop Inv-loop μ-loop) → c .before .loop .value < 256 ^ 7
 room c =
-    let part = c .before .before .before .args .part .now in
-    let bytes : Bytes part = λ k _. c .before .before .shared-slice-known .given k .fits in
-    rw (c .before .loop .inv .1) (littleEndian-drop-lt 7 part bytes (c .before .loop .i) (omega arith))
+    let args = c .before .before .before .args in
+    let shared-slice-known = c .before .before .shared-slice-known in
+    let part = args .part .now in let bytes : Bytes part = λ k _. shared-slice-known .given k .fits in rw (c .before .loop .inv .1)
+    (littleEndian-drop-lt 7 part bytes (c .before .loop .i) (omega arith))
 
 mul-value : tie.Need-mul-value Inv-loop μ-loop
 mul-value c = omega (arith, room c)
@@ -44,21 +45,30 @@ wide-requires c κs = search needs
 
 add-value : tie.Need-add-value Inv-loop μ-loop
 add-value c =
-    omega (arith, room (c .before .before), c .before .shared-slice-known2 .given (c .before .before .before .loop .i - 1))
+    let loop = c .before .before .before .loop in
+    omega (arith, room (c .before .before), c .before .shared-slice-known2 .given (loop .i - 1))
 
 loop-less : tie.Need-loop-less Inv-loop μ-loop
 loop-less c = search needs
 
 loop-again : tie.Need-loop-again Inv-loop μ-loop
 loop-again c =
-    let part = c .before .before .before .before .before .args .part .now in
-    let at = c .before .before .before .loop in
-    (omega arith, omega (arith, littleEndian-drop-less part (at .i) (c .before .before .loop-test .taken) (at .inv .0)))
+    let args = c .before .before .before .before .before .args in
+    let loop = c .before .before .before .loop in
+    let loop-test = c .before .before .loop-test in
+    let part = args .part .now in let at = loop in (
+      omega arith,
+      omega (
+        arith,
+        littleEndian-drop-less part (at .i) (loop-test .taken)
+            (at .inv .0),
+      ),
+    )
 
 returns : tie.Need-returns Inv-loop μ-loop
 returns c =
-    let part = c .before .before .before .args .part .now in
-    c .before .loop .inv .1 ∙ ap (λ (i : ℕ). littleEndian (drop i part)) (le-zero (c .loop-test .left))
+    let args = c .before .before .before .args in
+    let part = args .part .now in c .before .loop .inv .1 ∙ ap (λ (i : ℕ). littleEndian (drop i part)) (le-zero (c .loop-test .left))
 
 pub little-spec : {M : Type 1} → statement M
 little-spec =

@@ -24,7 +24,9 @@ checksum-requires c κs = search needs
 
 returns : tie.Need-returns
 unfolding crcRight part
-returns c = ap₂ eqb (c .before .before .le64-at .ensures) (c .checksum .ensures)
+returns c =
+    let le64-at = c .before .before .le64-at in
+    ap₂ eqb (le64-at .ensures) (c .checksum .ensures)
 
 pub crc-right-spec : {M : Type 1} → statement M
 crc-right-spec =

@@ -22,22 +22,27 @@ enum-known-number-2 c = search needs
 framed-requires : tie.Need-framed-requires
 unfolding number
 framed-requires c κs =
-    let at = c .before .before .before .before .before .args .at in
-    let n = numbered 10 at (now (c .before .before .before .before .before .args .file)) at _ (sym (c .before .before .before .number-at .ensures at) ∙ ap (number at) (c .before .number2 .given .1)) in
-    omega arith
+    let args = c .before .before .before .before .before .args in
+    let number-at = c .before .before .before .number-at in
+    let at = args .at in let n = numbered 10 at (now (args .file)) at _ (sym (number-at .ensures at) ∙ ap (number at)
+    (c .before .number2 .given .1)) in omega arith
 
 returns : tie.Need-returns
 unfolding number frame frameAt
 returns c =
-    let at = c .before .before .before .before .before .args .at in
-    sym (bind-refused (numberAt 10 at (now (c .before .before .before .before .before .args .file)) at) _ _ _ (sym (c .before .before .before .number-at .ensures at) ∙ ap (number at) (c .before .number .given .1)))
+    let args = c .before .before .before .before .before .args in
+    let number-at = c .before .before .before .number-at in
+    let at = args .at in sym (bind-refused (numberAt 10 at (now (args .file)) at) _ _ _ (sym (number-at .ensures at) ∙ ap (number at)
+    (c .before .number .given .1)))
 
 returns-2 : tie.Need-returns-2
 unfolding number frameAt
 returns-2 c =
-    let at = c .before .before .before .before .before .before .args .at in
-    c .framed .ensures
-    ∙ sym (bind-answer (numberAt 10 at (now (c .before .before .before .before .before .before .args .file)) at) _ _ (sym (c .before .before .before .before .number-at .ensures at) ∙ ap (number at) (c .before .before .number2 .given .1)))
+    let args = c .before .before .before .before .before .before .args in
+    let number-at = c .before .before .before .before .number-at in
+    let number2 = c .before .before .number2 in
+    let at = args .at in c .framed .ensures ∙ sym (bind-answer (numberAt 10 at (now (args .file)) at) _ _ (sym (number-at .ensures at) ∙ ap
+    (number at) (number2 .given .1)))
 
 pub frame-at-spec : {M : Type 1} → statement M
 frame-at-spec =

@@ -20,7 +20,9 @@ returns-2 c = sym (framed-long _ _ _ (c .before .if1 .left) (omega arith))
 
 returns-3 : tie.Need-returns-3
 unfolding frame
-returns-3 c = sym (framed-long _ _ _ (c .before .before .if1 .left) (omega arith))
+returns-3 c =
+    let if1 = c .before .before .if1 in
+    sym (framed-long _ _ _ (if1 .left) (omega arith))
 
 add-end : tie.Need-add-end
 add-end c = search needs
@@ -36,7 +38,9 @@ shared-slice-read-t12 c = search needs
 
 returns-4 : tie.Need-returns-4
 unfolding frame
-returns-4 c = sym (framed-found _ _ _ (c .before .before .before .if1 .left) (omega arith))
+returns-4 c =
+    let if1 = c .before .before .before .if1 in
+    sym (framed-found _ _ _ (if1 .left) (omega arith))
 
 pub framed-spec : {M : Type 1} → statement M
 framed-spec =

@@ -14,7 +14,9 @@ use Rattle.framing.proofs.number_at.Tie as tie
 
 returns : tie.Need-returns
 unfolding number
-returns c place = sym (number-past _ place (now (c .before .before .args .s)) (c .before .before .args .at) (omega arith))
+returns c place =
+    let args = c .before .before .args in
+    sym (number-past _ place (now (args .s)) (args .at) (omega arith))
 
 sub-read-number : tie.Need-sub-read-number
 sub-read-number c = search needs
@@ -33,8 +35,14 @@ enum-known-read c = search needs
 
 add-t13 : tie.Need-add-t13
 add-t13 c =
-    let used = value-used _ _ _ _ (c .before .read .given .1) (c .before .before .before .read-number .ensures) in
-    omega (arith, c .before .before .before .before .before .before .before .good, simp (length-take, length-drop) at used)
+    let read-number = c .before .before .before .read-number in
+    let good = c .before .before .before .before .before .before .before .good in
+    let used = value-used _ _ _ _ (c .before .read .given .1) (read-number .ensures) in omega (
+      arith,
+      good,
+      simp (length-take, length-drop)
+          at used,
+    )
 
 enum-told : tie.Need-enum-told
 enum-told c = search needs
@@ -48,26 +56,34 @@ enum-told-3 c = search needs
 returns-2 : tie.Need-returns-2
 unfolding number readAs meaning
 returns-2 c place =
-    ap (λ (n : Number). readAs (c .before .before .before .before .before .before .before .args .cut) place (c .before .before .before .before .before .before .before .args .at) (meaning n)) (sym (c .before .read .given .1))
-    ∙ number-found (c .before .before .before .before .before .before .before .args .cut) place (now (c .before .before .before .before .before .before .before .args .s)) (c .before .before .before .before .before .before .before .args .at) (c .before .before .before .read-number .result) (c .before .before .before .read-number .ensures)
+    let args = c .before .before .before .before .before .before .before .args in
+    let read-number = c .before .before .before .read-number in
+    ap (λ (n : Number). readAs (args .cut) place (args .at) (meaning n)) (sym (c .before .read .given .1)) ∙ number-found (args .cut) place
+    (now (args .s)) (args .at) (read-number .result) (read-number .ensures)
 
 returns-3 : tie.Need-returns-3
 unfolding number readAs meaning
 returns-3 c place =
-    ap (λ (n : Number). readAs (c .before .before .before .before .before .before .args .cut) place (c .before .before .before .before .before .before .args .at) (meaning n)) (sym (c .enum-told .given .1))
-    ∙ number-found (c .before .before .before .before .before .before .args .cut) place (now (c .before .before .before .before .before .before .args .s)) (c .before .before .before .before .before .before .args .at) (c .before .before .read-number .result) (c .before .before .read-number .ensures)
+    let args = c .before .before .before .before .before .before .args in
+    let read-number = c .before .before .read-number in
+    ap (λ (n : Number). readAs (args .cut) place (args .at) (meaning n)) (sym (c .enum-told .given .1)) ∙ number-found (args .cut) place
+    (now (args .s)) (args .at) (read-number .result) (read-number .ensures)
 
 returns-4 : tie.Need-returns-4
 unfolding number readAs meaning
 returns-4 c place =
-    ap (λ (n : Number). readAs (c .before .before .before .before .before .before .args .cut) place (c .before .before .before .before .before .before .args .at) (meaning n)) (sym (c .enum-told2 .given .1))
-    ∙ number-found (c .before .before .before .before .before .before .args .cut) place (now (c .before .before .before .before .before .before .args .s)) (c .before .before .before .before .before .before .args .at) (c .before .before .read-number .result) (c .before .before .read-number .ensures)
+    let args = c .before .before .before .before .before .before .args in
+    let read-number = c .before .before .read-number in
+    ap (λ (n : Number). readAs (args .cut) place (args .at) (meaning n)) (sym (c .enum-told2 .given .1)) ∙ number-found (args .cut) place
+    (now (args .s)) (args .at) (read-number .result) (read-number .ensures)
 
 returns-5 : tie.Need-returns-5
 unfolding number readAs meaning
 returns-5 c place =
-    ap (λ (n : Number). readAs (c .before .before .before .before .before .before .args .cut) place (c .before .before .before .before .before .before .args .at) (meaning n)) (sym (c .enum-told3 .given .1))
-    ∙ number-found (c .before .before .before .before .before .before .args .cut) place (now (c .before .before .before .before .before .before .args .s)) (c .before .before .before .before .before .before .args .at) (c .before .before .read-number .result) (c .before .before .read-number .ensures)
+    let args = c .before .before .before .before .before .before .args in
+    let read-number = c .before .before .read-number in
+    ap (λ (n : Number). readAs (args .cut) place (args .at) (meaning n)) (sym (c .enum-told3 .given .1)) ∙ number-found (args .cut) place
+    (now (args .s)) (args .at) (read-number .result) (read-number .ensures)
 
 pub number-at-spec : {M : Type 1} → statement M
 number-at-spec =

@@ -22,27 +22,36 @@ enum-known-found-2 c = search needs
 crc-right-requires : tie.Need-crc-right-requires
 unfolding frame
 crc-right-requires c κs =
-    let at = c .before .before .before .before .before .args .at in
-    let f = frame⇒Framed (now (c .before .before .before .before .before .args .file)) at _ (sym (c .before .before .before .frame-at .ensures) ∙ ap (frame at) (c .before .found2 .given .1)) in
-    omega arith
+    let args = c .before .before .before .before .before .args in
+    let frame-at = c .before .before .before .frame-at in
+    let at = args .at in let f = frame⇒Framed (now (args .file)) at _ (sym (frame-at .ensures) ∙ ap (frame at)
+    (c .before .found2 .given .1)) in omega arith
 
 returns : tie.Need-returns
 unfolding frame soundFrameAt
 returns c =
-    let at = c .before .before .before .before .before .args .at in
-    sym (bind-refused (frameAt (now (c .before .before .before .before .before .args .file)) at) _ _ _ (sym (c .before .before .before .frame-at .ensures) ∙ ap (frame at) (c .before .found .given .1)))
+    let args = c .before .before .before .before .before .args in
+    let frame-at = c .before .before .before .frame-at in
+    let at = args .at in sym (bind-refused (frameAt (now (args .file)) at) _ _ _ (sym (frame-at .ensures) ∙ ap (frame at)
+    (c .before .found .given .1)))
 
 returns-2 : tie.Need-returns-2
 unfolding frame
 returns-2 c =
-    let at = c .before .before .before .before .before .before .before .args .at in
-    sym (sound-frame (now (c .before .before .before .before .before .before .before .args .file)) at _ (sym (c .before .before .before .before .before .frame-at .ensures) ∙ ap (frame at) (c .before .before .before .found2 .given .1)) (sym (c .before .crc-right .ensures) ∙ c .if1 .taken))
+    let args = c .before .before .before .before .before .before .before .args in
+    let frame-at = c .before .before .before .before .before .frame-at in
+    let found2 = c .before .before .before .found2 in
+    let at = args .at in sym (sound-frame (now (args .file)) at _ (sym (frame-at .ensures) ∙ ap (frame at) (found2 .given .1)) (sym
+    (c .before .crc-right .ensures) ∙ c .if1 .taken))
 
 returns-3 : tie.Need-returns-3
 unfolding frame
 returns-3 c =
-    let at = c .before .before .before .before .before .before .before .args .at in
-    sym (unsound-frame (now (c .before .before .before .before .before .before .before .args .file)) at _ (sym (c .before .before .before .before .before .frame-at .ensures) ∙ ap (frame at) (c .before .before .before .found2 .given .1)) (sym (c .before .crc-right .ensures) ∙ c .if1 .left))
+    let args = c .before .before .before .before .before .before .before .args in
+    let frame-at = c .before .before .before .before .before .frame-at in
+    let found2 = c .before .before .before .found2 in
+    let at = args .at in sym (unsound-frame (now (args .file)) at _ (sym (frame-at .ensures) ∙ ap (frame at) (found2 .given .1)) (sym
+    (c .before .crc-right .ensures) ∙ c .if1 .left))
 
 pub sound-frame-at-spec : {M : Type 1} → statement M
 sound-frame-at-spec =

@@ -14,7 +14,9 @@ le64-at-requires c κs = search needs
 
 add-end : tie.Need-add-end
 unfolding H numberAt part
-add-end c = let held = holdsHeader⁻¹ _ (c .before .before .pre) in omega arith
+add-end c =
+    let pre = c .before .before .pre in
+    let held = holdsHeader⁻¹ _ (pre) in omega arith
 
 le64-at-requires-2 : tie.Need-le64-at-requires-2
 le64-at-requires-2 c κs = search needs
@@ -27,7 +29,9 @@ part-checksum-start c = search needs
 
 part-checksum-end : tie.Need-part-checksum-end
 unfolding H numberAt part
-part-checksum-end c = let held = holdsHeader⁻¹ _ (c .before .before .before .pre) in omega arith
+part-checksum-end c =
+    let pre = c .before .before .before .pre in
+    let held = holdsHeader⁻¹ _ (pre) in omega arith
 
 checksum-requires : tie.Need-checksum-requires
 checksum-requires c κs = search needs
@@ -35,8 +39,9 @@ checksum-requires c κs = search needs
 returns : tie.Need-returns
 unfolding H numberAt part
 returns c =
-    rw (c .before .before .le64-at2 .ensures, c .checksum .ensures)
-    (sym (headerCrcRight-by _ _ (c .before .before .before .le64-at .ensures)))
+    let le64-at2 = c .before .before .le64-at2 in
+    let le64-at = c .before .before .before .le64-at in
+    rw (le64-at2 .ensures, c .checksum .ensures) (sym (headerCrcRight-by _ _ (le64-at .ensures)))
 
 pub crc-right-spec : {M : Type 1} → statement M
 crc-right-spec =

@@ -37,7 +37,9 @@ begins-with-requires c κs = search needs
 -- the test of the codec, over the rest that is lent
 codec : (c : tie.After-begins-with) → c .begins-with .result ≡ begins codecNone (drop 72 (c .before .before .before .before .args .file .now))
 unfolding codecNone
-codec c = c .begins-with .ensures ∙ codec-lent (c .before .before .before .before .args .file .now)
+codec c =
+    let args = c .before .before .before .before .args in
+    c .begins-with .ensures ∙ codec-lent (args .file .now)
 
 returns : tie.Need-returns
 unfolding meaning
@@ -59,7 +61,9 @@ le64-at-requires-2 c κs = search needs
 
 add-end : tie.Need-add-end
 unfolding H M numberAt part
-add-end c = omega (arith, within (c .before .before .before .before .before .before .before .before))
+add-end c =
+    let before = c .before .before .before .before .before .before .before .before in
+    omega (arith, within (before))
 
 sub-is-metadata : tie.Need-sub-is-metadata
 sub-is-metadata c = search needs
@@ -69,7 +73,9 @@ part-is-metadata-start c = search needs
 
 part-is-metadata-end : tie.Need-part-is-metadata-end
 unfolding H M numberAt part
-part-is-metadata-end c = omega (arith, within (c .before .before .before .before .before .before .before .before))
+part-is-metadata-end c =
+    let before = c .before .before .before .before .before .before .before .before in
+    omega (arith, within (before))
 
 is-metadata-requires : tie.Need-is-metadata-requires
 is-metadata-requires c κs = search needs
@@ -82,14 +88,17 @@ total c = sym (c .before .le64-at .ensures) ∙ c .if2 .left
 -- the test of the metadata, over the part that is lent
 metadata : (c : tie.After-is-metadata) → let file = c .before .before .before .before .before .before .before .before .before .before .args .file .now in c .is-metadata .result ≡ isMetadata (part file 96 (M file))
 unfolding M numberAt part
-metadata c = c .is-metadata .ensures ∙ metadata-lent (c .before .before .before .before .before .before .before .before .before .before .args .file .now) _ (c .before .before .le64-at2 .ensures)
+metadata c =
+    let args = c .before .before .before .before .before .before .before .before .before .before .args in
+    let le64-at2 = c .before .before .le64-at2 in
+    c .is-metadata .ensures ∙ metadata-lent (args .file .now) _ (le64-at2 .ensures)
 
 returns-3 : tie.Need-returns-3
 unfolding meaning
 returns-3 c =
-    sym
-    (fields-metadata _ (codec-none (c .before .before .before .before .before .before)) (total (c .before .before .before .before))
-    (sym (metadata (c .before)) ∙ not-true _ (c .if3 .taken)))
+    let before = c .before .before .before .before .before .before in
+    let the-before = c .before .before .before .before in
+    sym (fields-metadata _ (codec-none (before)) (total (the-before)) (sym (metadata (c .before)) ∙ not-true _ (c .if3 .taken)))
 
 le64-at-requires-3 : tie.Need-le64-at-requires-3
 le64-at-requires-3 c κs = search needs
@@ -104,10 +113,10 @@ returns-4 : tie.Need-returns-4
 unfolding meaning H M numberAt part numbersOf
 returns-4 c =
     let b = c .before .before .before in
-    rw (c .le64-at5 .ensures, c .before .le64-at4 .ensures, c .before .before .le64-at3 .ensures, b .before .before .before .le64-at2 .ensures)
-    (sym
-    (fields-good _ (codec-none (b .before .before .before .before .before .before)) (total (b .before .before .before .before))
-    (sym (metadata (b .before)) ∙ not-false _ (b .if3 .left))))
+    let le64-at3 = c .before .before .le64-at3 in
+    rw (c .le64-at5 .ensures, c .before .le64-at4 .ensures, le64-at3 .ensures, b .before .before .before .le64-at2 .ensures) (sym
+    (fields-good _ (codec-none (b .before .before .before .before .before .before)) (total (b .before .before .before .before)) (sym
+    (metadata (b .before)) ∙ not-false _ (b .if3 .left))))
 
 pub fields-spec : {M : Type 1} → statement M
 fields-spec =

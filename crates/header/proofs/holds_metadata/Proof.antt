@@ -22,8 +22,8 @@ le64-at-requires-2 c κs = search needs
 returns-2 : tie.Need-returns-2
 unfolding H M numberAt part
 returns-2 c =
-    rw (c .le64-at2 .ensures, c .before .before .le64-at .ensures)
-    (sym (holdsMetadata-long _ (omega arith)))
+    let le64-at = c .before .before .le64-at in
+    rw (c .le64-at2 .ensures, le64-at .ensures) (sym (holdsMetadata-long _ (omega arith)))
 
 pub holds-metadata-spec : {M : Type 1} → statement M
 holds-metadata-spec = tie.close (tie.spec le64-at-requires returns le64-at-requires-2 returns-2)

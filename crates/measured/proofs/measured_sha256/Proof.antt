@@ -7,7 +7,9 @@ use Rattle.measured.proofs.measured_sha256.Statement.{statement}
 use Rattle.measured.proofs.measured_sha256.Tie as tie
 
 returns : tie.Need-returns
-returns c = digestStart-long (now (c .before .before .args .bytes)) (c .if1 .taken)
+returns c =
+    let args = c .before .before .args in
+    digestStart-long (now (args .bytes)) (c .if1 .taken)
 
 begin-requires : tie.Need-begin-requires
 begin-requires c κs = search needs
@@ -25,7 +27,13 @@ le64-at-requires : tie.Need-le64-at-requires
 le64-at-requires c κs = search needs
 
 returns-2 : tie.Need-returns-2
-returns-2 c = c .le64-at .ensures ∙ finished-at-once (now (c .before .before .before .before .before .before .before .args .bytes)) (c .before .before .before .before .before .if1 .left) _ (c .before .before .before .before .begin .ensures) _ (c .before .before .before .absorb .ensures) _ (c .before .before .finish .ensures)
+returns-2 c =
+    let args = c .before .before .before .before .before .before .before .args in
+    let if1 = c .before .before .before .before .before .if1 in
+    let begin = c .before .before .before .before .begin in
+    let absorb = c .before .before .before .absorb in
+    let finish = c .before .before .finish in
+    c .le64-at .ensures ∙ finished-at-once (now (args .bytes)) (if1 .left) _ (begin .ensures) _ (absorb .ensures) _ (finish .ensures)
 
 pub measured-sha256-spec : {M : Type 1} → statement M
 measured-sha256-spec =

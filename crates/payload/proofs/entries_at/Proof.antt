@@ -21,10 +21,14 @@ abbrev μ-loop : tie.MeasureT-loop
 
 returns : tie.Need-returns Inv-loop μ-loop
 unfolding payload entriesAt
-returns c place = sym (scanned-empty (λ p. entryAt p (now (c .before .before .args .s))) (λ e. e .key) (now (c .before .before .args .s)) (c .before .before .args .from) 21 (c .if1 .taken) place)
+returns c place =
+    let args = c .before .before .args in
+    sym (scanned-empty (λ p. entryAt p (now (args .s))) (λ e. e .key) (now (args .s)) (args .from) 21 (c .if1 .taken) place)
 
 loop-holds : tie.Need-loop-holds Inv-loop μ-loop
-loop-holds c = scanned-start (λ p. entryAt p (now (c .before .before .args .s))) (λ e. e .key) (now (c .before .before .args .s)) (c .before .before .args .from) (omega arith)
+loop-holds c =
+    let args = c .before .before .args in
+    scanned-start (λ p. entryAt p (now (args .s))) (λ e. e .key) (now (args .s)) (args .from) (omega arith)
 
 entry-at-requires : tie.Need-entry-at-requires Inv-loop μ-loop
 entry-at-requires c κs = search needs
@@ -35,8 +39,13 @@ enum-known-step c = search needs
 returns-2 : tie.Need-returns-2 Inv-loop μ-loop
 unfolding payload entriesAt entry
 returns-2 c place =
-    sym
-    (scanned-refused (λ p. entryAt p (now (c .before .before .before .before .before .before .before .before .args .s))) (λ e. e .key) (now (c .before .before .before .before .before .before .before .before .args .s)) (c .before .before .before .before .before .before .before .before .args .from) 21 _ _ _ _ _ (c .before .before .before .before .before .before .if1 .left) (c .before .before .before .before .before .loop .inv) (c .before .before .before .before .loop-test .taken) _ place (sym (c .before .before .before .entry-at .ensures .0 place) ∙ ap (entry place (now (c .before .before .before .before .before .before .before .before .args .s))) (c .before .step .given .1)))
+    let args = c .before .before .before .before .before .before .before .before .args in
+    let if1 = c .before .before .before .before .before .before .if1 in
+    let loop = c .before .before .before .before .before .loop in
+    let loop-test = c .before .before .before .before .loop-test in
+    let entry-at = c .before .before .before .entry-at in
+    sym (scanned-refused (λ p. entryAt p (now (args .s))) (λ e. e .key) (now (args .s)) (args .from) 21 _ _ _ _ _ (if1 .left) (loop .inv)
+    (loop-test .taken) _ place (sym (entry-at .ensures .0 place) ∙ ap (entry place (now (args .s))) (c .before .step .given .1)))
 
 enum-known-step-2 : tie.Need-enum-known-step-2 Inv-loop μ-loop
 enum-known-step-2 c = search needs
@@ -44,50 +53,62 @@ enum-known-step-2 c = search needs
 still-rising-requires : tie.Need-still-rising-requires Inv-loop μ-loop
 unfolding entry
 still-rising-requires c κs =
-    let e = (sym (c .before .before .before .entry-at .ensures .0 0) ∙ ap (entry 0 (now (c .before .before .before .before .before .before .before .before .args .s))) (c .before .step2 .given .1)) in
-    let t = entry⇒Entered 0 (now (c .before .before .before .before .before .before .before .before .args .s)) (c .before .before .before .before .before .loop .at) _ e in
-    let forward = t .forward in
-    let within = t .within in
-    let inside : c .before .step2 .given .0 .0 + c .before .step2 .given .0 .1 .0 ≤ length (now (c .before .before .before .before .before .before .before .before .args .s)) = within-told _ _ _ _ _ _ _ (c .before .step2 .given .1) (c .before .before .before .entry-at .ensures .1) in
-    let p = c .before .before .before .before .before .loop .inv in
-    let l = p .last-within in
-    omega arith
+    let entry-at = c .before .before .before .entry-at in
+    let args = c .before .before .before .before .before .before .before .before .args in
+    let loop = c .before .before .before .before .before .loop in
+    let e = (sym (entry-at .ensures .0 0) ∙ ap (entry 0 (now (args .s))) (c .before .step2 .given .1)) in let t = entry⇒Entered 0 (now
+    (args .s)) (loop .at) _ e in let forward = t .forward in let within = t .within in let inside : c .before .step2 .given .0 .0 +
+    c .before .step2 .given .0 .1 .0 ≤ length (now (args .s)) = within-told _ _ _ _ _ _ _ (c .before .step2 .given .1)
+    (entry-at .ensures .1) in let p = loop .inv in let l = p .last-within in omega arith
 
 add-count : tie.Need-add-count Inv-loop μ-loop
 add-count c =
-    let p = c .before .before .before .before .before .before .loop .inv in
-    let few = p .few in
-    let within = p .within in
-    omega (arith, c .before .before .before .before .before .before .before .before .before .good)
+    let loop = c .before .before .before .before .before .before .loop in
+    let good = c .before .before .before .before .before .before .before .before .before .good in
+    let p = loop .inv in let few = p .few in let within = p .within in omega (arith, good)
 
 loop-less : tie.Need-loop-less Inv-loop μ-loop
 unfolding entry
 loop-less c =
-    let e = (sym (c .before .before .before .before .entry-at .ensures .0 0) ∙ ap (entry 0 (now (c .before .before .before .before .before .before .before .before .before .args .s))) (c .before .before .step2 .given .1)) in
-    let t = entry⇒Entered 0 (now (c .before .before .before .before .before .before .before .before .before .args .s)) (c .before .before .before .before .before .before .loop .at) _ e in
-    let forward = t .forward in
-    let within = t .within in
-    let inside : c .before .before .step2 .given .0 .0 + c .before .before .step2 .given .0 .1 .0 ≤ length (now (c .before .before .before .before .before .before .before .before .before .args .s)) = within-told _ _ _ _ _ _ _ (c .before .before .step2 .given .1) (c .before .before .before .before .entry-at .ensures .1) in
-    omega arith
+    let entry-at = c .before .before .before .before .entry-at in
+    let args = c .before .before .before .before .before .before .before .before .before .args in
+    let step2 = c .before .before .step2 in
+    let loop = c .before .before .before .before .before .before .loop in
+    let e = (sym (entry-at .ensures .0 0) ∙ ap (entry 0 (now (args .s))) (step2 .given .1)) in let t = entry⇒Entered 0 (now (args .s))
+    (loop .at) _ e in let forward = t .forward in let within = t .within in let inside : step2 .given .0 .0 + step2 .given .0 .1 .0 ≤ length
+    (now (args .s)) = within-told _ _ _ _ _ _ _ (step2 .given .1) (entry-at .ensures .1) in omega arith
 
 loop-again : tie.Need-loop-again Inv-loop μ-loop
 unfolding entry textIn
 loop-again c =
-    let e = (sym (c .before .before .before .before .entry-at .ensures .0 0) ∙ ap (entry 0 (now (c .before .before .before .before .before .before .before .before .before .args .s))) (c .before .before .step2 .given .1)) in
-    let t = entry⇒Entered 0 (now (c .before .before .before .before .before .before .before .before .before .args .s)) (c .before .before .before .before .before .before .loop .at) _ e in
-    let forward = t .forward in
-    let within = t .within in
-    let inside : c .before .before .step2 .given .0 .0 + c .before .before .step2 .given .0 .1 .0 ≤ length (now (c .before .before .before .before .before .before .before .before .before .args .s)) = within-told _ _ _ _ _ _ _ (c .before .before .step2 .given .1) (c .before .before .before .before .entry-at .ensures .1) in
-    scanned-more (λ p. entryAt p (now (c .before .before .before .before .before .before .before .before .before .args .s))) (λ e. e .key) (now (c .before .before .before .before .before .before .before .before .before .args .s)) (c .before .before .before .before .before .before .before .before .before .args .from) _ _ _ _ _ (c .before .before .before .before .before .before .loop .inv) (c .before .before .before .before .before .loop-test .taken) _ _ _ _
-    (λ place. sym (c .before .before .before .before .entry-at .ensures .0 place) ∙ ap (entry place (now (c .before .before .before .before .before .before .before .before .before .args .s))) (c .before .before .step2 .given .1)) refl (omega arith) (omega arith) (omega arith) _ (c .still-rising .ensures)
+    let entry-at = c .before .before .before .before .entry-at in
+    let args = c .before .before .before .before .before .before .before .before .before .args in
+    let step2 = c .before .before .step2 in
+    let loop = c .before .before .before .before .before .before .loop in
+    let loop-test = c .before .before .before .before .before .loop-test in
+    let e = (sym (entry-at .ensures .0 0) ∙ ap (entry 0 (now (args .s))) (step2 .given .1)) in let t = entry⇒Entered 0 (now (args .s))
+    (loop .at) _ e in let forward = t .forward in let within = t .within in let inside : step2 .given .0 .0 + step2 .given .0 .1 .0 ≤ length
+    (now (args .s)) = within-told _ _ _ _ _ _ _ (step2 .given .1) (entry-at .ensures .1) in scanned-more (λ p. entryAt p (now (args .s))) (λ
+    e. e .key) (now (args .s)) (args .from) _ _ _ _ _ (loop .inv) (loop-test .taken) _ _ _ _ (λ place. sym (entry-at .ensures .0 place) ∙ ap
+    (entry place (now (args .s))) (step2 .given .1)) refl (omega arith) (omega arith) (omega arith) _ (c .still-rising .ensures)
 
 returns-3 : tie.Need-returns-3 Inv-loop μ-loop
 unfolding payload entriesAt
-returns-3 c place = sym (scanned-sound (λ p. entryAt p (now (c .before .before .before .before .before .args .s))) (λ e. e .key) (now (c .before .before .before .before .before .args .s)) (c .before .before .before .before .before .args .from) 21 _ _ _ _ _ (c .before .before .before .if1 .left) (c .before .before .loop .inv) (c .before .loop-test .left) (c .if2 .taken) place)
+returns-3 c place =
+    let args = c .before .before .before .before .before .args in
+    let if1 = c .before .before .before .if1 in
+    let loop = c .before .before .loop in
+    sym (scanned-sound (λ p. entryAt p (now (args .s))) (λ e. e .key) (now (args .s)) (args .from) 21 _ _ _ _ _ (if1 .left) (loop .inv)
+    (c .before .loop-test .left) (c .if2 .taken) place)
 
 returns-4 : tie.Need-returns-4 Inv-loop μ-loop
 unfolding payload entriesAt
-returns-4 c place = sym (scanned-unsorted (λ p. entryAt p (now (c .before .before .before .before .before .args .s))) (λ e. e .key) (now (c .before .before .before .before .before .args .s)) (c .before .before .before .before .before .args .from) 21 _ _ _ _ _ (c .before .before .before .if1 .left) (c .before .before .loop .inv) (c .before .loop-test .left) (c .if2 .left) place)
+returns-4 c place =
+    let args = c .before .before .before .before .before .args in
+    let if1 = c .before .before .before .if1 in
+    let loop = c .before .before .loop in
+    sym (scanned-unsorted (λ p. entryAt p (now (args .s))) (λ e. e .key) (now (args .s)) (args .from) 21 _ _ _ _ _ (if1 .left) (loop .inv)
+    (c .before .loop-test .left) (c .if2 .left) place)
 
 pub entries-at-spec : {M : Type 1} → statement M
 entries-at-spec =

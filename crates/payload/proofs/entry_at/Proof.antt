@@ -21,9 +21,11 @@ enum-known-text-2 c = search needs
 add-number-at : tie.Need-add-number-at
 unfolding text
 add-number-at c =
-    let t = text⇒Placed 0 (now (c .before .before .before .before .before .args .s)) (c .before .before .before .before .before .args .at) _ (sym (c .before .before .before .text-at .ensures 0) ∙ ap (text 0 (now (c .before .before .before .before .before .args .s))) (c .before .text2 .given .1)) in
-    let within = t .within in
-    omega (arith, c .before .before .before .before .before .good)
+    let args = c .before .before .before .before .before .args in
+    let text-at = c .before .before .before .text-at in
+    let good = c .before .before .before .before .before .good in
+    let t = text⇒Placed 0 (now (args .s)) (args .at) _ (sym (text-at .ensures 0) ∙ ap (text 0 (now (args .s))) (c .before .text2 .given .1))
+    in let within = t .within in omega (arith, good)
 
 number-at-requires : tie.Need-number-at-requires
 number-at-requires c κs = search needs
@@ -37,20 +39,46 @@ enum-known-first-2 c = search needs
 sized-requires : tie.Need-sized-requires
 unfolding text
 sized-requires c κs =
-    let t = text⇒Placed 0 (now (c .before .before .before .before .before .before .before .before .before .args .s)) (c .before .before .before .before .before .before .before .before .before .args .at) _ (sym (c .before .before .before .before .before .before .before .text-at .ensures 0) ∙ ap (text 0 (now (c .before .before .before .before .before .before .before .before .before .args .s))) (c .before .before .before .before .before .text2 .given .1)) in
+    let args = c .before .before .before .before .before .before .before .before .before .args in
+    let text-at = c .before .before .before .before .before .before .before .text-at in
+    let text2 = c .before .before .before .before .before .text2 in
+    let t = text⇒Placed 0 (now (args .s)) (args .at) _ (sym (text-at .ensures 0) ∙ ap (text 0 (now (args .s))) (text2 .given .1)) in
     t .within
 
 returns : tie.Need-returns
 unfolding text entry KeyWithin
-returns c = (λ place. sym (entry-keyless place (now (c .before .before .before .before .before .args .s)) (c .before .before .before .before .before .args .at) _ place (sym (c .before .before .before .text-at .ensures place) ∙ ap (text place (now (c .before .before .before .before .before .args .s))) (c .before .text .given .1))), tt)
+returns c =
+    let args = c .before .before .before .before .before .args in
+    let text-at = c .before .before .before .text-at in (
+      λ place. sym (entry-keyless place (now (args .s)) (args .at) _ place (sym (text-at .ensures place) ∙ ap (text place (now (args .s)))
+          (c .before .text .given .1))),
+      tt,
+    )
 
 returns-2 : tie.Need-returns-2
 unfolding text number entry KeyWithin
-returns-2 c = (λ place. sym (entry-refused place (now (c .before .before .before .before .before .before .before .before .before .args .s)) (c .before .before .before .before .before .before .before .before .before .args .at) _ _ place (sym (c .before .before .before .before .before .before .before .text-at .ensures place) ∙ ap (text place (now (c .before .before .before .before .before .before .before .before .before .args .s))) (c .before .before .before .before .before .text2 .given .1)) (sym (c .before .before .before .number-at .ensures place) ∙ ap (number place) (c .before .first .given .1))), tt)
+returns-2 c =
+    let args = c .before .before .before .before .before .before .before .before .before .args in
+    let text-at = c .before .before .before .before .before .before .before .text-at in
+    let text2 = c .before .before .before .before .before .text2 in
+    let number-at = c .before .before .before .number-at in (
+      λ place. sym (entry-refused place (now (args .s)) (args .at) _ _ place (sym (text-at .ensures place) ∙ ap (text place (now (args .s)))
+          (text2 .given .1)) (sym (number-at .ensures place) ∙ ap (number place) (c .before .first .given .1))),
+      tt,
+    )
 
 returns-3 : tie.Need-returns-3
 unfolding text number entry
-returns-3 c = (λ place. c .sized .ensures .0 place ∙ sym (entry-read place (now (c .before .before .before .before .before .before .before .before .before .before .args .s)) (c .before .before .before .before .before .before .before .before .before .before .args .at) _ _ (sym (c .before .before .before .before .before .before .before .before .text-at .ensures place) ∙ ap (text place (now (c .before .before .before .before .before .before .before .before .before .before .args .s))) (c .before .before .before .before .before .before .text2 .given .1)) (sym (c .before .before .before .before .number-at .ensures place) ∙ ap (number place) (c .before .before .first2 .given .1))), c .sized .ensures .1)
+returns-3 c =
+    let args = c .before .before .before .before .before .before .before .before .before .before .args in
+    let text-at = c .before .before .before .before .before .before .before .before .text-at in
+    let text2 = c .before .before .before .before .before .before .text2 in
+    let number-at = c .before .before .before .before .number-at in
+    let first2 = c .before .before .first2 in (
+      λ place. c .sized .ensures .0 place ∙ sym (entry-read place (now (args .s)) (args .at) _ _ (sym (text-at .ensures place) ∙ ap (text
+          place (now (args .s))) (text2 .given .1)) (sym (number-at .ensures place) ∙ ap (number place) (first2 .given .1))),
+      c .sized .ensures .1,
+    )
 
 pub entry-at-spec : {M : Type 1} → statement M
 entry-at-spec =

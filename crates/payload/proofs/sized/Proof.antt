@@ -21,11 +21,24 @@ enum-known-number-2 c = search needs
 
 returns : tie.Need-returns
 unfolding number entry entrySized KeyWithin
-returns c = (λ place. sym (bind-refused (numberAt 15 place (now (c .before .before .before .before .before .args .s)) (c .before .before .before .before .before .args .at)) _ _ place (sym (c .before .before .before .number-at .ensures place) ∙ ap (number place) (c .before .number .given .1))), tt)
+returns c =
+    let args = c .before .before .before .before .before .args in
+    let number-at = c .before .before .before .number-at in (
+      λ place. sym (bind-refused (numberAt 15 place (now (args .s)) (args .at)) _ _ place (sym (number-at .ensures place) ∙ ap (number place)
+          (c .before .number .given .1))),
+      tt,
+    )
 
 returns-2 : tie.Need-returns-2
 unfolding number entry entrySized KeyWithin
-returns-2 c = (λ place. sym (bind-answer (numberAt 15 place (now (c .before .before .before .before .before .args .s)) (c .before .before .before .before .before .args .at)) _ _ (sym (c .before .before .before .number-at .ensures place) ∙ ap (number place) (c .before .number2 .given .1))), c .before .before .before .before .before .pre)
+returns-2 c =
+    let args = c .before .before .before .before .before .args in
+    let number-at = c .before .before .before .number-at in
+    let pre = c .before .before .before .before .before .pre in (
+      λ place. sym (bind-answer (numberAt 15 place (now (args .s)) (args .at)) _ _ (sym (number-at .ensures place) ∙ ap (number place)
+          (c .before .number2 .given .1))),
+      pre,
+    )
 
 pub sized-spec : {M : Type 1} → statement M
 sized-spec =

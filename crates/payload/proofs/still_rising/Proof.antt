@@ -36,7 +36,10 @@ at-most-requires c κs = search needs
 
 returns : tie.Need-returns
 unfolding part
-returns c = still _ _ _ (c .before .before .before .if1 .taken) (c .at-most .ensures ∙ ap₂ atMost (lent _ (c .before .before .before .before .before .args .last) (c .before .before .before .before .before .args .size)) (lent _ (c .before .before .before .before .before .args .next) (c .before .before .before .before .before .args .n)))
+returns c =
+    let if1 = c .before .before .before .if1 in
+    let args = c .before .before .before .before .before .args in
+    still _ _ _ (if1 .taken) (c .at-most .ensures ∙ ap₂ atMost (lent _ (args .last) (args .size)) (lent _ (args .next) (args .n)))
 
 returns-2 : tie.Need-returns-2
 returns-2 c = no-longer _ _ (c .if1 .left)

@@ -22,23 +22,36 @@ enum-known-number-2 c = search needs
 sub-if1 : tie.Need-sub-if1
 unfolding number
 sub-if1 c =
-    let n = numbered 15 0 (now (c .before .before .before .before .before .args .s)) (c .before .before .before .before .before .args .at) _ (sym (c .before .before .before .number-at .ensures 0) ∙ ap (number 0) (c .before .number2 .given .1)) in
-    omega arith
+    let args = c .before .before .before .before .before .args in
+    let number-at = c .before .before .before .number-at in
+    let n = numbered 15 0 (now (args .s)) (args .at) _ (sym (number-at .ensures 0) ∙ ap (number 0) (c .before .number2 .given .1)) in omega
+    arith
 
 returns : tie.Need-returns
 unfolding number text
-returns c place = sym (text-refused place (now (c .before .before .before .before .before .args .s)) (c .before .before .before .before .before .args .at) _ place (sym (c .before .before .before .number-at .ensures place) ∙ ap (number place) (c .before .number .given .1)))
+returns c place =
+    let args = c .before .before .before .before .before .args in
+    let number-at = c .before .before .before .number-at in
+    sym (text-refused place (now (args .s)) (args .at) _ place (sym (number-at .ensures place) ∙ ap (number place)
+    (c .before .number .given .1)))
 
 returns-2 : tie.Need-returns-2
 unfolding number text
 returns-2 c place =
-    let e = (sym (c .before .before .before .before .number-at .ensures place) ∙ ap (number place) (c .before .before .number2 .given .1)) in
-    let n = numbered 15 place (now (c .before .before .before .before .before .before .args .s)) (c .before .before .before .before .before .before .args .at) _ e in
-    sym (text-found place (now (c .before .before .before .before .before .before .args .s)) (c .before .before .before .before .before .before .args .at) _ e (omega arith))
+    let number-at = c .before .before .before .before .number-at in
+    let number2 = c .before .before .number2 in
+    let args = c .before .before .before .before .before .before .args in
+    let e = (sym (number-at .ensures place) ∙ ap (number place) (number2 .given .1)) in let n = numbered 15 place (now (args .s)) (args .at)
+    _ e in sym (text-found place (now (args .s)) (args .at) _ e (omega arith))
 
 returns-3 : tie.Need-returns-3
 unfolding number text
-returns-3 c place = sym (text-short place (now (c .before .before .before .before .before .before .args .s)) (c .before .before .before .before .before .before .args .at) _ (sym (c .before .before .before .before .number-at .ensures place) ∙ ap (number place) (c .before .before .number2 .given .1)) (omega arith))
+returns-3 c place =
+    let args = c .before .before .before .before .before .before .args in
+    let number-at = c .before .before .before .before .number-at in
+    let number2 = c .before .before .number2 in
+    sym (text-short place (now (args .s)) (args .at) _ (sym (number-at .ensures place) ∙ ap (number place) (number2 .given .1)) (omega
+    arith))
 
 pub text-at-spec : {M : Type 1} → statement M
 text-at-spec =

@@ -16,7 +16,9 @@ begins-with-requires : tie.Need-begins-with-requires
 begins-with-requires c κs = search needs
 
 returns-2 : tie.Need-returns-2
-returns-2 c = c .begins-with .ensures ∙ sym (admitsPrefix-last _ _ (sym (c .before .before .at-most .ensures) ∙ c .before .if1 .left))
+returns-2 c =
+    let at-most = c .before .before .at-most in
+    c .begins-with .ensures ∙ sym (admitsPrefix-last _ _ (sym (at-most .ensures) ∙ c .before .if1 .left))
 
 pub admits-prefix-spec : {M : Type 1} → statement M
 admits-prefix-spec = tie.close (tie.spec at-most-requires returns begins-with-requires returns-2)

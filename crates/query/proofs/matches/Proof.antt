@@ -28,11 +28,11 @@ begins-with-requires c κs = search needs
 returns-3 : tie.Need-returns-3
 unfolding queryOf
 returns-3 c =
-    c .begins-with .ensures
-    ∙ sym
-    (matches-last _ _
-    (sym (c .before .before .before .before .at-most .ensures) ∙ not-false _ (c .before .before .before .if1 .left))
-    (sym (c .before .before .before-stop .ensures) ∙ not-false _ (c .before .if2 .left)))
+    let at-most = c .before .before .before .before .at-most in
+    let if1 = c .before .before .before .if1 in
+    let before-stop = c .before .before .before-stop in
+    c .begins-with .ensures ∙ sym (matches-last _ _ (sym (at-most .ensures) ∙ not-false _ (if1 .left)) (sym (before-stop .ensures) ∙
+    not-false _ (c .before .if2 .left)))
 
 pub matches-spec : {M : Type 1} → statement M
 matches-spec =

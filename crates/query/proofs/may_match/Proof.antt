@@ -54,13 +54,16 @@ admits-prefix-requires-2 c κs = search needs
 returns-5 : tie.Need-returns-5
 unfolding queryOf
 returns-5 c =
-    c .admits-prefix2 .ensures
-    ∙ sym
-    (mayMatch-last _ _ _
-    (sym (c .before .before .before .before .before .before .before .before .reaches .ensures) ∙ not-false _ (c .before .before .before .before .before .before .before .if1 .left))
-    (sym (c .before .before .before .before .before .before .reaches2 .ensures) ∙ not-false _ (c .before .before .before .before .before .if2 .left))
-    (sym (c .before .before .before .before .reaches3 .ensures) ∙ not-false _ (c .before .before .before .if3 .left))
-    (sym (c .before .before .admits-prefix .ensures) ∙ not-false _ (c .before .if4 .left)))
+    let reaches = c .before .before .before .before .before .before .before .before .reaches in
+    let if1 = c .before .before .before .before .before .before .before .if1 in
+    let reaches2 = c .before .before .before .before .before .before .reaches2 in
+    let if2 = c .before .before .before .before .before .if2 in
+    let reaches3 = c .before .before .before .before .reaches3 in
+    let if3 = c .before .before .before .if3 in
+    let admits-prefix = c .before .before .admits-prefix in
+    c .admits-prefix2 .ensures ∙ sym (mayMatch-last _ _ _ (sym (reaches .ensures) ∙ not-false _ (if1 .left)) (sym (reaches2 .ensures) ∙
+    not-false _ (if2 .left)) (sym (reaches3 .ensures) ∙ not-false _ (if3 .left)) (sym (admits-prefix .ensures) ∙ not-false _
+    (c .before .if4 .left)))
 
 pub may-match-spec : {M : Type 1} → statement M
 may-match-spec =

@@ -13,9 +13,8 @@ at-most-requires c κs = search needs
 
 returns : tie.Need-returns
 returns c =
-    sym
-    (not-reaches-past _ _ _
-    (upTo-given _ _ _ (c .before .before .if1 .taken) ∙ sym (c .before .at-most .ensures) ∙ not-true _ (c .if2 .taken)))
+    let if1 = c .before .before .if1 in
+    sym (not-reaches-past _ _ _ (upTo-given _ _ _ (if1 .taken) ∙ sym (c .before .at-most .ensures) ∙ not-true _ (c .if2 .taken)))
 
 before-stop-requires : tie.Need-before-stop-requires
 before-stop-requires c κs = search needs

@@ -27,7 +27,15 @@ enum-known-made-2 c = search needs
 
 read-blocks-requires : tie.Need-read-blocks-requires
 unfolding meaning
-read-blocks-requires c κs = (blocks-within (now (c .before .before .before .before .before .before .before .before .before .before .before .before .before .before .args .file)) _ (sym (c .before .before .before .before .read .ensures) ∙ ap meaning (c .before .before .made2 .given .1)), still-zeros (now (c .before .before .before .before .before .before .before .before .before .before .before .before .before .before .args .results)) _ (c .before .before .before .before .before .before .before .clear .ensures))
+read-blocks-requires c κs =
+    let args = c .before .before .before .before .before .before .before .before .before .before .before .before .before .before .args in
+    let read = c .before .before .before .before .read in
+    let made2 = c .before .before .made2 in
+    let clear = c .before .before .before .before .before .before .before .clear in (
+      blocks-within (now (args .file)) _ (sym (read .ensures) ∙ ap meaning (made2 .given .1)),
+      still-zeros (now (args .results)) _
+          (clear .ensures),
+    )
 
 same-length : tie.Need-same-length
 same-length c = search needs
@@ -35,14 +43,27 @@ same-length c = search needs
 returns : tie.Need-returns
 unfolding meaning
 returns c =
-    told-refusal _ _ _ _ (header-refuses (now (c .before .before .before .before .before .before .before .before .before .before .before .before .before .before .args .file)) (queryOf (now (c .before .before .before .before .before .before .before .before .before .before .before .before .before .before .args .start)) (c .before .before .before .before .before .before .before .before .before .before .before .before .before .before .args .stop-given) (now (c .before .before .before .before .before .before .before .before .before .before .before .before .before .before .args .stop)) (now (c .before .before .before .before .before .before .before .before .before .before .before .before .before .before .args .prefix))) (length (now (c .before .before .before .before .before .before .before .before .before .before .before .before .before .before .args .results))) _ _ (sym (c .before .before .before .before .read .ensures) ∙ ap meaning (c .before .before .made .given .1))) _ _ (c .refusal .ensures) (c .before .before .before .before .before .before .before .clear .ensures)
+    let args = c .before .before .before .before .before .before .before .before .before .before .before .before .before .before .args in
+    let read = c .before .before .before .before .read in
+    let made = c .before .before .made in
+    let clear = c .before .before .before .before .before .before .before .clear in
+    told-refusal _ _ _ _ (header-refuses (now (args .file)) (queryOf (now (args .start)) (args .stop-given) (now (args .stop)) (now
+    (args .prefix))) (length (now (args .results))) _ _ (sym (read .ensures) ∙ ap meaning (made .given .1))) _ _ (c .refusal .ensures)
+    (clear .ensures)
 
 same-length-2 : tie.Need-same-length-2
 same-length-2 c = search needs
 
 returns-2 : tie.Need-returns-2
 unfolding meaning
-returns-2 c = read-behind (now (c .before .before .before .before .before .before .before .before .before .before .before .before .before .before .before .before .before .args .results)) _ (c .before .before .before .before .before .before .before .before .before .before .clear .ensures) (now (c .before .before .before .before .before .before .before .before .before .before .before .before .before .before .before .before .before .args .file)) (queryOf (now (c .before .before .before .before .before .before .before .before .before .before .before .before .before .before .before .before .before .args .start)) (c .before .before .before .before .before .before .before .before .before .before .before .before .before .before .before .before .before .args .stop-given) (now (c .before .before .before .before .before .before .before .before .before .before .before .before .before .before .before .before .before .args .stop)) (now (c .before .before .before .before .before .before .before .before .before .before .before .before .before .before .before .before .before .args .prefix))) _ (sym (c .before .before .before .before .before .before .before .read .ensures) ∙ ap meaning (c .before .before .before .before .before .made2 .given .1)) _ _ (c .before .before .read-blocks .ensures)
+returns-2 c =
+    let args = c .before .before .before .before .before .before .before .before .before .before .before .before .before .before .before .before .before .args in
+    let clear = c .before .before .before .before .before .before .before .before .before .before .clear in
+    let read = c .before .before .before .before .before .before .before .read in
+    let made2 = c .before .before .before .before .before .made2 in
+    let read-blocks = c .before .before .read-blocks in
+    read-behind (now (args .results)) _ (clear .ensures) (now (args .file)) (queryOf (now (args .start)) (args .stop-given) (now
+    (args .stop)) (now (args .prefix))) _ (sym (read .ensures) ∙ ap meaning (made2 .given .1)) _ _ (read-blocks .ensures)
 
 pub read-spec : {M : Type 1} → statement M
 read-spec =

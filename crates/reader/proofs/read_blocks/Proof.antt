@@ -14,8 +14,9 @@ use Rattle.reader.proofs.read_blocks.Tie as tie
 add-from : tie.Need-add-from
 unfolding blocksFrom
 add-from c =
-    let within = c .before .before .before .before .before .pre .0 in
-    omega (arith, c .before .before .before .before .before .good)
+    let pre = c .before .before .before .before .before .pre in
+    let good = c .before .before .before .before .before .good in
+    let within = pre .0 in omega (arith, good)
 
 survey-requires : tie.Need-survey-requires
 survey-requires c κs = search needs
@@ -43,18 +44,42 @@ same-length c = search needs
 
 returns : tie.Need-returns
 unfolding survey blocksFrom
-returns c = read-overflow (now (c .before .before .before .before .before .before .before .before .before .before .before .before .before .before .before .before .before .before .args .file)) (queryOf (now (c .before .before .before .before .before .before .before .before .before .before .before .before .before .before .before .before .before .before .args .start)) (c .before .before .before .before .before .before .before .before .before .before .before .before .before .before .before .before .before .before .args .stop-given) (now (c .before .before .before .before .before .before .before .before .before .before .before .before .before .before .before .before .before .before .args .stop)) (now (c .before .before .before .before .before .before .before .before .before .before .before .before .before .before .before .before .before .before .args .prefix))) (length (now (c .before .before .before .before .before .before .before .before .before .before .before .before .before .before .before .before .before .before .args .results))) (c .before .before .before .before .before .before .before .before .before .before .before .before .before .before .before .before .before .before .args .h) (now (c .before .before .before .before .before .before .before .before .before .before .before .before .before .before .before .before .before .before .args .results)) (c .before .before .before .before .before .before .before .before .before .before .before .before .before .before .before .before .before .before .pre .1) _ _ (c .before .before .before .before .before .before .before .before .collect .ensures) _ (sym (c .before .before .before .before .before .before .before .before .before .before .before .before .survey .ensures) ∙ ap survey (c .before .before .before .before .before .before .before .before .before .before .enum-told .given .1)) (c .before .before .before .before .before .if1 .taken) _ _ (c .refusal2 .ensures) (c .before .before .before .clear .ensures)
+returns c =
+    let args = c .before .before .before .before .before .before .before .before .before .before .before .before .before .before .before .before .before .before .args in
+    let pre = c .before .before .before .before .before .before .before .before .before .before .before .before .before .before .before .before .before .before .pre in
+    let collect = c .before .before .before .before .before .before .before .before .collect in
+    let the-survey = c .before .before .before .before .before .before .before .before .before .before .before .before .survey in
+    let enum-told = c .before .before .before .before .before .before .before .before .before .before .enum-told in
+    let if1 = c .before .before .before .before .before .if1 in
+    let clear = c .before .before .before .clear in
+    read-overflow (now (args .file)) (queryOf (now (args .start)) (args .stop-given) (now (args .stop)) (now (args .prefix))) (length (now
+    (args .results))) (args .h) (now (args .results)) (pre .1) _ _ (collect .ensures) _ (sym (the-survey .ensures) ∙ ap survey
+    (enum-told .given .1)) (if1 .taken) _ _ (c .refusal2 .ensures) (clear .ensures)
 
 returns-2 : tie.Need-returns-2
 unfolding survey blocksFrom
-returns-2 c = read-refused (now (c .before .before .before .before .before .before .before .before .before .before .args .file)) (queryOf (now (c .before .before .before .before .before .before .before .before .before .before .args .start)) (c .before .before .before .before .before .before .before .before .before .before .args .stop-given) (now (c .before .before .before .before .before .before .before .before .before .before .args .stop)) (now (c .before .before .before .before .before .before .before .before .before .before .args .prefix))) (length (now (c .before .before .before .before .before .before .before .before .before .before .args .results))) (c .before .before .before .before .before .before .before .before .before .before .args .h) _ _ (sym (c .before .before .before .before .survey .ensures) ∙ ap survey (c .before .before .stage .given .1)) _ _ (c .refusal .ensures) (c .before .before .before .before .before .before .before .before .before .before .pre .1)
+returns-2 c =
+    let args = c .before .before .before .before .before .before .before .before .before .before .args in
+    let the-survey = c .before .before .before .before .survey in
+    let stage = c .before .before .stage in
+    let pre = c .before .before .before .before .before .before .before .before .before .before .pre in
+    read-refused (now (args .file)) (queryOf (now (args .start)) (args .stop-given) (now (args .stop)) (now (args .prefix))) (length (now
+    (args .results))) (args .h) _ _ (sym (the-survey .ensures) ∙ ap survey (stage .given .1)) _ _ (c .refusal .ensures) (pre .1)
 
 same-length-2 : tie.Need-same-length-2
 same-length-2 c = search needs
 
 returns-3 : tie.Need-returns-3
 unfolding survey blocksFrom
-returns-3 c = read-fit (now (c .before .before .before .before .before .before .before .before .before .before .before .before .before .args .file)) (queryOf (now (c .before .before .before .before .before .before .before .before .before .before .before .before .before .args .start)) (c .before .before .before .before .before .before .before .before .before .before .before .before .before .args .stop-given) (now (c .before .before .before .before .before .before .before .before .before .before .before .before .before .args .stop)) (now (c .before .before .before .before .before .before .before .before .before .before .before .before .before .args .prefix))) (length (now (c .before .before .before .before .before .before .before .before .before .before .before .before .before .args .results))) (c .before .before .before .before .before .before .before .before .before .before .before .before .before .args .h) (now (c .before .before .before .before .before .before .before .before .before .before .before .before .before .args .results)) (c .before .before .before .before .before .before .before .before .before .before .before .before .before .pre .1) _ _ (c .before .before .before .collect .ensures) _ (sym (c .before .before .before .before .before .before .before .survey .ensures) ∙ ap survey (c .before .before .before .before .before .enum-told .given .1)) (c .if1 .left)
+returns-3 c =
+    let args = c .before .before .before .before .before .before .before .before .before .before .before .before .before .args in
+    let pre = c .before .before .before .before .before .before .before .before .before .before .before .before .before .pre in
+    let collect = c .before .before .before .collect in
+    let the-survey = c .before .before .before .before .before .before .before .survey in
+    let enum-told = c .before .before .before .before .before .enum-told in
+    read-fit (now (args .file)) (queryOf (now (args .start)) (args .stop-given) (now (args .stop)) (now (args .prefix))) (length (now
+    (args .results))) (args .h) (now (args .results)) (pre .1) _ _ (collect .ensures) _ (sym (the-survey .ensures) ∙ ap survey
+    (enum-told .given .1)) (c .if1 .left)
 
 pub read-blocks-spec : {M : Type 1} → statement M
 read-blocks-spec =

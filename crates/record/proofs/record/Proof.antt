@@ -12,8 +12,12 @@ is-within-requires c κs = search needs
 
 add-end : tie.Need-add-end
 add-end c =
-    let h = within⁻¹ (now (c .before .before .before .args .file)) (c .before .before .before .args .offset) (c .before .before .before .args .length) (sym (c .before .is-within .ensures) ∙ c .if1 .taken) in
-    omega (arith, c .before .before .before .good)
+    let args = c .before .before .before .args in
+    let good = c .before .before .before .good in
+    let h = within⁻¹ (now (args .file)) (args .offset) (args .length) (sym (c .before .is-within .ensures) ∙ c .if1 .taken) in omega (
+      arith,
+      good,
+    )
 
 sub-result : tie.Need-sub-result
 sub-result c = search needs
@@ -23,17 +27,33 @@ part-result-start c = search needs
 
 part-result-end : tie.Need-part-result-end
 part-result-end c =
-    let h = within⁻¹ (now (c .before .before .before .args .file)) (c .before .before .before .args .offset) (c .before .before .before .args .length) (sym (c .before .is-within .ensures) ∙ c .if1 .taken) in
-    omega (arith, c .before .before .before .good)
+    let args = c .before .before .before .args in
+    let good = c .before .before .before .good in
+    let h = within⁻¹ (now (args .file)) (args .offset) (args .length) (sym (c .before .is-within .ensures) ∙ c .if1 .taken) in omega (
+      arith,
+      good,
+    )
 
 returns : tie.Need-returns
-returns c = (lent-within (now (c .before .before .before .before .args .file)) (c .before .before .before .before .args .offset) (c .before .before .before .before .args .length) (sym (c .before .before .is-within .ensures) ∙ c .before .if1 .taken), place-within (now (c .before .before .before .before .args .file)) (c .before .before .before .before .args .offset) (c .before .before .before .before .args .length) (ptr (c .before .before .before .before .args .file)) (sym (c .before .before .is-within .ensures) ∙ c .before .if1 .taken))
+returns c =
+    let args = c .before .before .before .before .args in
+    let is-within = c .before .before .is-within in (
+      lent-within (now (args .file)) (args .offset) (args .length) (sym (is-within .ensures) ∙ c .before .if1 .taken),
+      place-within (now
+          (args .file)) (args .offset) (args .length) (ptr (args .file)) (sym (is-within .ensures) ∙ c .before .if1 .taken),
+    )
 
 slice-aggregate-result : tie.Need-slice-aggregate-result
 slice-aggregate-result c = search needs
 
 returns-2 : tie.Need-returns-2
-returns-2 c = (sym (record-outside (now (c .before .before .before .before .args .file)) (c .before .before .before .before .args .offset) (c .before .before .before .before .args .length) (sym (c .before .before .is-within .ensures) ∙ c .before .if1 .left)), place-outside (now (c .before .before .before .before .args .file)) (c .before .before .before .before .args .offset) (c .before .before .before .before .args .length) (ptr (c .before .before .before .before .args .file)) (sym (c .before .before .is-within .ensures) ∙ c .before .if1 .left))
+returns-2 c =
+    let args = c .before .before .before .before .args in
+    let is-within = c .before .before .is-within in (
+      sym (record-outside (now (args .file)) (args .offset) (args .length) (sym (is-within .ensures) ∙ c .before .if1 .left)),
+      place-outside
+          (now (args .file)) (args .offset) (args .length) (ptr (args .file)) (sym (is-within .ensures) ∙ c .before .if1 .left),
+    )
 
 pub record-spec : {M : Type 1} → statement M
 record-spec =

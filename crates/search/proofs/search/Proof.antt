@@ -14,7 +14,11 @@ clear-requires-2 : tie.Need-clear-requires-2
 clear-requires-2 c κs = search needs
 
 search-file-requires : tie.Need-search-file-requires
-search-file-requires c κs = both-zeros (now (c .before .before .before .before .before .before .before .before .before .before .before .before .before .before .before .before .args .opened)) (now (c .before .before .before .before .before .before .before .before .before .before .before .before .before .before .before .before .args .results)) _ _ (c .before .before .before .before .before .before .before .before .clear .ensures) (c .before .before .before .before .clear2 .ensures)
+search-file-requires c κs =
+    let args = c .before .before .before .before .before .before .before .before .before .before .before .before .before .before .before .before .args in
+    let clear = c .before .before .before .before .before .before .before .before .clear in
+    let clear2 = c .before .before .before .before .clear2 in
+    both-zeros (now (args .opened)) (now (args .results)) _ _ (clear .ensures) (clear2 .ensures)
 
 enum-known-reached : tie.Need-enum-known-reached
 enum-known-reached c = search needs
@@ -35,7 +39,14 @@ same-length-2 : tie.Need-same-length-2
 same-length-2 c = search needs
 
 returns : tie.Need-returns
-returns c = search-went (now (c .before .before .before .before .before .before .before .before .before .before .before .before .before .before .before .before .before .before .before .before .before .before .before .before .args .opened)) (now (c .before .before .before .before .before .before .before .before .before .before .before .before .before .before .before .before .before .before .before .before .before .before .before .before .args .results)) _ _ (c .before .before .before .before .before .before .before .before .before .before .before .before .before .before .before .before .clear .ensures) (c .before .before .before .before .before .before .before .before .before .before .before .before .clear2 .ensures) (now (c .before .before .before .before .before .before .before .before .before .before .before .before .before .before .before .before .before .before .before .before .before .before .before .before .args .file)) (queryOf (now (c .before .before .before .before .before .before .before .before .before .before .before .before .before .before .before .before .before .before .before .before .before .before .before .before .args .start)) (c .before .before .before .before .before .before .before .before .before .before .before .before .before .before .before .before .before .before .before .before .before .before .before .before .args .stop-given) (now (c .before .before .before .before .before .before .before .before .before .before .before .before .before .before .before .before .before .before .before .before .before .before .before .before .args .stop)) (now (c .before .before .before .before .before .before .before .before .before .before .before .before .before .before .before .before .before .before .before .before .before .before .before .before .args .prefix))) _ _ _ (c .before .before .before .before .before .before .before .search-file .kept .1 .1 .1 .1 .1 .0) (c .before .before .before .before .before .before .before .search-file .kept .1 .1 .1 .1 .1 .1 .0) (c .before .before .before .before .before .before .before .search-file .ensures) _ (c .before .reached .given .1)
+returns c =
+    let args = c .before .before .before .before .before .before .before .before .before .before .before .before .before .before .before .before .before .before .before .before .before .before .before .before .args in
+    let clear = c .before .before .before .before .before .before .before .before .before .before .before .before .before .before .before .before .clear in
+    let clear2 = c .before .before .before .before .before .before .before .before .before .before .before .before .clear2 in
+    let search-file = c .before .before .before .before .before .before .before .search-file in
+    search-went (now (args .opened)) (now (args .results)) _ _ (clear .ensures) (clear2 .ensures) (now (args .file)) (queryOf (now
+    (args .start)) (args .stop-given) (now (args .stop)) (now (args .prefix))) _ _ _ (search-file .kept .1 .1 .1 .1 .1 .0)
+    (search-file .kept .1 .1 .1 .1 .1 .1 .0) (search-file .ensures) _ (c .before .reached .given .1)
 
 same-length-3 : tie.Need-same-length-3
 same-length-3 c = search needs
@@ -44,7 +55,17 @@ same-length-4 : tie.Need-same-length-4
 same-length-4 c = search needs
 
 returns-2 : tie.Need-returns-2
-returns-2 c = search-stopped (now (c .before .before .before .before .before .before .before .before .before .before .before .before .before .before .before .before .before .before .before .before .before .before .before .before .before .before .before .before .before .before .before .before .args .opened)) (now (c .before .before .before .before .before .before .before .before .before .before .before .before .before .before .before .before .before .before .before .before .before .before .before .before .before .before .before .before .before .before .before .before .args .results)) _ _ (c .before .before .before .before .before .before .before .before .before .before .before .before .before .before .before .before .before .before .before .before .before .before .before .before .clear .ensures) (c .before .before .before .before .before .before .before .before .before .before .before .before .before .before .before .before .before .before .before .before .clear2 .ensures) (now (c .before .before .before .before .before .before .before .before .before .before .before .before .before .before .before .before .before .before .before .before .before .before .before .before .before .before .before .before .before .before .before .before .args .file)) (queryOf (now (c .before .before .before .before .before .before .before .before .before .before .before .before .before .before .before .before .before .before .before .before .before .before .before .before .before .before .before .before .before .before .before .before .args .start)) (c .before .before .before .before .before .before .before .before .before .before .before .before .before .before .before .before .before .before .before .before .before .before .before .before .before .before .before .before .before .before .before .before .args .stop-given) (now (c .before .before .before .before .before .before .before .before .before .before .before .before .before .before .before .before .before .before .before .before .before .before .before .before .before .before .before .before .before .before .before .before .args .stop)) (now (c .before .before .before .before .before .before .before .before .before .before .before .before .before .before .before .before .before .before .before .before .before .before .before .before .before .before .before .before .before .before .before .before .args .prefix))) _ _ _ (c .before .before .before .before .before .before .before .before .before .before .before .before .before .before .before .search-file .kept .1 .1 .1 .1 .1 .0) (c .before .before .before .before .before .before .before .before .before .before .before .before .before .before .before .search-file .kept .1 .1 .1 .1 .1 .1 .0) (c .before .before .before .before .before .before .before .before .before .before .before .before .before .before .before .search-file .ensures) _ _ (c .before .before .before .before .before .before .before .before .before .reached2 .given .1) _ _ (c .before .before .before .before .before .before .clear3 .ensures) (c .before .before .clear4 .ensures)
+returns-2 c =
+    let args = c .before .before .before .before .before .before .before .before .before .before .before .before .before .before .before .before .before .before .before .before .before .before .before .before .before .before .before .before .before .before .before .before .args in
+    let clear = c .before .before .before .before .before .before .before .before .before .before .before .before .before .before .before .before .before .before .before .before .before .before .before .before .clear in
+    let clear2 = c .before .before .before .before .before .before .before .before .before .before .before .before .before .before .before .before .before .before .before .before .clear2 in
+    let search-file = c .before .before .before .before .before .before .before .before .before .before .before .before .before .before .before .search-file in
+    let reached2 = c .before .before .before .before .before .before .before .before .before .reached2 in
+    let clear3 = c .before .before .before .before .before .before .clear3 in
+    let clear4 = c .before .before .clear4 in
+    search-stopped (now (args .opened)) (now (args .results)) _ _ (clear .ensures) (clear2 .ensures) (now (args .file)) (queryOf (now
+    (args .start)) (args .stop-given) (now (args .stop)) (now (args .prefix))) _ _ _ (search-file .kept .1 .1 .1 .1 .1 .0)
+    (search-file .kept .1 .1 .1 .1 .1 .1 .0) (search-file .ensures) _ _ (reached2 .given .1) _ _ (clear3 .ensures) (clear4 .ensures)
 
 pub search-spec : {M : Type 1} → statement M
 search-spec =

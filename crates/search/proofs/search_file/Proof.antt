@@ -22,11 +22,25 @@ enum-known-made-2 c = search needs
 
 search-tree-requires : tie.Need-search-tree-requires
 unfolding meaning
-search-tree-requires c κs = (is-header (now (c .before .before .before .before .before .before .before .before .before .before .before .before .args .file)) _ (sym (c .before .before .before .before .before .read .ensures) ∙ ap meaning (c .before .before .before .made2 .given .1)) .small, blocks-within (now (c .before .before .before .before .before .before .before .before .before .before .before .before .args .file)) _ (sym (c .before .before .before .before .before .read .ensures) ∙ ap meaning (c .before .before .before .made2 .given .1)), c .before .before .before .before .before .before .before .before .before .before .before .before .pre .0, c .before .before .before .before .before .before .before .before .before .before .before .before .pre .1)
+search-tree-requires c κs =
+    let args = c .before .before .before .before .before .before .before .before .before .before .before .before .args in
+    let read = c .before .before .before .before .before .read in
+    let made2 = c .before .before .before .made2 in
+    let pre = c .before .before .before .before .before .before .before .before .before .before .before .before .pre in (
+      is-header (now (args .file)) _ (sym (read .ensures) ∙ ap meaning (made2 .given .1)) .small,
+      blocks-within (now (args .file)) _ (sym
+          (read .ensures) ∙ ap meaning (made2 .given .1)),
+      pre .0,
+      pre .1,
+    )
 
 returns : tie.Need-returns
 unfolding meaning
-returns c = header-refuses (now (c .before .before .before .before .before .before .before .before .before .before .args .file)) (queryOf (now (c .before .before .before .before .before .before .before .before .before .before .args .start)) (c .before .before .before .before .before .before .before .before .before .before .args .stop-given) (now (c .before .before .before .before .before .before .before .before .before .before .args .stop)) (now (c .before .before .before .before .before .before .before .before .before .before .args .prefix))) (length (now (c .before .before .before .before .before .before .before .before .before .before .args .opened))) (length (now (c .before .before .before .before .before .before .before .before .before .before .args .results))) _ _ _ _ (sym (c .before .before .before .read .ensures) ∙ ap meaning (c .before .made .given .1))
+returns c =
+    let args = c .before .before .before .before .before .before .before .before .before .before .args in
+    let read = c .before .before .before .read in
+    header-refuses (now (args .file)) (queryOf (now (args .start)) (args .stop-given) (now (args .stop)) (now (args .prefix))) (length (now
+    (args .opened))) (length (now (args .results))) _ _ _ _ (sym (read .ensures) ∙ ap meaning (c .before .made .given .1))
 
 same-length : tie.Need-same-length
 same-length c = search needs
@@ -36,7 +50,13 @@ same-length-2 c = search needs
 
 returns-2 : tie.Need-returns-2
 unfolding meaning
-returns-2 c = header-accepts (now (c .before .before .before .before .before .before .before .before .before .before .before .before .before .before .before .before .before .args .file)) (queryOf (now (c .before .before .before .before .before .before .before .before .before .before .before .before .before .before .before .before .before .args .start)) (c .before .before .before .before .before .before .before .before .before .before .before .before .before .before .before .before .before .args .stop-given) (now (c .before .before .before .before .before .before .before .before .before .before .before .before .before .before .before .before .before .args .stop)) (now (c .before .before .before .before .before .before .before .before .before .before .before .before .before .before .before .before .before .args .prefix))) (length (now (c .before .before .before .before .before .before .before .before .before .before .before .before .before .before .before .before .before .args .opened))) (length (now (c .before .before .before .before .before .before .before .before .before .before .before .before .before .before .before .before .before .args .results))) _ _ _ (sym (c .before .before .before .before .before .before .before .before .before .before .read .ensures) ∙ ap meaning (c .before .before .before .before .before .before .before .before .made2 .given .1)) _ (c .before .before .before .before .search-tree .ensures)
+returns-2 c =
+    let args = c .before .before .before .before .before .before .before .before .before .before .before .before .before .before .before .before .before .args in
+    let read = c .before .before .before .before .before .before .before .before .before .before .read in
+    let made2 = c .before .before .before .before .before .before .before .before .made2 in
+    let search-tree = c .before .before .before .before .search-tree in
+    header-accepts (now (args .file)) (queryOf (now (args .start)) (args .stop-given) (now (args .stop)) (now (args .prefix))) (length (now
+    (args .opened))) (length (now (args .results))) _ _ _ (sym (read .ensures) ∙ ap meaning (made2 .given .1)) _ (search-tree .ensures)
 
 pub search-file-spec : {M : Type 1} → statement M
 search-file-spec =

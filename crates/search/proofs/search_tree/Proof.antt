@@ -13,7 +13,9 @@ use Rattle.search.proofs.search_tree.Tie as tie
 
 add-from : tie.Need-add-from
 unfolding blocksFrom
-add-from c = let within = c .before .before .before .before .before .before .pre .1 in let small = c .before .before .before .before .before .before .pre .0 in omega arith
+add-from c =
+    let pre = c .before .before .before .before .before .before .pre in
+    let within = pre .1 in let small = pre .0 in omega arith
 
 open-requires : tie.Need-open-requires
 open-requires c κs = search needs
@@ -25,14 +27,26 @@ enum-known-root-2 : tie.Need-enum-known-root-2
 enum-known-root-2 c = search needs
 
 walk-requires : tie.Need-walk-requires
-walk-requires c κs = root-asks (now (c .before .before .before .before .before .before .before .before .before .before .before .before .before .before .before .args .file)) (queryOf (now (c .before .before .before .before .before .before .before .before .before .before .before .before .before .before .before .args .start)) (c .before .before .before .before .before .before .before .before .before .before .before .before .before .before .before .args .stop-given) (now (c .before .before .before .before .before .before .before .before .before .before .before .before .before .before .before .args .stop)) (now (c .before .before .before .before .before .before .before .before .before .before .before .before .before .before .before .args .prefix))) (length (now (c .before .before .before .before .before .before .before .before .before .before .before .before .before .before .before .args .opened))) (length (now (c .before .before .before .before .before .before .before .before .before .before .before .before .before .before .before .args .results))) _ (c .before .before .before .before .before .before .before .before .before .before .before .before .before .before .before .args .h .root) (c .before .before .before .before .before .before .before .before .before .before .before .before .before .before .before .args .h .rootsize) _ (c .before .before .before .before .before .before .before .«open» .ensures .0) _ (c .before .before .before .root2 .given .1) (now (c .before .before .before .before .before .before .before .before .before .before .before .before .before .before .before .args .opened)) _ (now (c .before .before .before .before .before .before .before .before .before .before .before .before .before .before .before .args .results)) refl (c .before .before .before .before .before .before .before .«open» .ensures .1) (c .before .before .before .before .before .before .before .before .before .before .before .before .before .before .before .pre .0)
+walk-requires c κs =
+    let args = c .before .before .before .before .before .before .before .before .before .before .before .before .before .before .before .args in
+    let before = c .before .before .before .before .before .before .before in
+    let root2 = c .before .before .before .root2 in
+    let pre = c .before .before .before .before .before .before .before .before .before .before .before .before .before .before .before .pre in
+    root-asks (now (args .file)) (queryOf (now (args .start)) (args .stop-given) (now (args .stop)) (now (args .prefix))) (length (now
+    (args .opened))) (length (now (args .results))) _ (args .h .root) (args .h .rootsize) _ (before .«open» .ensures .0) _ (root2 .given .1)
+    (now (args .opened)) _ (now (args .results)) refl (before .«open» .ensures .1) (pre .0)
 
 same-length : tie.Need-same-length
 same-length c = search needs
 
 returns : tie.Need-returns
 unfolding blocksFrom
-returns c = root-refused (now (c .before .before .before .before .before .before .before .before .before .before .before .before .before .args .file)) (queryOf (now (c .before .before .before .before .before .before .before .before .before .before .before .before .before .args .start)) (c .before .before .before .before .before .before .before .before .before .before .before .before .before .args .stop-given) (now (c .before .before .before .before .before .before .before .before .before .before .before .before .before .args .stop)) (now (c .before .before .before .before .before .before .before .before .before .before .before .before .before .args .prefix))) (length (now (c .before .before .before .before .before .before .before .before .before .before .before .before .before .args .opened))) (length (now (c .before .before .before .before .before .before .before .before .before .before .before .before .before .args .results))) _ (c .before .before .before .before .before .before .before .before .before .before .before .before .before .args .h .root) (c .before .before .before .before .before .before .before .before .before .before .before .before .before .args .h .rootsize) _ (c .before .before .before .before .before .«open» .ensures .0) _ _ (c .before .root .given .1) _ _
+returns c =
+    let args = c .before .before .before .before .before .before .before .before .before .before .before .before .before .args in
+    let before = c .before .before .before .before .before in
+    root-refused (now (args .file)) (queryOf (now (args .start)) (args .stop-given) (now (args .stop)) (now (args .prefix))) (length (now
+    (args .opened))) (length (now (args .results))) _ (args .h .root) (args .h .rootsize) _ (before .«open» .ensures .0) _ _
+    (c .before .root .given .1) _ _
 
 same-length-2 : tie.Need-same-length-2
 same-length-2 c = search needs
@@ -42,7 +56,15 @@ same-length-3 c = search needs
 
 returns-2 : tie.Need-returns-2
 unfolding blocksFrom
-returns-2 c = root-walked (now (c .before .before .before .before .before .before .before .before .before .before .before .before .before .before .before .before .before .before .before .before .args .file)) (queryOf (now (c .before .before .before .before .before .before .before .before .before .before .before .before .before .before .before .before .before .before .before .before .args .start)) (c .before .before .before .before .before .before .before .before .before .before .before .before .before .before .before .before .before .before .before .before .args .stop-given) (now (c .before .before .before .before .before .before .before .before .before .before .before .before .before .before .before .before .before .before .before .before .args .stop)) (now (c .before .before .before .before .before .before .before .before .before .before .before .before .before .before .before .before .before .before .before .before .args .prefix))) (length (now (c .before .before .before .before .before .before .before .before .before .before .before .before .before .before .before .before .before .before .before .before .args .opened))) (length (now (c .before .before .before .before .before .before .before .before .before .before .before .before .before .before .before .before .before .before .before .before .args .results))) _ (c .before .before .before .before .before .before .before .before .before .before .before .before .before .before .before .before .before .before .before .before .args .h .root) (c .before .before .before .before .before .before .before .before .before .before .before .before .before .before .before .before .before .before .before .before .args .h .rootsize) _ (c .before .before .before .before .before .before .before .before .before .before .before .before .«open» .ensures .0) _ (c .before .before .before .before .before .before .before .before .root2 .given .1) (now (c .before .before .before .before .before .before .before .before .before .before .before .before .before .before .before .before .before .before .before .before .args .opened)) _ (now (c .before .before .before .before .before .before .before .before .before .before .before .before .before .before .before .before .before .before .before .before .args .results)) refl (c .before .before .before .before .before .before .before .before .before .before .before .before .«open» .ensures .1) (c .before .before .before .before .before .before .before .before .before .before .before .before .before .before .before .before .before .before .before .before .pre .2) (c .before .before .before .before .before .before .before .before .before .before .before .before .before .before .before .before .before .before .before .before .pre .3) refl _ _ _ (c .before .before .before .before .walk .ensures .1)
+returns-2 c =
+    let args = c .before .before .before .before .before .before .before .before .before .before .before .before .before .before .before .before .before .before .before .before .args in
+    let before = c .before .before .before .before .before .before .before .before .before .before .before .before in
+    let root2 = c .before .before .before .before .before .before .before .before .root2 in
+    let pre = c .before .before .before .before .before .before .before .before .before .before .before .before .before .before .before .before .before .before .before .before .pre in
+    let walk = c .before .before .before .before .walk in
+    root-walked (now (args .file)) (queryOf (now (args .start)) (args .stop-given) (now (args .stop)) (now (args .prefix))) (length (now
+    (args .opened))) (length (now (args .results))) _ (args .h .root) (args .h .rootsize) _ (before .«open» .ensures .0) _ (root2 .given .1)
+    (now (args .opened)) _ (now (args .results)) refl (before .«open» .ensures .1) (pre .2) (pre .3) refl _ _ _ (walk .ensures .1)
 
 pub search-tree-spec : {M : Type 1} → statement M
 search-tree-spec =

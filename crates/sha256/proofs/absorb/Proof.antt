@@ -80,13 +80,11 @@ returns-2 c =
     let block = c .before .before .before .before .before .before .filled2 in
     let mid = c .before .before .before .over in
     let hash = c .before .before .over2 in
-    let s = start .args .state in
-    let piece = start .args .piece .now in
-    let rest = part piece (64 - s .count % 64) (length piece) in
-    let tail = part rest (length rest / 64 * 64) (length rest) in
-    absorbed-long s piece (block .result) rest tail (c .filled3 .result) (mid .result) (hash .result) (sum .result) (full start)
-    (omega (arith, c .before .before .before .before .before .before .before .before .if1 .left))
-    (block .ensures) refl refl (mid .ensures) (hash .ensures) (c .filled3 .ensures) (sum .ensures)
+    let if1 = c .before .before .before .before .before .before .before .before .if1 in
+    let s = start .args .state in let piece = start .args .piece .now in let rest = part piece (64 - s .count % 64) (length piece) in let
+    tail = part rest (length rest / 64 * 64) (length rest) in absorbed-long s piece (block .result) rest tail (c .filled3 .result)
+    (mid .result) (hash .result) (sum .result) (full start) (omega (arith, if1 .left)) (block .ensures) refl refl (mid .ensures)
+    (hash .ensures) (c .filled3 .ensures) (sum .ensures)
 
 pub absorb-spec : {M : Type 1} → statement M
 absorb-spec =

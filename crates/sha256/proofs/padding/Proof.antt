@@ -19,8 +19,12 @@ padded-requires c κs = search needs
 
 returns : tie.Need-returns
 returns c =
-    let bits = c .before .be64-bytes in
-    (c .padded .ensures .0, c .padded .ensures .1 ∙ padding-parts (c .before .before .args .count) (bits .result) (bits .ensures))
+    let args = c .before .before .args in
+    let bits = c .before .be64-bytes in (
+      c .padded .ensures .0,
+      c .padded .ensures .1 ∙ padding-parts (args .count) (bits .result)
+          (bits .ensures),
+    )
 
 pub padding-spec : {M : Type 1} → statement M
 padding-spec =

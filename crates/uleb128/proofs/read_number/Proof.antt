@@ -24,23 +24,30 @@ shared-slice-read-b : tie.Need-shared-slice-read-b Inv-loop μ-loop
 shared-slice-read-b c = omega arith
 
 cast-b : tie.Need-cast-b Inv-loop μ-loop
-cast-b c = omega (arith, c .shared-slice-known .given (c .before .before .loop .n))
+cast-b c =
+    let loop = c .before .before .loop in
+    omega (arith, c .shared-slice-known .given (loop .n))
 
 returns : tie.Need-returns Inv-loop μ-loop
 unfolding meaning
 returns c =
-    let n = c .before .before .before .before .before .loop .n in
-    sym (passed-long _ _ _ n (c .before .before .before .before .before .loop .inv) (c .before .before .before .before .loop-test .taken) (c .if3 .taken) (c .before .if2 .taken))
+    let loop = c .before .before .before .before .before .loop in
+    let loop-test = c .before .before .before .before .loop-test in
+    let n = loop .n in sym (passed-long _ _ _ n (loop .inv) (loop-test .taken) (c .if3 .taken) (c .before .if2 .taken))
 
 mul-t12 : tie.Need-mul-t12 Inv-loop μ-loop
 mul-t12 c =
-    let h = digit-fits (c .before .before .before .before .loop .value) (c .before .before .before .before .loop .scale) (getD (now (c .before .before .before .before .before .args .part)) (c .before .before .before .before .loop .n) 0) (c .before .before .before .before .loop .inv .below) (c .before .if1 .taken) in
-    omega arith
+    let loop = c .before .before .before .before .loop in
+    let args = c .before .before .before .before .before .args in
+    let h = digit-fits (loop .value) (loop .scale) (getD (now (args .part)) (loop .n) 0) (loop .inv .below) (c .before .if1 .taken) in omega
+    arith
 
 add-t13 : tie.Need-add-t13 Inv-loop μ-loop
 add-t13 c =
-    let h = digit-fits (c .before .before .before .before .loop .value) (c .before .before .before .before .loop .scale) (getD (now (c .before .before .before .before .before .args .part)) (c .before .before .before .before .loop .n) 0) (c .before .before .before .before .loop .inv .below) (c .before .if1 .taken) in
-    omega arith
+    let loop = c .before .before .before .before .loop in
+    let args = c .before .before .before .before .before .args in
+    let h = digit-fits (loop .value) (loop .scale) (getD (now (args .part)) (loop .n) 0) (loop .inv .below) (c .before .if1 .taken) in omega
+    arith
 
 add-t14 : tie.Need-add-t14 Inv-loop μ-loop
 add-t14 c = omega arith
@@ -48,26 +55,37 @@ add-t14 c = omega arith
 returns-2 : tie.Need-returns-2 Inv-loop μ-loop
 unfolding meaning
 returns-2 c =
-    sym
-    (⊎-elim
-    (λ w. passed-value _ _ _ (c .before .before .before .before .loop .n) (c .before .before .before .before .loop .inv) (c .before .before .before .loop-test .taken) (c .before .if1 .taken) (inl (w .1 .left)))
-    (λ w. passed-value _ _ _ (c .before .before .before .before .loop .n) (c .before .before .before .before .loop .inv) (c .before .before .before .loop-test .taken) (c .before .if1 .taken) (inr (w .left)))
-    (c .if2 .came))
+    let loop = c .before .before .before .before .loop in
+    let loop-test = c .before .before .before .loop-test in
+    sym (⊎-elim (λ w. passed-value _ _ _ (loop .n) (loop .inv) (loop-test .taken) (c .before .if1 .taken) (inl (w .1 .left))) (λ w.
+    passed-value _ _ _ (loop .n) (loop .inv) (loop-test .taken) (c .before .if1 .taken) (inr (w .left))) (c .if2 .came))
 
 returns-3 : tie.Need-returns-3 Inv-loop μ-loop
 unfolding meaning
 returns-3 c =
-    sym (passed-wide _ _ _ (c .before .before .before .before .loop .n) (c .before .before .before .before .loop .inv) (c .before .before .before .loop-test .taken) (c .before .if1 .left) (c .if4 .taken))
+    let loop = c .before .before .before .before .loop in
+    let loop-test = c .before .before .before .loop-test in
+    sym (passed-wide _ _ _ (loop .n) (loop .inv) (loop-test .taken) (c .before .if1 .left) (c .if4 .taken))
 
 mul-value : tie.Need-mul-value Inv-loop μ-loop
 mul-value c =
-    let h = digit-fits (c .before .before .before .before .loop .value) (c .before .before .before .before .loop .scale) (getD (now (c .before .before .before .before .before .args .part)) (c .before .before .before .before .loop .n) 0 - 128) (c .before .before .before .before .loop .inv .below) (omega (arith, c .before .before .shared-slice-known .given (c .before .before .before .before .loop .n))) in
-    omega arith
+    let loop = c .before .before .before .before .loop in
+    let args = c .before .before .before .before .before .args in
+    let shared-slice-known = c .before .before .shared-slice-known in
+    let h = digit-fits (loop .value) (loop .scale) (getD (now (args .part)) (loop .n) 0 - 128) (loop .inv .below) (omega (
+      arith,
+      shared-slice-known .given (loop .n),
+    )) in omega arith
 
 add-value : tie.Need-add-value Inv-loop μ-loop
 add-value c =
-    let h = digit-fits (c .before .before .before .before .loop .value) (c .before .before .before .before .loop .scale) (getD (now (c .before .before .before .before .before .args .part)) (c .before .before .before .before .loop .n) 0 - 128) (c .before .before .before .before .loop .inv .below) (omega (arith, c .before .before .shared-slice-known .given (c .before .before .before .before .loop .n))) in
-    omega arith
+    let loop = c .before .before .before .before .loop in
+    let args = c .before .before .before .before .before .args in
+    let shared-slice-known = c .before .before .shared-slice-known in
+    let h = digit-fits (loop .value) (loop .scale) (getD (now (args .part)) (loop .n) 0 - 128) (loop .inv .below) (omega (
+      arith,
+      shared-slice-known .given (loop .n),
+    )) in omega arith
 
 mul-scale : tie.Need-mul-scale Inv-loop μ-loop
 mul-scale c = omega arith
@@ -80,7 +98,11 @@ loop-less c = omega arith
 
 loop-again : tie.Need-loop-again Inv-loop μ-loop
 loop-again c =
-    passed-step _ _ _ (c .before .before .before .before .loop .n) (c .before .before .before .before .loop .inv) (c .before .before .before .loop-test .taken) (c .before .if1 .left) (omega (arith, c .before .before .shared-slice-known .given (c .before .before .before .before .loop .n))) (c .if4 .left)
+    let loop = c .before .before .before .before .loop in
+    let loop-test = c .before .before .before .loop-test in
+    let shared-slice-known = c .before .before .shared-slice-known in
+    passed-step _ _ _ (loop .n) (loop .inv) (loop-test .taken) (c .before .if1 .left) (omega (arith, shared-slice-known .given (loop .n)))
+    (c .if4 .left)
 
 returns-4 : tie.Need-returns-4 Inv-loop μ-loop
 unfolding meaning

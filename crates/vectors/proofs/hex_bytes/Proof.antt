@@ -19,7 +19,10 @@ shared-slice-read-print-hex : tie.Need-shared-slice-read-print-hex Inv-loop μ-l
 shared-slice-read-print-hex c = search needs
 
 cast-print-hex : tie.Need-cast-print-hex Inv-loop μ-loop
-cast-print-hex c = omega (arith, c .before .before .before .shared-slice-known .given (c .before .before .loop .i))
+cast-print-hex c =
+    let shared-slice-known = c .before .before .before .shared-slice-known in
+    let loop = c .before .before .loop in
+    omega (arith, shared-slice-known .given (loop .i))
 
 print-hex-requires : tie.Need-print-hex-requires Inv-loop μ-loop
 print-hex-requires c κs = search needs

@@ -27,7 +27,10 @@ least-requires-2 : tie.Need-least-requires-2 Inv-loop μ-loop
 least-requires-2 c κs = search needs
 
 slice-aggregate-absorb : tie.Need-slice-aggregate-absorb Inv-loop μ-loop
-slice-aggregate-absorb c = sym (length-take-le (c .before .before .least2 .result) (now (c .before .before .before .before .before .before .before .before .args .buffer)) (omega arith))
+slice-aggregate-absorb c =
+    let least2 = c .before .before .least2 in
+    let args = c .before .before .before .before .before .before .before .before .args in
+    sym (length-take-le (least2 .result) (now (args .buffer)) (omega arith))
 
 absorb-requires : tie.Need-absorb-requires Inv-loop μ-loop
 absorb-requires c κs = search needs

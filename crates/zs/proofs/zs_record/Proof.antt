@@ -17,11 +17,15 @@ is-within-requires c κs = search needs
 
 returns : tie.Need-returns
 unfolding partStart partLength
-returns c = ap (picked (c .before .before .before .args .offset) (c .before .before .before .args .size)) (sym (c .if1 .taken) ∙ c .before .is-within .ensures)
+returns c =
+    let args = c .before .before .before .args in
+    ap (picked (args .offset) (args .size)) (sym (c .if1 .taken) ∙ c .before .is-within .ensures)
 
 returns-2 : tie.Need-returns-2
 unfolding partStart partLength
-returns-2 c = ap (picked (c .before .before .before .args .offset) (c .before .before .before .args .size)) (sym (c .if1 .left) ∙ c .before .is-within .ensures)
+returns-2 c =
+    let args = c .before .before .before .args in
+    ap (picked (args .offset) (args .size)) (sym (c .if1 .left) ∙ c .before .is-within .ensures)
 
 pub zs-record-spec : {M : Type 1} → statement M
 zs-record-spec = tie.close (tie.spec is-within-requires returns returns-2)

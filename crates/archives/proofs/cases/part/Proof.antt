@@ -9,13 +9,18 @@ slice-aggregate-result : tie.Need-slice-aggregate-result
 slice-aggregate-result c = search needs
 
 returns : tie.Need-returns
-returns c = spanned-turned (now (c .before .before .args .stored)) (c .before .before .args .span) (c .before .if1 .taken)
+returns c =
+    let args = c .before .before .args in
+    spanned-turned (now (args .stored)) (args .span) (c .before .if1 .taken)
 
 slice-aggregate-result-2 : tie.Need-slice-aggregate-result-2
 slice-aggregate-result-2 c = search needs
 
 returns-2 : tie.Need-returns-2
-returns-2 c = spanned-past (now (c .before .before .before .args .stored)) (c .before .before .before .args .span) (c .before .before .if1 .left) (c .before .if2 .taken)
+returns-2 c =
+    let args = c .before .before .before .args in
+    let if1 = c .before .before .if1 in
+    spanned-past (now (args .stored)) (args .span) (if1 .left) (c .before .if2 .taken)
 
 part-result-start : tie.Need-part-result-start
 part-result-start c = search needs
@@ -24,7 +29,10 @@ part-result-end : tie.Need-part-result-end
 part-result-end c = search needs
 
 returns-3 : tie.Need-returns-3
-returns-3 c = spanned-within (now (c .before .before .before .args .stored)) (c .before .before .before .args .span) (c .before .before .if1 .left) (c .before .if2 .left)
+returns-3 c =
+    let args = c .before .before .before .args in
+    let if1 = c .before .before .if1 in
+    spanned-within (now (args .stored)) (args .span) (if1 .left) (c .before .if2 .left)
 
 pub part-spec : {M : Type 1} → statement M
 part-spec =

@@ -20,17 +20,27 @@ enum-known-found-2 c = search needs
 
 block-in-requires : tie.Need-block-in-requires
 unfolding frame
-block-in-requires c κs = frame-bounds (now (c .before .before .before .before .before .args .file)) (c .before .before .before .before .before .args .at) _ (sym (c .before .before .before .sound-frame-at .ensures) ∙ ap (frame (c .before .before .before .before .before .args .at)) (c .before .found2 .given .1))
+block-in-requires c κs =
+    let args = c .before .before .before .before .before .args in
+    let sound-frame-at = c .before .before .before .sound-frame-at in
+    frame-bounds (now (args .file)) (args .at) _ (sym (sound-frame-at .ensures) ∙ ap (frame (args .at)) (c .before .found2 .given .1))
 
 returns : tie.Need-returns
 unfolding frame block
-returns c = sym (block-unframed (now (c .before .before .before .before .before .args .file)) (c .before .before .before .before .before .args .at) _ _ (sym (c .before .before .before .sound-frame-at .ensures) ∙ ap (frame (c .before .before .before .before .before .args .at)) (c .before .found .given .1)))
+returns c =
+    let args = c .before .before .before .before .before .args in
+    let sound-frame-at = c .before .before .before .sound-frame-at in
+    sym (block-unframed (now (args .file)) (args .at) _ _ (sym (sound-frame-at .ensures) ∙ ap (frame (args .at))
+    (c .before .found .given .1)))
 
 returns-2 : tie.Need-returns-2
 unfolding frame
 returns-2 c =
-    let e = (sym (c .before .before .before .before .sound-frame-at .ensures) ∙ ap (frame (c .before .before .before .before .before .before .args .at)) (c .before .before .found2 .given .1)) in
-    block-framed (now (c .before .before .before .before .before .before .args .file)) (c .before .before .before .before .before .before .args .at) _ _ e (ap (λ (p : ℕ). block p (c .block-in .result)) (sym (frame-start (now (c .before .before .before .before .before .before .args .file)) (c .before .before .before .before .before .before .args .at) _ e)) ∙ c .block-in .ensures)
+    let sound-frame-at = c .before .before .before .before .sound-frame-at in
+    let args = c .before .before .before .before .before .before .args in
+    let found2 = c .before .before .found2 in
+    let e = (sym (sound-frame-at .ensures) ∙ ap (frame (args .at)) (found2 .given .1)) in block-framed (now (args .file)) (args .at) _ _ e
+    (ap (λ (p : ℕ). block p (c .block-in .result)) (sym (frame-start (now (args .file)) (args .at) _ e)) ∙ c .block-in .ensures)
 
 pub block-at-spec : {M : Type 1} → statement M
 block-at-spec =

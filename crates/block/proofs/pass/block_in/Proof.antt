@@ -17,7 +17,10 @@ unfolding block
 returns c = sym (reserved-sound _ _ (c .if1 .taken))
 
 slice-aggregate-records-at : tie.Need-slice-aggregate-records-at
-slice-aggregate-records-at c = sym (length-take-le (c .before .before .before .before .before .args .f .end) (now (c .before .before .before .before .before .args .file)) (c .before .before .before .before .before .pre .1))
+slice-aggregate-records-at c =
+    let args = c .before .before .before .before .before .args in
+    let pre = c .before .before .before .before .before .pre in
+    sym (length-take-le (args .f .end) (now (args .file)) (pre .1))
 
 records-at-requires : tie.Need-records-at-requires
 records-at-requires c κs = search needs
@@ -29,7 +32,10 @@ enum-known-items-2 : tie.Need-enum-known-items-2
 enum-known-items-2 c = search needs
 
 slice-aggregate-entries-at : tie.Need-slice-aggregate-entries-at
-slice-aggregate-entries-at c = sym (length-take-le (c .before .before .before .before .before .args .f .end) (now (c .before .before .before .before .before .args .file)) (c .before .before .before .before .before .pre .1))
+slice-aggregate-entries-at c =
+    let args = c .before .before .before .before .before .args in
+    let pre = c .before .before .before .before .before .pre in
+    sym (length-take-le (args .f .end) (now (args .file)) (pre .1))
 
 entries-at-requires : tie.Need-entries-at-requires
 entries-at-requires c κs = search needs
@@ -42,19 +48,41 @@ enum-told c = search needs
 
 returns-2 : tie.Need-returns-2
 unfolding block payload
-returns-2 c = sym (data-unsound (now (c .before .before .before .before .before .before .before .before .before .args .file)) (c .before .before .before .before .before .before .before .before .before .args .f) _ _ (c .before .before .before .before .before .if2 .taken) (sym (c .before .before .before .records-at .ensures (c .before .before .before .before .before .before .before .before .before .args .f .start)) ∙ ap (payload (c .before .before .before .before .before .before .before .before .before .args .f .start)) (c .before .items .given .1)))
+returns-2 c =
+    let args = c .before .before .before .before .before .before .before .before .before .args in
+    let if2 = c .before .before .before .before .before .if2 in
+    let records-at = c .before .before .before .records-at in
+    sym (data-unsound (now (args .file)) (args .f) _ _ (if2 .taken) (sym (records-at .ensures (args .f .start)) ∙ ap (payload
+    (args .f .start)) (c .before .items .given .1)))
 
 returns-3 : tie.Need-returns-3
 unfolding block payload
-returns-3 c = sym (data-sound (now (c .before .before .before .before .before .before .before .before .before .args .file)) (c .before .before .before .before .before .before .before .before .before .args .f) _ (c .before .before .before .before .before .if2 .taken) (sym (c .before .before .before .records-at .ensures (c .before .before .before .before .before .before .before .before .before .args .f .start)) ∙ ap (payload (c .before .before .before .before .before .before .before .before .before .args .f .start)) (c .before .items2 .given .1)))
+returns-3 c =
+    let args = c .before .before .before .before .before .before .before .before .before .args in
+    let if2 = c .before .before .before .before .before .if2 in
+    let records-at = c .before .before .before .records-at in
+    sym (data-sound (now (args .file)) (args .f) _ (if2 .taken) (sym (records-at .ensures (args .f .start)) ∙ ap (payload (args .f .start))
+    (c .before .items2 .given .1)))
 
 returns-4 : tie.Need-returns-4
 unfolding block payload
-returns-4 c = sym (index-unsound (now (c .before .before .before .before .before .before .before .before .before .args .file)) (c .before .before .before .before .before .before .before .before .before .args .f) _ _ (c .before .before .before .before .before .if2 .left) (c .before .before .before .before .before .before .if1 .left) (sym (c .before .before .before .entries-at .ensures (c .before .before .before .before .before .before .before .before .before .args .f .start)) ∙ ap (payload (c .before .before .before .before .before .before .before .before .before .args .f .start)) (c .before .items3 .given .1)))
+returns-4 c =
+    let args = c .before .before .before .before .before .before .before .before .before .args in
+    let if2 = c .before .before .before .before .before .if2 in
+    let if1 = c .before .before .before .before .before .before .if1 in
+    let entries-at = c .before .before .before .entries-at in
+    sym (index-unsound (now (args .file)) (args .f) _ _ (if2 .left) (if1 .left) (sym (entries-at .ensures (args .f .start)) ∙ ap (payload
+    (args .f .start)) (c .before .items3 .given .1)))
 
 returns-5 : tie.Need-returns-5
 unfolding block payload
-returns-5 c = sym (index-sound (now (c .before .before .before .before .before .before .before .before .args .file)) (c .before .before .before .before .before .before .before .before .args .f) _ (c .before .before .before .before .if2 .left) (c .before .before .before .before .before .if1 .left) (sym (c .before .before .entries-at .ensures (c .before .before .before .before .before .before .before .before .args .f .start)) ∙ ap (payload (c .before .before .before .before .before .before .before .before .args .f .start)) (c .enum-told .given .1)))
+returns-5 c =
+    let args = c .before .before .before .before .before .before .before .before .args in
+    let if2 = c .before .before .before .before .if2 in
+    let if1 = c .before .before .before .before .before .if1 in
+    let entries-at = c .before .before .entries-at in
+    sym (index-sound (now (args .file)) (args .f) _ (if2 .left) (if1 .left) (sym (entries-at .ensures (args .f .start)) ∙ ap (payload
+    (args .f .start)) (c .enum-told .given .1)))
 
 pub block-in-spec : {M : Type 1} → statement M
 block-in-spec =

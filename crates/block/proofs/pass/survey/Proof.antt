@@ -29,7 +29,13 @@ enum-known-block c = search needs
 
 returns : tie.Need-returns Inv-loop μ-loop
 unfolding block survey
-returns c = sym (surveyed-refused (now (c .before .before .before .before .before .before .before .args .file)) (c .before .before .before .before .before .before .before .args .from) (c .before .before .before .before .before .before .before .args .root) (c .before .before .before .before .before .before .before .args .rootsize) _ _ _ _ (c .before .before .before .before .before .loop .inv) (c .before .before .before .before .loop-test .taken) _ _ (sym (c .before .before .before .block-at .ensures) ∙ ap (block (c .before .before .before .before .before .loop .at)) (c .before .block .given .1)))
+returns c =
+    let args = c .before .before .before .before .before .before .before .args in
+    let loop = c .before .before .before .before .before .loop in
+    let loop-test = c .before .before .before .before .loop-test in
+    let block-at = c .before .before .before .block-at in
+    sym (surveyed-refused (now (args .file)) (args .from) (args .root) (args .rootsize) _ _ _ _ (loop .inv) (loop-test .taken) _ _ (sym
+    (block-at .ensures) ∙ ap (block (loop .at)) (c .before .block .given .1)))
 
 enum-known-block-2 : tie.Need-enum-known-block-2 Inv-loop μ-loop
 enum-known-block-2 c = search needs
@@ -40,27 +46,27 @@ one-if-ordinary-requires c κs = search needs
 add-ordinary : tie.Need-add-ordinary Inv-loop μ-loop
 unfolding block
 add-ordinary c =
-    let r = reported (now (c .before .before .before .before .before .before .before .before .args .file)) (c .before .before .before .before .before .before .loop .at) _ _ (sym (c .before .before .before .before .block-at .ensures) ∙ ap (block (c .before .before .before .before .before .before .loop .at)) (c .before .before .block2 .given .1)) in
-    let within = r .within in
-    let few = r .few in
-    let forward = r .forward in
-    let p = c .before .before .before .before .before .before .loop .inv in
-    let blocks = p .few-blocks in
-    let records = p .few-records in
-    let single = at-most-one (c .one-if-ordinary .result) (isOrdinary (c .before .before .block2 .given .0 .0 .level)) (c .one-if-ordinary .ensures) in
-    omega (arith, c .before .before .before .before .before .before .before .before .good)
+    let args = c .before .before .before .before .before .before .before .before .args in
+    let loop = c .before .before .before .before .before .before .loop in
+    let block-at = c .before .before .before .before .block-at in
+    let block2 = c .before .before .block2 in
+    let good = c .before .before .before .before .before .before .before .before .good in
+    let r = reported (now (args .file)) (loop .at) _ _ (sym (block-at .ensures) ∙ ap (block (loop .at)) (block2 .given .1)) in let within =
+    r .within in let few = r .few in let forward = r .forward in let p = loop .inv in let blocks = p .few-blocks in let records =
+    p .few-records in let single = at-most-one (c .one-if-ordinary .result) (isOrdinary (block2 .given .0 .0 .level))
+    (c .one-if-ordinary .ensures) in omega (arith, good)
 
 add-records : tie.Need-add-records Inv-loop μ-loop
 unfolding block
 add-records c =
-    let r = reported (now (c .before .before .before .before .before .before .before .before .args .file)) (c .before .before .before .before .before .before .loop .at) _ _ (sym (c .before .before .before .before .block-at .ensures) ∙ ap (block (c .before .before .before .before .before .before .loop .at)) (c .before .before .block2 .given .1)) in
-    let within = r .within in
-    let few = r .few in
-    let forward = r .forward in
-    let p = c .before .before .before .before .before .before .loop .inv in
-    let blocks = p .few-blocks in
-    let records = p .few-records in
-    omega (arith, c .before .before .before .before .before .before .before .before .good)
+    let args = c .before .before .before .before .before .before .before .before .args in
+    let loop = c .before .before .before .before .before .before .loop in
+    let block-at = c .before .before .before .before .block-at in
+    let block2 = c .before .before .block2 in
+    let good = c .before .before .before .before .before .before .before .before .good in
+    let r = reported (now (args .file)) (loop .at) _ _ (sym (block-at .ensures) ∙ ap (block (loop .at)) (block2 .given .1)) in let within =
+    r .within in let few = r .few in let forward = r .forward in let p = loop .inv in let blocks = p .few-blocks in let records =
+    p .few-records in omega (arith, good)
 
 found-root-requires : tie.Need-found-root-requires Inv-loop μ-loop
 found-root-requires c κs = search needs
@@ -68,34 +74,44 @@ found-root-requires c κs = search needs
 add-at : tie.Need-add-at Inv-loop μ-loop
 unfolding block
 add-at c =
-    let r = reported (now (c .before .before .before .before .before .before .before .before .before .before .args .file)) (c .before .before .before .before .before .before .before .before .loop .at) _ _ (sym (c .before .before .before .before .before .before .block-at .ensures) ∙ ap (block (c .before .before .before .before .before .before .before .before .loop .at)) (c .before .before .before .before .block2 .given .1)) in
-    let within = r .within in
-    let few = r .few in
-    let forward = r .forward in
-    let p = c .before .before .before .before .before .before .before .before .loop .inv in
-    let blocks = p .few-blocks in
-    let records = p .few-records in
-    omega (arith, c .before .before .before .before .before .before .before .before .before .before .good)
+    let args = c .before .before .before .before .before .before .before .before .before .before .args in
+    let loop = c .before .before .before .before .before .before .before .before .loop in
+    let block-at = c .before .before .before .before .before .before .block-at in
+    let block2 = c .before .before .before .before .block2 in
+    let good = c .before .before .before .before .before .before .before .before .before .before .good in
+    let r = reported (now (args .file)) (loop .at) _ _ (sym (block-at .ensures) ∙ ap (block (loop .at)) (block2 .given .1)) in let within =
+    r .within in let few = r .few in let forward = r .forward in let p = loop .inv in let blocks = p .few-blocks in let records =
+    p .few-records in omega (arith, good)
 
 loop-less : tie.Need-loop-less Inv-loop μ-loop
 unfolding block
 loop-less c =
-    let r = reported (now (c .before .before .before .before .before .before .before .before .before .before .args .file)) (c .before .before .before .before .before .before .before .before .loop .at) _ _ (sym (c .before .before .before .before .before .before .block-at .ensures) ∙ ap (block (c .before .before .before .before .before .before .before .before .loop .at)) (c .before .before .before .before .block2 .given .1)) in
-    let within = r .within in
-    let few = r .few in
-    let forward = r .forward in
-    let p = c .before .before .before .before .before .before .before .before .loop .inv in
-    let blocks = p .few-blocks in
-    let records = p .few-records in
-    omega (arith, c .before .before .before .before .before .before .before .before .before .before .good)
+    let args = c .before .before .before .before .before .before .before .before .before .before .args in
+    let loop = c .before .before .before .before .before .before .before .before .loop in
+    let block-at = c .before .before .before .before .before .before .block-at in
+    let block2 = c .before .before .before .before .block2 in
+    let good = c .before .before .before .before .before .before .before .before .before .before .good in
+    let r = reported (now (args .file)) (loop .at) _ _ (sym (block-at .ensures) ∙ ap (block (loop .at)) (block2 .given .1)) in let within =
+    r .within in let few = r .few in let forward = r .forward in let p = loop .inv in let blocks = p .few-blocks in let records =
+    p .few-records in omega (arith, good)
 
 loop-again : tie.Need-loop-again Inv-loop μ-loop
 unfolding block
-loop-again c = surveyed-more (now (c .before .before .before .before .before .before .before .before .before .before .args .file)) (c .before .before .before .before .before .before .before .before .before .before .args .from) (c .before .before .before .before .before .before .before .before .before .before .args .root) (c .before .before .before .before .before .before .before .before .before .before .args .rootsize) _ _ _ _ (c .before .before .before .before .before .before .before .before .loop .inv) (c .before .before .before .before .before .before .before .loop-test .taken) _ _ _ _ (sym (c .before .before .before .before .before .before .block-at .ensures) ∙ ap (block (c .before .before .before .before .before .before .before .before .loop .at)) (c .before .before .before .before .block2 .given .1)) (c .before .before .one-if-ordinary .ensures) (c .before .found-root .ensures)
+loop-again c =
+    let args = c .before .before .before .before .before .before .before .before .before .before .args in
+    let loop = c .before .before .before .before .before .before .before .before .loop in
+    let loop-test = c .before .before .before .before .before .before .before .loop-test in
+    let block-at = c .before .before .before .before .before .before .block-at in
+    let block2 = c .before .before .before .before .block2 in
+    let one-if-ordinary = c .before .before .one-if-ordinary in
+    surveyed-more (now (args .file)) (args .from) (args .root) (args .rootsize) _ _ _ _ (loop .inv) (loop-test .taken) _ _ _ _ (sym
+    (block-at .ensures) ∙ ap (block (loop .at)) (block2 .given .1)) (one-if-ordinary .ensures) (c .before .found-root .ensures)
 
 returns-2 : tie.Need-returns-2 Inv-loop μ-loop
 unfolding survey
-returns-2 c = sym (surveyed-end (now (c .before .before .before .args .file)) (c .before .before .before .args .from) (c .before .before .before .args .root) (c .before .before .before .args .rootsize) _ _ _ _ (c .before .loop .inv) (c .loop-test .left))
+returns-2 c =
+    let args = c .before .before .before .args in
+    sym (surveyed-end (now (args .file)) (args .from) (args .root) (args .rootsize) _ _ _ _ (c .before .loop .inv) (c .loop-test .left))
 
 pub survey-spec : {M : Type 1} → statement M
 survey-spec =

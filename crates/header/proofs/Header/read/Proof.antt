@@ -21,7 +21,9 @@ begins-with-requires c κs = search needs
 
 returns-2 : tie.Need-returns-2
 unfolding meaning unfinishedMagic
-returns-2 c = sym (header-unfinished _ (c .before .before .before .if1 .left) (sym (c .before .begins-with .ensures) ∙ c .if2 .taken))
+returns-2 c =
+    let if1 = c .before .before .before .if1 in
+    sym (header-unfinished _ (if1 .left) (sym (c .before .begins-with .ensures) ∙ c .if2 .taken))
 
 slice-aggregate-begins-with-2 : tie.Need-slice-aggregate-begins-with-2
 slice-aggregate-begins-with-2 c = search needs
@@ -65,9 +67,8 @@ crc-right-requires c κs = held c
 returns-5 : tie.Need-returns-5
 unfolding meaning
 returns-5 c =
-    sym
-    (header-crc _ (opened (c .before .before .before .before)) (held (c .before .before))
-    (sym (c .before .crc-right .ensures) ∙ not-true _ (c .if5 .taken)))
+    let before = c .before .before .before .before in
+    sym (header-crc _ (opened (before)) (held (c .before .before)) (sym (c .before .crc-right .ensures) ∙ not-true _ (c .if5 .taken)))
 
 -- their CRC is right
 right : (c : tie.Else5) → headerCrcRight (c .before .before .before .before .before .before .before .before .before .before .before .before .args .file .now) ≡ true
@@ -89,7 +90,9 @@ room : (c : tie.Else6) → holdsMetadata (c .before .before .before .before .bef
 room c = sym (c .before .holds-metadata .ensures) ∙ not-false _ (c .if6 .left)
 
 fields-requires : tie.Need-fields-requires
-fields-requires c κs = (held (c .before .before .before .before), room c)
+fields-requires c κs =
+    let before = c .before .before .before .before in
+    (held (before), room c)
 
 returns-7 : tie.Need-returns-7
 returns-7 c =

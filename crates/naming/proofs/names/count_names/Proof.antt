@@ -33,7 +33,12 @@ wanted-requires : tie.Need-wanted-requires Inv-loop μ-loop
 wanted-requires c κs = search needs
 
 returns : tie.Need-returns Inv-loop μ-loop
-returns c = λ file first bs k. counting-broken (now (c .before .before .before .before .before .before .before .args .work)) (c .before .before .before .before .before .before .before .args .n) (c .before .before .before .before .before .before .before .args .root) (c .before .before .before .before .before .loop .i) (c .before .before .before .before .before .loop .inv) (c .before .before .before .before .loop-test .taken) file first bs k (λ e. c .if1 .taken (e ∙ sym (c .before .wanted .ensures)))
+returns c =
+    let args = c .before .before .before .before .before .before .before .args in
+    let loop = c .before .before .before .before .before .loop in
+    let loop-test = c .before .before .before .before .loop-test in
+    λ file first bs k. counting-broken (now (args .work)) (args .n) (args .root) (loop .i) (loop .inv) (loop-test .taken) file first bs k (λ
+    e. c .if1 .taken (e ∙ sym (c .before .wanted .ensures)))
 
 add-i : tie.Need-add-i Inv-loop μ-loop
 add-i c = search needs
@@ -42,10 +47,17 @@ loop-less : tie.Need-loop-less Inv-loop μ-loop
 loop-less c = search needs
 
 loop-again : tie.Need-loop-again Inv-loop μ-loop
-loop-again c = counting-more (now (c .before .before .before .before .before .before .before .args .work)) (c .before .before .before .before .before .before .before .args .n) (c .before .before .before .before .before .before .before .args .root) (c .before .before .before .before .before .loop .i) (c .before .before .before .before .before .loop .inv) (c .before .before .before .before .loop-test .taken) (c .if1 .left ∙ c .before .wanted .ensures)
+loop-again c =
+    let args = c .before .before .before .before .before .before .before .args in
+    let loop = c .before .before .before .before .before .loop in
+    let loop-test = c .before .before .before .before .loop-test in
+    counting-more (now (args .work)) (args .n) (args .root) (loop .i) (loop .inv) (loop-test .taken) (c .if1 .left ∙
+    c .before .wanted .ensures)
 
 returns-2 : tie.Need-returns-2 Inv-loop μ-loop
-returns-2 c = counting-end (now (c .before .before .before .args .work)) (c .before .before .before .args .n) (c .before .before .before .args .root) (c .before .loop .i) (c .before .loop .inv) (c .loop-test .left)
+returns-2 c =
+    let args = c .before .before .before .args in
+    counting-end (now (args .work)) (args .n) (args .root) (c .before .loop .i) (c .before .loop .inv) (c .loop-test .left)
 
 pub count-names-spec : {M : Type 1} → statement M
 count-names-spec =

@@ -24,10 +24,14 @@ same-length : tie.Need-same-length
 same-length c = search needs
 
 returns : tie.Need-returns
-returns c = mark-more (now (c .before .before .args .work)) (c .before .before .args .i) (c .if1 .taken)
+returns c =
+    let args = c .before .before .args in
+    mark-more (now (args .work)) (args .i) (c .if1 .taken)
 
 returns-2 : tie.Need-returns-2
-returns-2 c = mark-same (now (c .before .before .args .work)) (c .before .before .args .i) (c .if1 .left)
+returns-2 c =
+    let args = c .before .before .args in
+    mark-same (now (args .work)) (args .i) (c .if1 .left)
 
 pub mark-spec : {M : Type 1} → statement M
 mark-spec =

@@ -21,35 +21,53 @@ enum-known-frame c = search needs
 add-from : tie.Need-add-from
 unfolding frame
 add-from c =
-    let l = frame⇒Framed (now (c .before .before .before .before .before .before .before .args .file)) (c .before .before .before .before .before .before .before .args .start) _ (sym (c .before .before .before .before .frame-at .ensures) ∙ ap (frame (c .before .before .before .before .before .before .before .args .start)) (c .before .before .frame .given .1)) in
-    let some = l .some in
-    let sized = l .sized in
-    let within = l .within in
-    omega (arith, c .before .before .before .before .before .before .before .good)
+    let args = c .before .before .before .before .before .before .before .args in
+    let frame-at = c .before .before .before .before .frame-at in
+    let the-frame = c .before .before .frame in
+    let good = c .before .before .before .before .before .before .before .good in
+    let l = frame⇒Framed (now (args .file)) (args .start) _ (sym (frame-at .ensures) ∙ ap (frame (args .start)) (the-frame .given .1)) in
+    let some = l .some in let sized = l .sized in let within = l .within in omega (arith, good)
 
 returns : tie.Need-returns
 unfolding frame
-returns c = λ first bs seen b k m at. block-none (now (c .before .before .before .before .before .before .before .before .before .args .file)) first bs seen (now (c .before .before .before .before .before .before .before .before .before .args .work)) (c .before .before .before .before .before .before .before .before .before .args .n) k b m (c .before .before .before .before .before .before .before .before .before .args .start) at _ (sym (c .before .before .before .before .before .before .frame-at .ensures) ∙ ap (frame (c .before .before .before .before .before .before .before .before .before .args .start)) (c .before .before .before .before .frame .given .1)) (c .if1 .taken)
+returns c =
+    let args = c .before .before .before .before .before .before .before .before .before .args in
+    let frame-at = c .before .before .before .before .before .before .frame-at in
+    let the-frame = c .before .before .before .before .frame in
+    λ first bs seen b k m at. block-none (now (args .file)) first bs seen (now (args .work)) (args .n) k b m (args .start) at _ (sym
+    (frame-at .ensures) ∙ ap (frame (args .start)) (the-frame .given .1)) (c .if1 .taken)
 
 name-entries-requires : tie.Need-name-entries-requires
 unfolding frame
 name-entries-requires c κs =
-    let l = frame⇒Framed (now (c .before .before .before .before .before .before .before .before .before .before .args .file)) (c .before .before .before .before .before .before .before .before .before .before .args .start) _ (sym (c .before .before .before .before .before .before .before .frame-at .ensures) ∙ ap (frame (c .before .before .before .before .before .before .before .before .before .before .args .start)) (c .before .before .before .before .before .frame .given .1)) in
-    let some = l .some in
-    let sized = l .sized in
-    let within = l .within in
-    (c .before .before .before .before .before .before .before .before .before .before .pre, omega arith)
+    let args = c .before .before .before .before .before .before .before .before .before .before .args in
+    let frame-at = c .before .before .before .before .before .before .before .frame-at in
+    let the-frame = c .before .before .before .before .before .frame in
+    let pre = c .before .before .before .before .before .before .before .before .before .before .pre in
+    let l = frame⇒Framed (now (args .file)) (args .start) _ (sym (frame-at .ensures) ∙ ap (frame (args .start)) (the-frame .given .1)) in
+    let some = l .some in let sized = l .sized in let within = l .within in (pre, omega arith)
 
 returns-2 : tie.Need-returns-2
 unfolding frame
-returns-2 c = λ first bs seen b k m at. absurd (block-framed (now (c .before .before .before .before .before .args .file)) first bs seen (now (c .before .before .before .before .before .args .work)) (c .before .before .before .before .before .args .n) k b m (c .before .before .before .before .before .args .start) at _ _ (sym (c .before .before .frame-at .ensures) ∙ ap (frame (c .before .before .before .before .before .args .start)) (c .enum-told .given .1)))
+returns-2 c =
+    let args = c .before .before .before .before .before .args in
+    let frame-at = c .before .before .frame-at in
+    λ first bs seen b k m at. absurd (block-framed (now (args .file)) first bs seen (now (args .work)) (args .n) k b m (args .start) at _ _
+    (sym (frame-at .ensures) ∙ ap (frame (args .start)) (c .enum-told .given .1)))
 
 same-length : tie.Need-same-length
 same-length c = search needs
 
 returns-3 : tie.Need-returns-3
 unfolding frame
-returns-3 c = λ first bs seen b k m at. block-index (now (c .before .before .before .before .before .before .before .before .before .before .before .before .before .args .file)) first bs seen (now (c .before .before .before .before .before .before .before .before .before .before .before .before .before .args .work)) (c .before .before .before .before .before .before .before .before .before .before .before .before .before .args .n) k b m (c .before .before .before .before .before .before .before .before .before .before .before .before .before .args .start) at _ (sym (c .before .before .before .before .before .before .before .before .before .before .frame-at .ensures) ∙ ap (frame (c .before .before .before .before .before .before .before .before .before .before .before .before .before .args .start)) (c .before .before .before .before .before .before .before .before .frame .given .1)) (c .before .before .before .before .if1 .left) _ _ (c .before .before .name-entries .ensures)
+returns-3 c =
+    let args = c .before .before .before .before .before .before .before .before .before .before .before .before .before .args in
+    let frame-at = c .before .before .before .before .before .before .before .before .before .before .frame-at in
+    let the-frame = c .before .before .before .before .before .before .before .before .frame in
+    let if1 = c .before .before .before .before .if1 in
+    let name-entries = c .before .before .name-entries in
+    λ first bs seen b k m at. block-index (now (args .file)) first bs seen (now (args .work)) (args .n) k b m (args .start) at _ (sym
+    (frame-at .ensures) ∙ ap (frame (args .start)) (the-frame .given .1)) (if1 .left) _ _ (name-entries .ensures)
 
 pub name-block-spec : {M : Type 1} → statement M
 name-block-spec =

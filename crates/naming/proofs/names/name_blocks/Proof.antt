@@ -22,10 +22,16 @@ mul-start : tie.Need-mul-start Inv-loop μ-loop
 mul-start c = search needs
 
 slice-read-start : tie.Need-slice-read-start Inv-loop μ-loop
-slice-read-start c = let long = c .before .before .loop .inv .long in omega (arith, c .before .before .before .before .before .pre)
+slice-read-start c =
+    let loop = c .before .before .loop in
+    let pre = c .before .before .before .before .before .pre in
+    let long = loop .inv .long in omega (arith, pre)
 
 name-block-requires : tie.Need-name-block-requires Inv-loop μ-loop
-name-block-requires c κs = let long = c .before .before .before .loop .inv .long in omega (arith, c .before .before .before .before .before .before .pre)
+name-block-requires c κs =
+    let loop = c .before .before .before .loop in
+    let pre = c .before .before .before .before .before .before .pre in
+    let long = loop .inv .long in omega (arith, pre)
 
 add-i : tie.Need-add-i Inv-loop μ-loop
 add-i c = search needs
@@ -34,19 +40,37 @@ loop-less : tie.Need-loop-less Inv-loop μ-loop
 loop-less c = search needs
 
 loop-again : tie.Need-loop-again Inv-loop μ-loop
-loop-again c = passing-more (now (c .before .before .before .before .before .before .before .before .before .before .args .file)) (now (c .before .before .before .before .before .before .before .before .before .before .args .work)) (c .before .before .before .before .before .before .before .before .before .before .args .n) (c .before .before .before .before .before .before .before .loop .work) (c .before .before .before .before .before .before .before .loop .i) (c .before .before .before .before .before .before .before .loop .inv) (c .before .before .before .before .before .before .loop-test .taken) _ _ (c .before .before .before .name-block .ensures) (c .if1 .taken) (c .before .before .before .name-block .kept .1 .1 .0)
+loop-again c =
+    let args = c .before .before .before .before .before .before .before .before .before .before .args in
+    let loop = c .before .before .before .before .before .before .before .loop in
+    let loop-test = c .before .before .before .before .before .before .loop-test in
+    let name-block = c .before .before .before .name-block in
+    passing-more (now (args .file)) (now (args .work)) (args .n) (loop .work) (loop .i) (loop .inv) (loop-test .taken) _ _
+    (name-block .ensures) (c .if1 .taken) (name-block .kept .1 .1 .0)
 
 same-length : tie.Need-same-length Inv-loop μ-loop
-same-length c = c .before .before .before .name-block .kept .1 .1 .0 ∙ c .before .before .before .before .before .before .before .loop .inv .long
+same-length c =
+    let name-block = c .before .before .before .name-block in
+    let loop = c .before .before .before .before .before .before .before .loop in
+    name-block .kept .1 .1 .0 ∙ loop .inv .long
 
 returns : tie.Need-returns Inv-loop μ-loop
-returns c = passing-broken (now (c .before .before .before .before .before .before .before .before .before .before .args .file)) (now (c .before .before .before .before .before .before .before .before .before .before .args .work)) (c .before .before .before .before .before .before .before .before .before .before .args .n) (c .before .before .before .before .before .before .before .loop .work) (c .before .before .before .before .before .before .before .loop .i) (c .before .before .before .before .before .before .before .loop .inv) (c .before .before .before .before .before .before .loop-test .taken) _ _ (c .before .before .before .name-block .ensures) (c .if1 .left)
+returns c =
+    let args = c .before .before .before .before .before .before .before .before .before .before .args in
+    let loop = c .before .before .before .before .before .before .before .loop in
+    let loop-test = c .before .before .before .before .before .before .loop-test in
+    let name-block = c .before .before .before .name-block in
+    passing-broken (now (args .file)) (now (args .work)) (args .n) (loop .work) (loop .i) (loop .inv) (loop-test .taken) _ _
+    (name-block .ensures) (c .if1 .left)
 
 same-length-2 : tie.Need-same-length-2 Inv-loop μ-loop
 same-length-2 c = c .before .loop .inv .long
 
 returns-2 : tie.Need-returns-2 Inv-loop μ-loop
-returns-2 c = passing-end (now (c .before .before .before .before .args .file)) (now (c .before .before .before .before .args .work)) (c .before .before .before .before .args .n) (c .before .loop .work) (c .before .loop .i) (c .before .loop .inv) (c .loop-test .left)
+returns-2 c =
+    let args = c .before .before .before .before .args in
+    passing-end (now (args .file)) (now (args .work)) (args .n) (c .before .loop .work) (c .before .loop .i) (c .before .loop .inv)
+    (c .loop-test .left)
 
 pub name-blocks-spec : {M : Type 1} → statement M
 name-blocks-spec =

@@ -11,8 +11,14 @@ find-requires : tie.Need-find-requires
 find-requires c κs = search needs
 
 returns : tie.Need-returns
-returns c = λ from bs seen key k.
-    named-none (now (c .before .before .before .before .args .file)) from bs seen (now (c .before .before .before .before .args .work)) (c .before .before .before .before .args .n) k (record { key = key; offset = c .before .before .before .before .args .offset; size = c .before .before .before .before .args .size }) (c .before .before .before .before .args .level) (c .before .find .result) (c .before .find .ensures) (c .if1 .taken)
+returns c =
+    let args = c .before .before .before .before .args in
+    λ from bs seen key k. named-none (now (args .file)) from bs seen (now (args .work)) (args .n) k (record {
+      key = key;
+      offset =
+          args .offset;
+      size = args .size;
+    }) (args .level) (c .before .find .result) (c .before .find .ensures) (c .if1 .taken)
 
 frame-at-requires : tie.Need-frame-at-requires
 frame-at-requires c κs = search needs
@@ -25,8 +31,19 @@ enum-known-frame c = search needs
 
 returns-2 : tie.Need-returns-2
 unfolding frame
-returns-2 c = λ from bs seen key k.
-    named-unfit (now (c .before .before .before .before .before .before .before .before .before .args .file)) from bs seen (now (c .before .before .before .before .before .before .before .before .before .args .work)) (c .before .before .before .before .before .before .before .before .before .args .n) k (record { key = key; offset = c .before .before .before .before .before .before .before .before .before .args .offset; size = c .before .before .before .before .before .before .before .before .before .args .size }) (c .before .before .before .before .before .before .before .before .before .args .level) (c .before .before .before .before .before .before .find .result) (c .before .before .before .before .before .before .find .ensures) (c .before .before .before .before .before .if1 .left) _ (sym (c .before .before .before .before .frame-at .ensures) ∙ ap (frame (c .before .before .before .before .before .before .before .before .before .args .offset)) (c .before .before .frame .given .1)) (λ size lower. c .if2 .taken size)
+returns-2 c =
+    let args = c .before .before .before .before .before .before .before .before .before .args in
+    let find = c .before .before .before .before .before .before .find in
+    let if1 = c .before .before .before .before .before .if1 in
+    let frame-at = c .before .before .before .before .frame-at in
+    let the-frame = c .before .before .frame in
+    λ from bs seen key k. named-unfit (now (args .file)) from bs seen (now (args .work)) (args .n) k (record {
+      key = key;
+      offset =
+          args .offset;
+      size = args .size;
+    }) (args .level) (find .result) (find .ensures) (if1 .left) _ (sym (frame-at .ensures) ∙ ap (frame
+    (args .offset)) (the-frame .given .1)) (λ size lower. c .if2 .taken size)
 
 cast-if3 : tie.Need-cast-if3
 cast-if3 c = search needs
@@ -36,18 +53,51 @@ add-if3 c = search needs
 
 returns-3 : tie.Need-returns-3
 unfolding frame
-returns-3 c = λ from bs seen key k.
-    named-unfit (now (c .before .before .before .before .before .before .before .before .before .before .before .args .file)) from bs seen (now (c .before .before .before .before .before .before .before .before .before .before .before .args .work)) (c .before .before .before .before .before .before .before .before .before .before .before .args .n) k (record { key = key; offset = c .before .before .before .before .before .before .before .before .before .before .before .args .offset; size = c .before .before .before .before .before .before .before .before .before .before .before .args .size }) (c .before .before .before .before .before .before .before .before .before .before .before .args .level) (c .before .before .before .before .before .before .before .before .find .result) (c .before .before .before .before .before .before .before .before .find .ensures) (c .before .before .before .before .before .before .before .if1 .left) _ (sym (c .before .before .before .before .before .before .frame-at .ensures) ∙ ap (frame (c .before .before .before .before .before .before .before .before .before .before .before .args .offset)) (c .before .before .before .before .frame .given .1)) (λ size lower. c .if3 .taken lower)
+returns-3 c =
+    let args = c .before .before .before .before .before .before .before .before .before .before .before .args in
+    let find = c .before .before .before .before .before .before .before .before .find in
+    let if1 = c .before .before .before .before .before .before .before .if1 in
+    let frame-at = c .before .before .before .before .before .before .frame-at in
+    let the-frame = c .before .before .before .before .frame in
+    λ from bs seen key k. named-unfit (now (args .file)) from bs seen (now (args .work)) (args .n) k (record {
+      key = key;
+      offset =
+          args .offset;
+      size = args .size;
+    }) (args .level) (find .result) (find .ensures) (if1 .left) _ (sym (frame-at .ensures) ∙ ap (frame
+    (args .offset)) (the-frame .given .1)) (λ size lower. c .if3 .taken lower)
 
 returns-4 : tie.Need-returns-4
 unfolding frame
-returns-4 c = λ from bs seen key k.
-    absurd (named-framed (now (c .before .before .before .before .before .before .before .args .file)) from bs seen (now (c .before .before .before .before .before .before .before .args .work)) (c .before .before .before .before .before .before .before .args .n) k (record { key = key; offset = c .before .before .before .before .before .before .before .args .offset; size = c .before .before .before .before .before .before .before .args .size }) (c .before .before .before .before .before .before .before .args .level) (c .before .before .before .before .find .result) (c .before .before .before .before .find .ensures) (c .before .before .before .if1 .left) _ _ (sym (c .before .before .frame-at .ensures) ∙ ap (frame (c .before .before .before .before .before .before .before .args .offset)) (c .enum-told .given .1)))
+returns-4 c =
+    let args = c .before .before .before .before .before .before .before .args in
+    let find = c .before .before .before .before .find in
+    let if1 = c .before .before .before .if1 in
+    let frame-at = c .before .before .frame-at in
+    λ from bs seen key k. absurd (named-framed (now (args .file)) from bs seen (now (args .work)) (args .n) k (record {
+      key = key;
+      offset =
+          args .offset;
+      size = args .size;
+    }) (args .level) (find .result) (find .ensures) (if1 .left) _ _ (sym (frame-at .ensures) ∙ ap (frame
+    (args .offset)) (c .enum-told .given .1)))
 
 returns-5 : tie.Need-returns-5
 unfolding frame
-returns-5 c = λ from bs seen key k.
-    named-fit (now (c .before .before .before .before .before .before .before .before .before .before .before .args .file)) from bs seen (now (c .before .before .before .before .before .before .before .before .before .before .before .args .work)) (c .before .before .before .before .before .before .before .before .before .before .before .args .n) k (record { key = key; offset = c .before .before .before .before .before .before .before .before .before .before .before .args .offset; size = c .before .before .before .before .before .before .before .before .before .before .before .args .size }) (c .before .before .before .before .before .before .before .before .before .before .before .args .level) (c .before .before .before .before .before .before .before .before .find .result) (c .before .before .before .before .before .before .before .before .find .ensures) (c .before .before .before .before .before .before .before .if1 .left) _ (sym (c .before .before .before .before .before .before .frame-at .ensures) ∙ ap (frame (c .before .before .before .before .before .before .before .before .before .before .before .args .offset)) (c .before .before .before .before .frame .given .1)) (c .before .before .if2 .left) (c .if3 .left)
+returns-5 c =
+    let args = c .before .before .before .before .before .before .before .before .before .before .before .args in
+    let find = c .before .before .before .before .before .before .before .before .find in
+    let if1 = c .before .before .before .before .before .before .before .if1 in
+    let frame-at = c .before .before .before .before .before .before .frame-at in
+    let the-frame = c .before .before .before .before .frame in
+    let if2 = c .before .before .if2 in
+    λ from bs seen key k. named-fit (now (args .file)) from bs seen (now (args .work)) (args .n) k (record {
+      key = key;
+      offset =
+          args .offset;
+      size = args .size;
+    }) (args .level) (find .result) (find .ensures) (if1 .left) _ (sym (frame-at .ensures) ∙ ap (frame
+    (args .offset)) (the-frame .given .1)) (if2 .left) (c .if3 .left)
 
 pub named-spec : {M : Type 1} → statement M
 named-spec =

@@ -21,8 +21,13 @@ same-length : tie.Need-same-length
 same-length c = search needs
 
 returns-2 : tie.Need-returns-2
-returns-2 c = λ bs short read many room.
-    naming-broken (now (c .before .before .before .before .before .before .before .before .before .before .before .before .before .args .file)) (c .before .before .before .before .before .before .before .before .before .before .before .before .before .args .from) bs _ (c .before .before .before .before .before .before .before .before .before .before .before .before .before .args .blocks) (c .before .before .before .before .before .before .before .before .before .before .before .before .before .args .root) _ (c .before .before .before .before .name-blocks .ensures (c .before .before .before .before .before .before .before .before .before .before .before .before .before .args .from) bs (kept-start (now (c .before .before .before .before .before .before .before .before .before .before .before .before .before .args .file)) (c .before .before .before .before .before .before .before .before .before .before .before .before .before .args .from) bs _ (c .before .before .before .before .before .before .before .before .before .before .before .before .before .args .blocks) short read many (c .before .before .before .before .before .before .before .before .fill .ensures bs read (let long = length-starts bs in omega arith)))) (c .if2 .taken)
+returns-2 c =
+    let args = c .before .before .before .before .before .before .before .before .before .before .before .before .before .args in
+    let name-blocks = c .before .before .before .before .name-blocks in
+    let fill = c .before .before .before .before .before .before .before .before .fill in
+    λ bs short read many room. naming-broken (now (args .file)) (args .from) bs _ (args .blocks) (args .root) _ (name-blocks .ensures
+    (args .from) bs (kept-start (now (args .file)) (args .from) bs _ (args .blocks) short read many (fill .ensures bs read (let long =
+    length-starts bs in omega arith)))) (c .if2 .taken)
 
 count-names-requires : tie.Need-count-names-requires
 count-names-requires c κs = search needs
@@ -31,8 +36,14 @@ same-length-2 : tie.Need-same-length-2
 same-length-2 c = search needs
 
 returns-3 : tie.Need-returns-3
-returns-3 c = λ bs short read many room.
-    naming-counted (now (c .before .before .before .before .before .before .before .before .before .before .before .before .before .before .before .args .file)) (c .before .before .before .before .before .before .before .before .before .before .before .before .before .before .before .args .from) bs _ (c .before .before .before .before .before .before .before .before .before .before .before .before .before .before .before .args .blocks) (c .before .before .before .before .before .before .before .before .before .before .before .before .before .before .before .args .root) _ (c .before .before .before .before .before .before .name-blocks .ensures (c .before .before .before .before .before .before .before .before .before .before .before .before .before .before .before .args .from) bs (kept-start (now (c .before .before .before .before .before .before .before .before .before .before .before .before .before .before .before .args .file)) (c .before .before .before .before .before .before .before .before .before .before .before .before .before .before .before .args .from) bs _ (c .before .before .before .before .before .before .before .before .before .before .before .before .before .before .before .args .blocks) short read many (c .before .before .before .before .before .before .before .before .before .before .fill .ensures bs read (let long = length-starts bs in omega arith)))) (c .before .before .if2 .left) _ (λ k. c .count-names .ensures (now (c .before .before .before .before .before .before .before .before .before .before .before .before .before .before .before .args .file)) (c .before .before .before .before .before .before .before .before .before .before .before .before .before .before .before .args .from) bs k)
+returns-3 c =
+    let args = c .before .before .before .before .before .before .before .before .before .before .before .before .before .before .before .args in
+    let name-blocks = c .before .before .before .before .before .before .name-blocks in
+    let fill = c .before .before .before .before .before .before .before .before .before .before .fill in
+    let if2 = c .before .before .if2 in
+    λ bs short read many room. naming-counted (now (args .file)) (args .from) bs _ (args .blocks) (args .root) _ (name-blocks .ensures
+    (args .from) bs (kept-start (now (args .file)) (args .from) bs _ (args .blocks) short read many (fill .ensures bs read (let long =
+    length-starts bs in omega arith)))) (if2 .left) _ (λ k. c .count-names .ensures (now (args .file)) (args .from) bs k)
 
 pub naming-fault-spec : {M : Type 1} → statement M
 naming-fault-spec =

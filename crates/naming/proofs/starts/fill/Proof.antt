@@ -28,11 +28,18 @@ enum-told : tie.Need-enum-told Inv-loop μ-loop
 enum-told c = search needs
 
 same-length : tie.Need-same-length Inv-loop μ-loop
-same-length c = c .before .before .before .before .loop .inv .long
+same-length c =
+    let loop = c .before .before .before .before .loop in
+    loop .inv .long
 
 returns : tie.Need-returns Inv-loop μ-loop
 unfolding frame
-returns c = λ bs b room. absurd (hopped-refused _ _ _ _ _ _ (c .before .before .before .before .loop .inv) (c .before .before .before .loop-test .taken) _ _ (sym (c .before .before .frame-at .ensures) ∙ ap (frame (c .before .before .before .before .loop .at)) (c .enum-told .given .1)) bs b)
+returns c =
+    let loop = c .before .before .before .before .loop in
+    let loop-test = c .before .before .before .loop-test in
+    let frame-at = c .before .before .frame-at in
+    λ bs b room. absurd (hopped-refused _ _ _ _ _ _ (loop .inv) (loop-test .taken) _ _ (sym (frame-at .ensures) ∙ ap (frame (loop .at))
+    (c .enum-told .given .1)) bs b)
 
 enum-known-frame : tie.Need-enum-known-frame Inv-loop μ-loop
 enum-known-frame c = search needs
@@ -40,13 +47,16 @@ enum-known-frame c = search needs
 add-at : tie.Need-add-at Inv-loop μ-loop
 unfolding frame
 add-at c =
-    let l = frame⇒Framed (now (c .before .before .before .before .before .before .before .before .before .args .file)) (c .before .before .before .before .before .before .loop .at) _ (sym (c .before .before .before .before .frame-at .ensures) ∙ ap (frame (c .before .before .before .before .before .before .loop .at)) (c .before .before .frame .given .1)) in
-    let number = l .number in
-    let some = l .some in
-    let sized = l .sized in
-    let within = l .within in
-    let few = c .before .before .before .before .before .before .loop .inv .few in
-    omega (arith, c .before .before .before .before .before .before .before .before .before .good)
+    let args = c .before .before .before .before .before .before .before .before .before .args in
+    let loop = c .before .before .before .before .before .before .loop in
+    let frame-at = c .before .before .before .before .frame-at in
+    let the-frame = c .before .before .frame in
+    let good = c .before .before .before .before .before .before .before .before .before .good in
+    let l = frame⇒Framed (now (args .file)) (loop .at) _ (sym (frame-at .ensures) ∙ ap (frame (loop .at)) (the-frame .given .1)) in let
+    number = l .number in let some = l .some in let sized = l .sized in let within = l .within in let few = loop .inv .few in omega (
+      arith,
+      good,
+    )
 
 store-requires : tie.Need-store-requires Inv-loop μ-loop
 store-requires c κs = search needs
@@ -54,43 +64,66 @@ store-requires c κs = search needs
 add-count : tie.Need-add-count Inv-loop μ-loop
 unfolding frame
 add-count c =
-    let l = frame⇒Framed (now (c .before .before .before .before .before .before .before .before .before .before .before .before .before .before .before .args .file)) (c .before .before .before .before .before .before .before .before .before .before .before .before .loop .at) _ (sym (c .before .before .before .before .before .before .before .before .before .before .frame-at .ensures) ∙ ap (frame (c .before .before .before .before .before .before .before .before .before .before .before .before .loop .at)) (c .before .before .before .before .before .before .before .before .frame .given .1)) in
-    let number = l .number in
-    let some = l .some in
-    let sized = l .sized in
-    let within = l .within in
-    let few = c .before .before .before .before .before .before .before .before .before .before .before .before .loop .inv .few in
-    omega (arith, c .before .before .before .before .before .before .before .before .before .before .before .before .before .before .before .good)
+    let args = c .before .before .before .before .before .before .before .before .before .before .before .before .before .before .before .args in
+    let loop = c .before .before .before .before .before .before .before .before .before .before .before .before .loop in
+    let frame-at = c .before .before .before .before .before .before .before .before .before .before .frame-at in
+    let the-frame = c .before .before .before .before .before .before .before .before .frame in
+    let good = c .before .before .before .before .before .before .before .before .before .before .before .before .before .before .before .good in
+    let l = frame⇒Framed (now (args .file)) (loop .at) _ (sym (frame-at .ensures) ∙ ap (frame (loop .at)) (the-frame .given .1)) in let
+    number = l .number in let some = l .some in let sized = l .sized in let within = l .within in let few = loop .inv .few in omega (
+      arith,
+      good,
+    )
 
 loop-less : tie.Need-loop-less Inv-loop μ-loop
 unfolding frame
 loop-less c =
-    let l = frame⇒Framed (now (c .before .before .before .before .before .before .before .before .before .before .before .before .before .before .before .args .file)) (c .before .before .before .before .before .before .before .before .before .before .before .before .loop .at) _ (sym (c .before .before .before .before .before .before .before .before .before .before .frame-at .ensures) ∙ ap (frame (c .before .before .before .before .before .before .before .before .before .before .before .before .loop .at)) (c .before .before .before .before .before .before .before .before .frame .given .1)) in
-    let number = l .number in
-    let some = l .some in
-    let sized = l .sized in
-    let within = l .within in
-    let few = c .before .before .before .before .before .before .before .before .before .before .before .before .loop .inv .few in
-    omega (arith, c .before .before .before .before .before .before .before .before .before .before .before .before .before .before .before .good)
+    let args = c .before .before .before .before .before .before .before .before .before .before .before .before .before .before .before .args in
+    let loop = c .before .before .before .before .before .before .before .before .before .before .before .before .loop in
+    let frame-at = c .before .before .before .before .before .before .before .before .before .before .frame-at in
+    let the-frame = c .before .before .before .before .before .before .before .before .frame in
+    let good = c .before .before .before .before .before .before .before .before .before .before .before .before .before .before .before .good in
+    let l = frame⇒Framed (now (args .file)) (loop .at) _ (sym (frame-at .ensures) ∙ ap (frame (loop .at)) (the-frame .given .1)) in let
+    number = l .number in let some = l .some in let sized = l .sized in let within = l .within in let few = loop .inv .few in omega (
+      arith,
+      good,
+    )
 
 loop-again : tie.Need-loop-again Inv-loop μ-loop
 unfolding frame
-loop-again c = hopped-ordinary _ _ _ _ _ _ (c .before .before .before .before .before .before .before .before .before .before .before .before .loop .inv) (c .before .before .before .before .before .before .before .before .before .before .before .loop-test .taken) _ (sym (c .before .before .before .before .before .before .before .before .before .before .frame-at .ensures) ∙ ap (frame (c .before .before .before .before .before .before .before .before .before .before .before .before .loop .at)) (c .before .before .before .before .before .before .before .before .frame .given .1)) (c .before .before .before .before .if1 .taken) _ (c .before .before .store .ensures)
+loop-again c =
+    let loop = c .before .before .before .before .before .before .before .before .before .before .before .before .loop in
+    let loop-test = c .before .before .before .before .before .before .before .before .before .before .before .loop-test in
+    let frame-at = c .before .before .before .before .before .before .before .before .before .before .frame-at in
+    let the-frame = c .before .before .before .before .before .before .before .before .frame in
+    let if1 = c .before .before .before .before .if1 in
+    let store = c .before .before .store in
+    hopped-ordinary _ _ _ _ _ _ (loop .inv) (loop-test .taken) _ (sym (frame-at .ensures) ∙ ap (frame (loop .at)) (the-frame .given .1))
+    (if1 .taken) _ (store .ensures)
 
 loop-less-2 : tie.Need-loop-less-2 Inv-loop μ-loop
 unfolding frame
 loop-less-2 c =
-    let l = frame⇒Framed (now (c .before .before .before .before .before .before .before .before .before .before .before .args .file)) (c .before .before .before .before .before .before .before .before .loop .at) _ (sym (c .before .before .before .before .before .before .frame-at .ensures) ∙ ap (frame (c .before .before .before .before .before .before .before .before .loop .at)) (c .before .before .before .before .frame .given .1)) in
-    let number = l .number in
-    let some = l .some in
-    let sized = l .sized in
-    let within = l .within in
-    let few = c .before .before .before .before .before .before .before .before .loop .inv .few in
-    omega (arith, c .before .before .before .before .before .before .before .before .before .before .before .good)
+    let args = c .before .before .before .before .before .before .before .before .before .before .before .args in
+    let loop = c .before .before .before .before .before .before .before .before .loop in
+    let frame-at = c .before .before .before .before .before .before .frame-at in
+    let the-frame = c .before .before .before .before .frame in
+    let good = c .before .before .before .before .before .before .before .before .before .before .before .good in
+    let l = frame⇒Framed (now (args .file)) (loop .at) _ (sym (frame-at .ensures) ∙ ap (frame (loop .at)) (the-frame .given .1)) in let
+    number = l .number in let some = l .some in let sized = l .sized in let within = l .within in let few = loop .inv .few in omega (
+      arith,
+      good,
+    )
 
 loop-again-2 : tie.Need-loop-again-2 Inv-loop μ-loop
 unfolding frame
-loop-again-2 c = hopped-reserved _ _ _ _ _ _ (c .before .before .before .before .before .before .before .before .loop .inv) (c .before .before .before .before .before .before .before .loop-test .taken) _ (sym (c .before .before .before .before .before .before .frame-at .ensures) ∙ ap (frame (c .before .before .before .before .before .before .before .before .loop .at)) (c .before .before .before .before .frame .given .1)) (c .if1 .left)
+loop-again-2 c =
+    let loop = c .before .before .before .before .before .before .before .before .loop in
+    let loop-test = c .before .before .before .before .before .before .before .loop-test in
+    let frame-at = c .before .before .before .before .before .before .frame-at in
+    let the-frame = c .before .before .before .before .frame in
+    hopped-reserved _ _ _ _ _ _ (loop .inv) (loop-test .taken) _ (sym (frame-at .ensures) ∙ ap (frame (loop .at)) (the-frame .given .1))
+    (c .if1 .left)
 
 same-length-2 : tie.Need-same-length-2 Inv-loop μ-loop
 same-length-2 c = c .before .loop .inv .long

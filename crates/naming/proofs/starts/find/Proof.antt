@@ -31,7 +31,9 @@ shared-slice-read-start c = search needs
 
 returns : tie.Need-returns Inv-loop μ-loop
 unfolding startAt
-returns c = λ rise. bracket-found _ _ _ _ _ (c .before .before .before .loop .inv) _ (omega arith) (c .if1 .taken)
+returns c =
+    let loop = c .before .before .before .loop in
+    λ rise. bracket-found _ _ _ _ _ (loop .inv) _ (omega arith) (c .if1 .taken)
 
 add-low : tie.Need-add-low Inv-loop μ-loop
 add-low c = search needs
@@ -41,14 +43,18 @@ loop-less c = search needs
 
 loop-again : tie.Need-loop-again Inv-loop μ-loop
 unfolding startAt
-loop-again c = bracket-up _ _ _ _ _ (c .before .before .before .before .loop .inv) _ (omega arith) (omega arith) (c .if2 .taken)
+loop-again c =
+    let loop = c .before .before .before .before .loop in
+    bracket-up _ _ _ _ _ (loop .inv) _ (omega arith) (omega arith) (c .if2 .taken)
 
 loop-less-2 : tie.Need-loop-less-2 Inv-loop μ-loop
 loop-less-2 c = search needs
 
 loop-again-2 : tie.Need-loop-again-2 Inv-loop μ-loop
 unfolding startAt
-loop-again-2 c = bracket-down _ _ _ _ _ (c .before .before .before .before .loop .inv) _ (omega arith) (omega arith) (omega arith)
+loop-again-2 c =
+    let loop = c .before .before .before .before .loop in
+    bracket-down _ _ _ _ _ (loop .inv) _ (omega arith) (omega arith) (omega arith)
 
 returns-2 : tie.Need-returns-2 Inv-loop μ-loop
 returns-2 c = λ rise. bracket-none _ _ _ _ _ (c .before .loop .inv) (c .loop-test .left) rise

@@ -31,11 +31,17 @@ enum-told : tie.Need-enum-told Inv-loop μ-loop
 enum-told c = search needs
 
 same-length : tie.Need-same-length Inv-loop μ-loop
-same-length c = c .before .before .before .before .loop .inv .long
+same-length c =
+    let loop = c .before .before .before .before .loop in
+    loop .inv .long
 
 returns : tie.Need-returns Inv-loop μ-loop
 unfolding frame
-returns c = frames-refused _ _ _ _ _ _ (c .before .before .before .before .loop .inv) (c .before .before .before .loop-test .taken) _ _ (sym (c .before .before .frame-at .ensures) ∙ ap (frame (c .before .before .before .before .loop .at)) (c .enum-told .given .1))
+returns c =
+    let loop = c .before .before .before .before .loop in
+    let loop-test = c .before .before .before .loop-test in
+    let frame-at = c .before .before .frame-at in
+    frames-refused _ _ _ _ _ _ (loop .inv) (loop-test .taken) _ _ (sym (frame-at .ensures) ∙ ap (frame (loop .at)) (c .enum-told .given .1))
 
 enum-known-frame : tie.Need-enum-known-frame Inv-loop μ-loop
 enum-known-frame c = search needs
@@ -43,64 +49,88 @@ enum-known-frame c = search needs
 add-first : tie.Need-add-first Inv-loop μ-loop
 unfolding frame
 add-first c =
-    let l = frame⇒Framed (now (c .before .before .before .before .before .before .before .before .before .before .before .before .args .file)) (c .before .before .before .before .before .before .loop .at) _ (sym (c .before .before .before .before .frame-at .ensures) ∙ ap (frame (c .before .before .before .before .before .before .loop .at)) (c .before .before .frame .given .1)) in
-    let number = l .number in
-    let some = l .some in
-    let sized = l .sized in
-    let within = l .within in
-    omega (arith, c .before .before .before .before .before .before .before .before .before .before .before .before .good)
+    let args = c .before .before .before .before .before .before .before .before .before .before .before .before .args in
+    let loop = c .before .before .before .before .before .before .loop in
+    let frame-at = c .before .before .before .before .frame-at in
+    let the-frame = c .before .before .frame in
+    let good = c .before .before .before .before .before .before .before .before .before .before .before .before .good in
+    let l = frame⇒Framed (now (args .file)) (loop .at) _ (sym (frame-at .ensures) ∙ ap (frame (loop .at)) (the-frame .given .1)) in let
+    number = l .number in let some = l .some in let sized = l .sized in let within = l .within in omega (arith, good)
 
 add-at : tie.Need-add-at Inv-loop μ-loop
 unfolding frame
 add-at c =
-    let l = frame⇒Framed (now (c .before .before .before .before .before .before .before .before .before .before .before .before .before .args .file)) (c .before .before .before .before .before .before .before .loop .at) _ (sym (c .before .before .before .before .before .frame-at .ensures) ∙ ap (frame (c .before .before .before .before .before .before .before .loop .at)) (c .before .before .before .frame .given .1)) in
-    let number = l .number in
-    let some = l .some in
-    let sized = l .sized in
-    let within = l .within in
-    omega (arith, c .before .before .before .before .before .before .before .before .before .before .before .before .before .good)
+    let args = c .before .before .before .before .before .before .before .before .before .before .before .before .before .args in
+    let loop = c .before .before .before .before .before .before .before .loop in
+    let frame-at = c .before .before .before .before .before .frame-at in
+    let the-frame = c .before .before .before .frame in
+    let good = c .before .before .before .before .before .before .before .before .before .before .before .before .before .good in
+    let l = frame⇒Framed (now (args .file)) (loop .at) _ (sym (frame-at .ensures) ∙ ap (frame (loop .at)) (the-frame .given .1)) in let
+    number = l .number in let some = l .some in let sized = l .sized in let within = l .within in omega (arith, good)
 
 slice-aggregate-collect-records : tie.Need-slice-aggregate-collect-records Inv-loop μ-loop
 unfolding frame
 slice-aggregate-collect-records c =
-    let l = frame⇒Framed (now (c .before .before .before .before .before .before .before .before .before .before .before .before .before .before .before .before .args .file)) (c .before .before .before .before .before .before .before .before .before .before .loop .at) _ (sym (c .before .before .before .before .before .before .before .before .frame-at .ensures) ∙ ap (frame (c .before .before .before .before .before .before .before .before .before .before .loop .at)) (c .before .before .before .before .before .before .frame .given .1)) in
-    let number = l .number in
-    let some = l .some in
-    let sized = l .sized in
-    let within = l .within in
-    sym (length-take-le _ (now (c .before .before .before .before .before .before .before .before .before .before .before .before .before .before .before .before .args .file)) (omega arith))
+    let args = c .before .before .before .before .before .before .before .before .before .before .before .before .before .before .before .before .args in
+    let loop = c .before .before .before .before .before .before .before .before .before .before .loop in
+    let frame-at = c .before .before .before .before .before .before .before .before .frame-at in
+    let the-frame = c .before .before .before .before .before .before .frame in
+    let l = frame⇒Framed (now (args .file)) (loop .at) _ (sym (frame-at .ensures) ∙ ap (frame (loop .at)) (the-frame .given .1)) in let
+    number = l .number in let some = l .some in let sized = l .sized in let within = l .within in sym (length-take-le _ (now (args .file))
+    (omega arith))
 
 collect-records-requires : tie.Need-collect-records-requires Inv-loop μ-loop
 unfolding frame
-collect-records-requires c κs = frames-room _ _ _ _ _ _ (c .before .before .before .before .before .before .before .before .before .before .before .loop .inv) (c .before .before .before .before .before .before .before .before .before .before .loop-test .taken) _ (sym (c .before .before .before .before .before .before .before .before .before .frame-at .ensures) ∙ ap (frame (c .before .before .before .before .before .before .before .before .before .before .before .loop .at)) (c .before .before .before .before .before .before .before .frame .given .1)) (2 ^ 64) (omega (arith, c .before .before .before .before .before .before .before .before .before .before .before .before .before .before .before .before .before .good))
+collect-records-requires c κs =
+    let loop = c .before .before .before .before .before .before .before .before .before .before .before .loop in
+    let loop-test = c .before .before .before .before .before .before .before .before .before .before .loop-test in
+    let frame-at = c .before .before .before .before .before .before .before .before .before .frame-at in
+    let the-frame = c .before .before .before .before .before .before .before .frame in
+    let good = c .before .before .before .before .before .before .before .before .before .before .before .before .before .before .before .before .before .good in
+    frames-room _ _ _ _ _ _ (loop .inv) (loop-test .taken) _ (sym (frame-at .ensures) ∙ ap (frame (loop .at)) (the-frame .given .1)) (2 ^
+    64) (omega (arith, good))
 
 loop-less : tie.Need-loop-less Inv-loop μ-loop
 unfolding frame
 loop-less c =
-    let l = frame⇒Framed (now (c .before .before .before .before .before .before .before .before .before .before .before .before .before .before .before .before .before .before .before .before .args .file)) (c .before .before .before .before .before .before .before .before .before .before .before .before .before .before .loop .at) _ (sym (c .before .before .before .before .before .before .before .before .before .before .before .before .frame-at .ensures) ∙ ap (frame (c .before .before .before .before .before .before .before .before .before .before .before .before .before .before .loop .at)) (c .before .before .before .before .before .before .before .before .before .before .frame .given .1)) in
-    let number = l .number in
-    let some = l .some in
-    let sized = l .sized in
-    let within = l .within in
-    omega arith
+    let args = c .before .before .before .before .before .before .before .before .before .before .before .before .before .before .before .before .before .before .before .before .args in
+    let loop = c .before .before .before .before .before .before .before .before .before .before .before .before .before .before .loop in
+    let frame-at = c .before .before .before .before .before .before .before .before .before .before .before .before .frame-at in
+    let the-frame = c .before .before .before .before .before .before .before .before .before .before .frame in
+    let l = frame⇒Framed (now (args .file)) (loop .at) _ (sym (frame-at .ensures) ∙ ap (frame (loop .at)) (the-frame .given .1)) in let
+    number = l .number in let some = l .some in let sized = l .sized in let within = l .within in omega arith
 
 loop-again : tie.Need-loop-again Inv-loop μ-loop
 unfolding frame
-loop-again c = frames-data _ _ _ _ _ _ (c .before .before .before .before .before .before .before .before .before .before .before .before .before .before .loop .inv) (c .before .before .before .before .before .before .before .before .before .before .before .before .before .loop-test .taken) _ (sym (c .before .before .before .before .before .before .before .before .before .before .before .before .frame-at .ensures) ∙ ap (frame (c .before .before .before .before .before .before .before .before .before .before .before .before .before .before .loop .at)) (c .before .before .before .before .before .before .before .before .before .before .frame .given .1)) (c .before .before .before .before .before .if1 .taken) _ (c .before .before .collect-records .ensures _)
+loop-again c =
+    let loop = c .before .before .before .before .before .before .before .before .before .before .before .before .before .before .loop in
+    let loop-test = c .before .before .before .before .before .before .before .before .before .before .before .before .before .loop-test in
+    let frame-at = c .before .before .before .before .before .before .before .before .before .before .before .before .frame-at in
+    let the-frame = c .before .before .before .before .before .before .before .before .before .before .frame in
+    let if1 = c .before .before .before .before .before .if1 in
+    let collect-records = c .before .before .collect-records in
+    frames-data _ _ _ _ _ _ (loop .inv) (loop-test .taken) _ (sym (frame-at .ensures) ∙ ap (frame (loop .at)) (the-frame .given .1))
+    (if1 .taken) _ (collect-records .ensures _)
 
 loop-less-2 : tie.Need-loop-less-2 Inv-loop μ-loop
 unfolding frame
 loop-less-2 c =
-    let l = frame⇒Framed (now (c .before .before .before .before .before .before .before .before .before .before .before .before .before .before .before .args .file)) (c .before .before .before .before .before .before .before .before .before .loop .at) _ (sym (c .before .before .before .before .before .before .before .frame-at .ensures) ∙ ap (frame (c .before .before .before .before .before .before .before .before .before .loop .at)) (c .before .before .before .before .before .frame .given .1)) in
-    let number = l .number in
-    let some = l .some in
-    let sized = l .sized in
-    let within = l .within in
-    omega arith
+    let args = c .before .before .before .before .before .before .before .before .before .before .before .before .before .before .before .args in
+    let loop = c .before .before .before .before .before .before .before .before .before .loop in
+    let frame-at = c .before .before .before .before .before .before .before .frame-at in
+    let the-frame = c .before .before .before .before .before .frame in
+    let l = frame⇒Framed (now (args .file)) (loop .at) _ (sym (frame-at .ensures) ∙ ap (frame (loop .at)) (the-frame .given .1)) in let
+    number = l .number in let some = l .some in let sized = l .sized in let within = l .within in omega arith
 
 loop-again-2 : tie.Need-loop-again-2 Inv-loop μ-loop
 unfolding frame
-loop-again-2 c = frames-other _ _ _ _ _ _ (c .before .before .before .before .before .before .before .before .before .loop .inv) (c .before .before .before .before .before .before .before .before .loop-test .taken) _ (sym (c .before .before .before .before .before .before .before .frame-at .ensures) ∙ ap (frame (c .before .before .before .before .before .before .before .before .before .loop .at)) (c .before .before .before .before .before .frame .given .1)) (c .if1 .left)
+loop-again-2 c =
+    let loop = c .before .before .before .before .before .before .before .before .before .loop in
+    let loop-test = c .before .before .before .before .before .before .before .before .loop-test in
+    let frame-at = c .before .before .before .before .before .before .before .frame-at in
+    let the-frame = c .before .before .before .before .before .frame in
+    frames-other _ _ _ _ _ _ (loop .inv) (loop-test .taken) _ (sym (frame-at .ensures) ∙ ap (frame (loop .at)) (the-frame .given .1))
+    (c .if1 .left)
 
 same-length-2 : tie.Need-same-length-2 Inv-loop μ-loop
 same-length-2 c = c .before .loop .inv .long

@@ -29,11 +29,19 @@ enum-told : tie.Need-enum-told Inv-loop μ-loop
 enum-told c = search needs
 
 same-length : tie.Need-same-length Inv-loop μ-loop
-same-length c = c .before .before .before .before .loop .inv .long
+same-length c =
+    let loop = c .before .before .before .before .loop in
+    loop .inv .long
 
 returns : tie.Need-returns Inv-loop μ-loop
 unfolding text
-returns c place = records-refused _ _ _ _ _ _ (c .before .before .before .before .loop .inv) (c .before .before .before .loop-test .taken) place _ (sym (c .before .before .text-at .ensures place) ∙ ap (text place (now (c .before .before .before .before .before .before .before .before .before .before .args .s))) (c .enum-told .given .1))
+returns c place =
+    let loop = c .before .before .before .before .loop in
+    let loop-test = c .before .before .before .loop-test in
+    let text-at = c .before .before .text-at in
+    let args = c .before .before .before .before .before .before .before .before .before .before .args in
+    records-refused _ _ _ _ _ _ (loop .inv) (loop-test .taken) place _ (sym (text-at .ensures place) ∙ ap (text place (now (args .s)))
+    (c .enum-told .given .1))
 
 enum-known-step : tie.Need-enum-known-step Inv-loop μ-loop
 enum-known-step c = search needs
@@ -41,10 +49,12 @@ enum-known-step c = search needs
 add-end : tie.Need-add-end Inv-loop μ-loop
 unfolding text
 add-end c =
-    let b = text-bounds 0 (now (c .before .before .before .before .before .before .before .before .before .before .before .args .s)) (c .before .before .before .before .before .loop .at) _ _ (sym (c .before .before .before .text-at .ensures 0) ∙ ap (text 0 (now (c .before .before .before .before .before .before .before .before .before .before .before .args .s))) (c .before .step .given .1)) in
-    let forward = b .0 in
-    let within = b .1 in
-    omega (arith, c .before .before .before .before .before .before .before .before .before .before .before .good)
+    let args = c .before .before .before .before .before .before .before .before .before .before .before .args in
+    let loop = c .before .before .before .before .before .loop in
+    let text-at = c .before .before .before .text-at in
+    let good = c .before .before .before .before .before .before .before .before .before .before .before .good in
+    let b = text-bounds 0 (now (args .s)) (loop .at) _ _ (sym (text-at .ensures 0) ∙ ap (text 0 (now (args .s)))
+    (c .before .step .given .1)) in let forward = b .0 in let within = b .1 in omega (arith, good)
 
 sub-matches : tie.Need-sub-matches Inv-loop μ-loop
 sub-matches c = search needs
@@ -55,10 +65,12 @@ part-matches-start c = search needs
 part-matches-end : tie.Need-part-matches-end Inv-loop μ-loop
 unfolding text
 part-matches-end c =
-    let b = text-bounds 0 (now (c .before .before .before .before .before .before .before .before .before .before .before .args .s)) (c .before .before .before .before .before .loop .at) _ _ (sym (c .before .before .before .text-at .ensures 0) ∙ ap (text 0 (now (c .before .before .before .before .before .before .before .before .before .before .before .args .s))) (c .before .step .given .1)) in
-    let forward = b .0 in
-    let within = b .1 in
-    omega (arith, c .before .before .before .before .before .before .before .before .before .before .before .good)
+    let args = c .before .before .before .before .before .before .before .before .before .before .before .args in
+    let loop = c .before .before .before .before .before .loop in
+    let text-at = c .before .before .before .text-at in
+    let good = c .before .before .before .before .before .before .before .before .before .before .before .good in
+    let b = text-bounds 0 (now (args .s)) (loop .at) _ _ (sym (text-at .ensures 0) ∙ ap (text 0 (now (args .s)))
+    (c .before .step .given .1)) in let forward = b .0 in let within = b .1 in omega (arith, good)
 
 matches-requires : tie.Need-matches-requires Inv-loop μ-loop
 matches-requires c κs = search needs
@@ -68,33 +80,54 @@ put-pair-requires c κs = search needs
 
 add-found : tie.Need-add-found Inv-loop μ-loop
 add-found c =
-    let few = c .before .before .before .before .before .before .before .before .before .before .before .before .loop .inv .few in
-    let room = c .before .before .before .before .before .before .before .before .before .before .before .before .before .before .before .before .before .before .pre in
-    omega arith
+    let loop = c .before .before .before .before .before .before .before .before .before .before .before .before .loop in
+    let pre = c .before .before .before .before .before .before .before .before .before .before .before .before .before .before .before .before .before .before .pre in
+    let few = loop .inv .few in let room = pre in omega arith
 
 loop-less : tie.Need-loop-less Inv-loop μ-loop
 unfolding text
 loop-less c =
-    let b = text-bounds 0 (now (c .before .before .before .before .before .before .before .before .before .before .before .before .before .before .before .before .before .before .args .s)) (c .before .before .before .before .before .before .before .before .before .before .before .before .loop .at) _ _ (sym (c .before .before .before .before .before .before .before .before .before .before .text-at .ensures 0) ∙ ap (text 0 (now (c .before .before .before .before .before .before .before .before .before .before .before .before .before .before .before .before .before .before .args .s))) (c .before .before .before .before .before .before .before .before .step .given .1)) in
-    let forward = b .0 in
-    let within = b .1 in
-    omega arith
+    let args = c .before .before .before .before .before .before .before .before .before .before .before .before .before .before .before .before .before .before .args in
+    let loop = c .before .before .before .before .before .before .before .before .before .before .before .before .loop in
+    let text-at = c .before .before .before .before .before .before .before .before .before .before .text-at in
+    let step = c .before .before .before .before .before .before .before .before .step in
+    let b = text-bounds 0 (now (args .s)) (loop .at) _ _ (sym (text-at .ensures 0) ∙ ap (text 0 (now (args .s))) (step .given .1)) in let
+    forward = b .0 in let within = b .1 in omega arith
 
 loop-again : tie.Need-loop-again Inv-loop μ-loop
 unfolding text
-loop-again c = records-kept _ _ _ _ _ _ (c .before .before .before .before .before .before .before .before .before .before .before .before .loop .inv) (c .before .before .before .before .before .before .before .before .before .before .before .loop-test .taken) _ _ (λ place. (sym (c .before .before .before .before .before .before .before .before .before .before .text-at .ensures place) ∙ ap (text place (now (c .before .before .before .before .before .before .before .before .before .before .before .before .before .before .before .before .before .before .args .s))) (c .before .before .before .before .before .before .before .before .step .given .1))) (sym (c .before .before .before .before .before .matches .ensures) ∙ c .before .before .before .before .if1 .taken) _ (c .before .before .put-pair .ensures .1)
+loop-again c =
+    let loop = c .before .before .before .before .before .before .before .before .before .before .before .before .loop in
+    let loop-test = c .before .before .before .before .before .before .before .before .before .before .before .loop-test in
+    let text-at = c .before .before .before .before .before .before .before .before .before .before .text-at in
+    let args = c .before .before .before .before .before .before .before .before .before .before .before .before .before .before .before .before .before .before .args in
+    let step = c .before .before .before .before .before .before .before .before .step in
+    let matches = c .before .before .before .before .before .matches in
+    let if1 = c .before .before .before .before .if1 in
+    let put-pair = c .before .before .put-pair in
+    records-kept _ _ _ _ _ _ (loop .inv) (loop-test .taken) _ _ (λ place. (sym (text-at .ensures place) ∙ ap (text place (now (args .s)))
+    (step .given .1))) (sym (matches .ensures) ∙ if1 .taken) _ (put-pair .ensures .1)
 
 loop-less-2 : tie.Need-loop-less-2 Inv-loop μ-loop
 unfolding text
 loop-less-2 c =
-    let b = text-bounds 0 (now (c .before .before .before .before .before .before .before .before .before .before .before .before .before .before .args .s)) (c .before .before .before .before .before .before .before .before .loop .at) _ _ (sym (c .before .before .before .before .before .before .text-at .ensures 0) ∙ ap (text 0 (now (c .before .before .before .before .before .before .before .before .before .before .before .before .before .before .args .s))) (c .before .before .before .before .step .given .1)) in
-    let forward = b .0 in
-    let within = b .1 in
-    omega arith
+    let args = c .before .before .before .before .before .before .before .before .before .before .before .before .before .before .args in
+    let loop = c .before .before .before .before .before .before .before .before .loop in
+    let text-at = c .before .before .before .before .before .before .text-at in
+    let step = c .before .before .before .before .step in
+    let b = text-bounds 0 (now (args .s)) (loop .at) _ _ (sym (text-at .ensures 0) ∙ ap (text 0 (now (args .s))) (step .given .1)) in let
+    forward = b .0 in let within = b .1 in omega arith
 
 loop-again-2 : tie.Need-loop-again-2 Inv-loop μ-loop
 unfolding text
-loop-again-2 c = records-passed _ _ _ _ _ _ (c .before .before .before .before .before .before .before .before .loop .inv) (c .before .before .before .before .before .before .before .loop-test .taken) _ _ (λ place. (sym (c .before .before .before .before .before .before .text-at .ensures place) ∙ ap (text place (now (c .before .before .before .before .before .before .before .before .before .before .before .before .before .before .args .s))) (c .before .before .before .before .step .given .1))) (sym (c .before .matches .ensures) ∙ c .if1 .left)
+loop-again-2 c =
+    let loop = c .before .before .before .before .before .before .before .before .loop in
+    let loop-test = c .before .before .before .before .before .before .before .loop-test in
+    let text-at = c .before .before .before .before .before .before .text-at in
+    let args = c .before .before .before .before .before .before .before .before .before .before .before .before .before .before .args in
+    let step = c .before .before .before .before .step in
+    records-passed _ _ _ _ _ _ (loop .inv) (loop-test .taken) _ _ (λ place. (sym (text-at .ensures place) ∙ ap (text place (now (args .s)))
+    (step .given .1))) (sym (c .before .matches .ensures) ∙ c .if1 .left)
 
 same-length-2 : tie.Need-same-length-2 Inv-loop μ-loop
 same-length-2 c = c .before .loop .inv .long

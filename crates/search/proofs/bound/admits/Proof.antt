@@ -11,7 +11,10 @@ use Rattle.search.proofs.bound.admits.Tie as tie
 
 add-end : tie.Need-add-end
 unfolding BoundWithin
-add-end c = let within = c .before .before .before .before .before .pre .1 in omega (arith, c .before .before .before .before .before .good)
+add-end c =
+    let pre = c .before .before .before .before .before .pre in
+    let good = c .before .before .before .before .before .good in
+    let within = pre .1 in omega (arith, good)
 
 add-may-match : tie.Need-add-may-match
 add-may-match c = search needs
@@ -33,13 +36,18 @@ part-may-match-start-2 c = search needs
 
 part-may-match-end-2 : tie.Need-part-may-match-end-2
 unfolding BoundWithin
-part-may-match-end-2 c = let within = c .before .before .before .before .before .before .pre .1 in omega arith
+part-may-match-end-2 c =
+    let pre = c .before .before .before .before .before .before .pre in
+    let within = pre .1 in omega arith
 
 may-match-requires : tie.Need-may-match-requires
 may-match-requires c κs = search needs
 
 returns : tie.Need-returns
-returns c = admits-lent (now (c .before .before .before .before .before .before .before .before .args .file)) (c .before .before .before .before .before .before .before .before .args .key) (c .before .before .before .before .before .before .before .before .args .length) (c .before .before .before .before .before .before .before .before .args .upper) (queryOf (now (c .before .before .before .before .before .before .before .before .args .start)) (c .before .before .before .before .before .before .before .before .args .stop-given) (now (c .before .before .before .before .before .before .before .before .args .stop)) (now (c .before .before .before .before .before .before .before .before .args .prefix))) _ (c .may-match .ensures)
+returns c =
+    let args = c .before .before .before .before .before .before .before .before .args in
+    admits-lent (now (args .file)) (args .key) (args .length) (args .upper) (queryOf (now (args .start)) (args .stop-given) (now
+    (args .stop)) (now (args .prefix))) _ (c .may-match .ensures)
 
 pub admits-spec : {M : Type 1} → statement M
 admits-spec =

@@ -11,10 +11,16 @@ use Rattle.search.proofs.bound.next_key.Statement.{statement}
 use Rattle.search.proofs.bound.next_key.Tie as tie
 
 returns : tie.Need-returns
-returns c = (c .before .before .pre .1, next-none (now (c .before .before .args .file)) (c .before .before .args .end) (c .before .before .args .next) (c .before .before .args .above) (c .if1 .taken))
+returns c =
+    let pre = c .before .before .pre in
+    let args = c .before .before .args in
+    (pre .1, next-none (now (args .file)) (args .end) (args .next) (args .above) (c .if1 .taken))
 
 slice-aggregate-text-at : tie.Need-slice-aggregate-text-at
-slice-aggregate-text-at c = sym (length-take-le (c .before .before .before .args .end) (now (c .before .before .before .args .file)) (c .before .before .before .pre .0))
+slice-aggregate-text-at c =
+    let args = c .before .before .before .args in
+    let pre = c .before .before .before .pre in
+    sym (length-take-le (args .end) (now (args .file)) (pre .0))
 
 text-at-requires : tie.Need-text-at-requires
 text-at-requires c κs = search needs
@@ -27,11 +33,31 @@ enum-known-key c = search needs
 
 returns-2 : tie.Need-returns-2
 unfolding text
-returns-2 c = (c .before .before .before .before .before .before .pre .1, next-refused (now (c .before .before .before .before .before .before .args .file)) (c .before .before .before .before .before .before .args .end) (c .before .before .before .before .before .before .args .next) (c .before .before .before .before .before .before .args .above) (c .before .before .before .before .if1 .left) (λ place. (_, sym (c .before .before .text-at .ensures place) ∙ ap (text place (take (c .before .before .before .before .before .before .args .end) (now (c .before .before .before .before .before .before .args .file)))) (c .enum-told .given .1))))
+returns-2 c =
+    let pre = c .before .before .before .before .before .before .pre in
+    let args = c .before .before .before .before .before .before .args in
+    let if1 = c .before .before .before .before .if1 in
+    let text-at = c .before .before .text-at in (
+      pre .1,
+      next-refused (now (args .file)) (args .end) (args .next) (args .above) (if1 .left) (λ place. (
+        _,
+        sym (text-at .ensures place) ∙
+            ap (text place (take (args .end) (now (args .file)))) (c .enum-told .given .1),
+      )),
+    )
 
 returns-3 : tie.Need-returns-3
 unfolding text
-returns-3 c = (found-within (now (c .before .before .before .before .before .before .before .args .file)) (c .before .before .before .before .before .before .before .args .end) (c .before .before .before .before .before .before .before .args .next) _ _ (c .before .before .before .before .before .before .before .pre .0) (sym (c .before .before .before .text-at .ensures 0) ∙ ap (text 0 (take (c .before .before .before .before .before .before .before .args .end) (now (c .before .before .before .before .before .before .before .args .file)))) (c .before .key .given .1)), next-found (now (c .before .before .before .before .before .before .before .args .file)) (c .before .before .before .before .before .before .before .args .end) (c .before .before .before .before .before .before .before .args .next) (c .before .before .before .before .before .before .before .args .above) _ _ (c .before .before .before .before .before .before .before .pre .0) (c .before .before .before .before .before .if1 .left) (λ place. sym (c .before .before .before .text-at .ensures place) ∙ ap (text place (take (c .before .before .before .before .before .before .before .args .end) (now (c .before .before .before .before .before .before .before .args .file)))) (c .before .key .given .1)))
+returns-3 c =
+    let args = c .before .before .before .before .before .before .before .args in
+    let pre = c .before .before .before .before .before .before .before .pre in
+    let text-at = c .before .before .before .text-at in
+    let if1 = c .before .before .before .before .before .if1 in (
+      found-within (now (args .file)) (args .end) (args .next) _ _ (pre .0) (sym (text-at .ensures 0) ∙ ap (text 0 (take (args .end) (now
+          (args .file)))) (c .before .key .given .1)),
+      next-found (now (args .file)) (args .end) (args .next) (args .above) _ _ (pre .0)
+          (if1 .left) (λ place. sym (text-at .ensures place) ∙ ap (text place (take (args .end) (now (args .file)))) (c .before .key .given .1)),
+    )
 
 pub next-key-spec : {M : Type 1} → statement M
 next-key-spec =

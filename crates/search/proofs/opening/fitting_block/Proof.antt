@@ -11,15 +11,26 @@ use Rattle.search.proofs.opening.fitting_block.Tie as tie
 
 returns : tie.Need-returns
 unfolding openingSaid
-returns c = fitting-size (now (c .before .before .args .file)) (c .before .before .args .number) (c .before .before .args .place) (c .before .before .args .least) (c .before .before .args .most) (c .before .before .args .size) (c .before .before .args .f) (c .if1 .taken)
+returns c =
+    let args = c .before .before .args in
+    fitting-size (now (args .file)) (args .number) (args .place) (args .least) (args .most) (args .size) (args .f) (c .if1 .taken)
 
 returns-2 : tie.Need-returns-2
 unfolding openingSaid
-returns-2 c = fitting-low (now (c .before .before .before .before .args .file)) (c .before .before .before .before .args .number) (c .before .before .before .before .args .place) (c .before .before .before .before .args .least) (c .before .before .before .before .args .most) (c .before .before .before .before .args .size) (c .before .before .before .before .args .f) (c .before .before .if1 .left) (c .if2 .taken)
+returns-2 c =
+    let args = c .before .before .before .before .args in
+    let if1 = c .before .before .if1 in
+    fitting-low (now (args .file)) (args .number) (args .place) (args .least) (args .most) (args .size) (args .f) (if1 .left)
+    (c .if2 .taken)
 
 returns-3 : tie.Need-returns-3
 unfolding openingSaid
-returns-3 c = fitting-high (now (c .before .before .before .before .before .before .args .file)) (c .before .before .before .before .before .before .args .number) (c .before .before .before .before .before .before .args .place) (c .before .before .before .before .before .before .args .least) (c .before .before .before .before .before .before .args .most) (c .before .before .before .before .before .before .args .size) (c .before .before .before .before .before .before .args .f) (c .before .before .before .before .if1 .left) (c .before .before .if2 .left) (c .if3 .taken)
+returns-3 c =
+    let args = c .before .before .before .before .before .before .args in
+    let if1 = c .before .before .before .before .if1 in
+    let if2 = c .before .before .if2 in
+    fitting-high (now (args .file)) (args .number) (args .place) (args .least) (args .most) (args .size) (args .f) (if1 .left) (if2 .left)
+    (c .if3 .taken)
 
 block-in-requires : tie.Need-block-in-requires
 block-in-requires c κs = search needs
@@ -32,11 +43,25 @@ enum-known-inside-2 c = search needs
 
 returns-4 : tie.Need-returns-4
 unfolding openingSaid block
-returns-4 c = fitting-unsound (now (c .before .before .before .before .before .before .before .before .before .before .args .file)) (c .before .before .before .before .before .before .before .before .before .before .args .number) (c .before .before .before .before .before .before .before .before .before .before .args .place) (c .before .before .before .before .before .before .before .before .before .before .args .least) (c .before .before .before .before .before .before .before .before .before .before .args .most) (c .before .before .before .before .before .before .before .before .before .before .args .size) (c .before .before .before .before .before .before .before .before .before .before .args .f) (c .before .before .before .before .before .before .before .before .if1 .left) (c .before .before .before .before .before .before .if2 .left) (c .before .before .before .before .if3 .left) _ _ (sym (c .before .before .before .block-in .ensures) ∙ ap (block (c .before .before .before .before .before .before .before .before .before .before .args .f .start)) (c .before .inside .given .1))
+returns-4 c =
+    let args = c .before .before .before .before .before .before .before .before .before .before .args in
+    let if1 = c .before .before .before .before .before .before .before .before .if1 in
+    let if2 = c .before .before .before .before .before .before .if2 in
+    let if3 = c .before .before .before .before .if3 in
+    let block-in = c .before .before .before .block-in in
+    fitting-unsound (now (args .file)) (args .number) (args .place) (args .least) (args .most) (args .size) (args .f) (if1 .left)
+    (if2 .left) (if3 .left) _ _ (sym (block-in .ensures) ∙ ap (block (args .f .start)) (c .before .inside .given .1))
 
 returns-5 : tie.Need-returns-5
 unfolding openingSaid block
-returns-5 c = fitting-sound (now (c .before .before .before .before .before .before .before .before .before .before .args .file)) (c .before .before .before .before .before .before .before .before .before .before .args .number) (c .before .before .before .before .before .before .before .before .before .before .args .place) (c .before .before .before .before .before .before .before .before .before .before .args .least) (c .before .before .before .before .before .before .before .before .before .before .args .most) (c .before .before .before .before .before .before .before .before .before .before .args .size) (c .before .before .before .before .before .before .before .before .before .before .args .f) (c .before .before .before .before .before .before .before .before .if1 .left) (c .before .before .before .before .before .before .if2 .left) (c .before .before .before .before .if3 .left) _ _ (sym (c .before .before .before .block-in .ensures) ∙ ap (block (c .before .before .before .before .before .before .before .before .before .before .args .f .start)) (c .before .inside2 .given .1))
+returns-5 c =
+    let args = c .before .before .before .before .before .before .before .before .before .before .args in
+    let if1 = c .before .before .before .before .before .before .before .before .if1 in
+    let if2 = c .before .before .before .before .before .before .if2 in
+    let if3 = c .before .before .before .before .if3 in
+    let block-in = c .before .before .before .block-in in
+    fitting-sound (now (args .file)) (args .number) (args .place) (args .least) (args .most) (args .size) (args .f) (if1 .left) (if2 .left)
+    (if3 .left) _ _ (sym (block-in .ensures) ∙ ap (block (args .f .start)) (c .before .inside2 .given .1))
 
 pub fitting-block-spec : {M : Type 1} → statement M
 fitting-block-spec =

@@ -12,11 +12,17 @@ use Rattle.search.proofs.opening.named_block.Tie as tie
 
 returns : tie.Need-returns
 unfolding openingSaid
-returns c = named-before (now (c .before .before .args .file)) (c .before .before .args .from) (c .before .before .args .number) (c .before .before .args .place) (c .before .before .args .least) (c .before .before .args .most) (c .before .before .args .offset) (c .before .before .args .size) (c .if1 .taken)
+returns c =
+    let args = c .before .before .args in
+    named-before (now (args .file)) (args .from) (args .number) (args .place) (args .least) (args .most) (args .offset) (args .size)
+    (c .if1 .taken)
 
 returns-2 : tie.Need-returns-2
 unfolding openingSaid
-returns-2 c = named-behind (now (c .before .before .before .args .file)) (c .before .before .before .args .from) (c .before .before .before .args .number) (c .before .before .before .args .place) (c .before .before .before .args .least) (c .before .before .before .args .most) (c .before .before .before .args .offset) (c .before .before .before .args .size) (c .before .if1 .left) (c .if2 .taken)
+returns-2 c =
+    let args = c .before .before .before .args in
+    named-behind (now (args .file)) (args .from) (args .number) (args .place) (args .least) (args .most) (args .offset) (args .size)
+    (c .before .if1 .left) (c .if2 .taken)
 
 sound-frame-at-requires : tie.Need-sound-frame-at-requires
 sound-frame-at-requires c κs = search needs
@@ -29,15 +35,32 @@ enum-known-found-2 c = search needs
 
 fitting-block-requires : tie.Need-fitting-block-requires
 unfolding frame
-fitting-block-requires c κs = frame-bounds (now (c .before .before .before .before .before .before .before .args .file)) (c .before .before .before .before .before .before .before .args .offset) _ (sym (c .before .before .before .sound-frame-at .ensures) ∙ ap (frame (c .before .before .before .before .before .before .before .args .offset)) (c .before .found2 .given .1))
+fitting-block-requires c κs =
+    let args = c .before .before .before .before .before .before .before .args in
+    let sound-frame-at = c .before .before .before .sound-frame-at in
+    frame-bounds (now (args .file)) (args .offset) _ (sym (sound-frame-at .ensures) ∙ ap (frame (args .offset))
+    (c .before .found2 .given .1))
 
 returns-3 : tie.Need-returns-3
 unfolding openingSaid frame
-returns-3 c = named-unsound (now (c .before .before .before .before .before .before .before .args .file)) (c .before .before .before .before .before .before .before .args .from) (c .before .before .before .before .before .before .before .args .number) (c .before .before .before .before .before .before .before .args .place) (c .before .before .before .before .before .before .before .args .least) (c .before .before .before .before .before .before .before .args .most) (c .before .before .before .before .before .before .before .args .offset) (c .before .before .before .before .before .before .before .args .size) (c .before .before .before .before .before .if1 .left) (c .before .before .before .before .if2 .left) _ _ (sym (c .before .before .before .sound-frame-at .ensures) ∙ ap (frame (c .before .before .before .before .before .before .before .args .offset)) (c .before .found .given .1))
+returns-3 c =
+    let args = c .before .before .before .before .before .before .before .args in
+    let if1 = c .before .before .before .before .before .if1 in
+    let if2 = c .before .before .before .before .if2 in
+    let sound-frame-at = c .before .before .before .sound-frame-at in
+    named-unsound (now (args .file)) (args .from) (args .number) (args .place) (args .least) (args .most) (args .offset) (args .size)
+    (if1 .left) (if2 .left) _ _ (sym (sound-frame-at .ensures) ∙ ap (frame (args .offset)) (c .before .found .given .1))
 
 returns-4 : tie.Need-returns-4
 unfolding frame
-returns-4 c = named-sound (now (c .before .before .before .before .before .before .before .before .args .file)) (c .before .before .before .before .before .before .before .before .args .from) (c .before .before .before .before .before .before .before .before .args .number) (c .before .before .before .before .before .before .before .before .args .place) (c .before .before .before .before .before .before .before .before .args .least) (c .before .before .before .before .before .before .before .before .args .most) (c .before .before .before .before .before .before .before .before .args .offset) (c .before .before .before .before .before .before .before .before .args .size) (c .before .before .before .before .before .before .if1 .left) (c .before .before .before .before .before .if2 .left) _ _ (sym (c .before .before .before .before .sound-frame-at .ensures) ∙ ap (frame (c .before .before .before .before .before .before .before .before .args .offset)) (c .before .before .found2 .given .1)) (c .fitting-block .ensures)
+returns-4 c =
+    let args = c .before .before .before .before .before .before .before .before .args in
+    let if1 = c .before .before .before .before .before .before .if1 in
+    let if2 = c .before .before .before .before .before .if2 in
+    let sound-frame-at = c .before .before .before .before .sound-frame-at in
+    let found2 = c .before .before .found2 in
+    named-sound (now (args .file)) (args .from) (args .number) (args .place) (args .least) (args .most) (args .offset) (args .size)
+    (if1 .left) (if2 .left) _ _ (sym (sound-frame-at .ensures) ∙ ap (frame (args .offset)) (found2 .given .1)) (c .fitting-block .ensures)
 
 pub named-block-spec : {M : Type 1} → statement M
 named-block-spec =

@@ -16,7 +16,13 @@ same-length c = search needs
 
 returns : tie.Need-returns
 unfolding openingSaid
-returns c = (open-full (now (c .before .before .before .before .before .before .before .args .file)) (now (c .before .before .before .before .before .before .before .args .opened)) (c .before .before .before .before .before .before .before .args .from) (c .before .before .before .before .before .before .before .args .number) (c .before .before .before .before .before .before .before .args .place) (c .before .before .before .before .before .before .before .args .least) (c .before .before .before .before .before .before .before .args .most) (c .before .before .before .before .before .before .before .args .offset) (c .before .before .before .before .before .before .before .args .size) (c .before .before .before .before .before .before .before .args .used) _ (c .before .before .before .put .ensures .0) (not-true _ (c .if1 .taken)), c .before .before .before .put .ensures .1)
+returns c =
+    let args = c .before .before .before .before .before .before .before .args in
+    let put = c .before .before .before .put in (
+      open-full (now (args .file)) (now (args .opened)) (args .from) (args .number) (args .place) (args .least) (args .most) (args .offset)
+          (args .size) (args .used) _ (put .ensures .0) (not-true _ (c .if1 .taken)),
+      put .ensures .1,
+    )
 
 named-block-requires : tie.Need-named-block-requires
 named-block-requires c κs = search needs
@@ -25,7 +31,13 @@ same-length-2 : tie.Need-same-length-2
 same-length-2 c = search needs
 
 returns-2 : tie.Need-returns-2
-returns-2 c = (open-placed (now (c .before .before .before .before .before .before .before .before .args .file)) (now (c .before .before .before .before .before .before .before .before .args .opened)) (c .before .before .before .before .before .before .before .before .args .from) (c .before .before .before .before .before .before .before .before .args .number) (c .before .before .before .before .before .before .before .before .args .place) (c .before .before .before .before .before .before .before .before .args .least) (c .before .before .before .before .before .before .before .before .args .most) (c .before .before .before .before .before .before .before .before .args .offset) (c .before .before .before .before .before .before .before .before .args .size) (c .before .before .before .before .before .before .before .before .args .used) _ (c .before .before .before .before .put .ensures .0) (not-false _ (c .before .if1 .left)) _ (c .named-block .ensures), c .before .before .before .before .put .ensures .1)
+returns-2 c =
+    let args = c .before .before .before .before .before .before .before .before .args in
+    let put = c .before .before .before .before .put in (
+      open-placed (now (args .file)) (now (args .opened)) (args .from) (args .number) (args .place) (args .least) (args .most) (args .offset)
+          (args .size) (args .used) _ (put .ensures .0) (not-false _ (c .before .if1 .left)) _ (c .named-block .ensures),
+      put .ensures .1,
+    )
 
 pub open-spec : {M : Type 1} → statement M
 open-spec =

@@ -11,10 +11,15 @@ use Rattle.search.proofs.walk.visit.Tie as tie
 
 admits-requires : tie.Need-admits-requires
 unfolding ChildWithin
-admits-requires c κs = c .before .before .before .before .before .before .pre
+admits-requires c κs =
+    let pre = c .before .before .before .before .before .before .pre in
+    pre
 
 returns : tie.Need-returns
-returns c = visit-passed (now (c .before .before .before .before .before .before .before .before .args .file)) (queryOf (now (c .before .before .before .before .before .before .before .before .args .start)) (c .before .before .before .before .before .before .before .before .args .stop-given) (now (c .before .before .before .before .before .before .before .before .args .stop)) (now (c .before .before .before .before .before .before .before .before .args .prefix))) (c .before .before .before .before .before .before .before .before .args .child) _ (c .before .admits .ensures) (not-true _ (c .if1 .taken)) _ _ _ _ _ _
+returns c =
+    let args = c .before .before .before .before .before .before .before .before .args in
+    visit-passed (now (args .file)) (queryOf (now (args .start)) (args .stop-given) (now (args .stop)) (now (args .prefix))) (args .child) _
+    (c .before .admits .ensures) (not-true _ (c .if1 .taken)) _ _ _ _ _ _
 
 open-requires : tie.Need-open-requires
 open-requires c κs = search needs
@@ -29,13 +34,27 @@ same-length : tie.Need-same-length
 same-length c = search needs
 
 returns-2 : tie.Need-returns-2
-returns-2 c = visit-opened (now (c .before .before .before .before .before .before .before .before .before .before .before .before .before .before .before .args .file)) (queryOf (now (c .before .before .before .before .before .before .before .before .before .before .before .before .before .before .before .args .start)) (c .before .before .before .before .before .before .before .before .before .before .before .before .before .before .before .args .stop-given) (now (c .before .before .before .before .before .before .before .before .before .before .before .before .before .before .before .args .stop)) (now (c .before .before .before .before .before .before .before .before .before .before .before .before .before .before .before .args .prefix))) (c .before .before .before .before .before .before .before .before .before .before .before .before .before .before .before .args .child) _ (c .before .before .before .before .before .before .before .before .admits .ensures) (not-false _ (c .before .before .before .before .before .before .before .if1 .left)) _ _ _ _ _ _ _ (c .before .before .before .before .before .«open» .ensures .0) (c .before .before .before .before .before .«open» .ensures .1) _ (c .before .opening .given .1)
+returns-2 c =
+    let args = c .before .before .before .before .before .before .before .before .before .before .before .before .before .before .before .args in
+    let admits = c .before .before .before .before .before .before .before .before .admits in
+    let if1 = c .before .before .before .before .before .before .before .if1 in
+    let before = c .before .before .before .before .before in
+    visit-opened (now (args .file)) (queryOf (now (args .start)) (args .stop-given) (now (args .stop)) (now (args .prefix))) (args .child) _
+    (admits .ensures) (not-false _ (if1 .left)) _ _ _ _ _ _ _ (before .«open» .ensures .0) (before .«open» .ensures .1) _
+    (c .before .opening .given .1)
 
 same-length-2 : tie.Need-same-length-2
 same-length-2 c = search needs
 
 returns-3 : tie.Need-returns-3
-returns-3 c = visit-refused (now (c .before .before .before .before .before .before .before .before .before .before .before .before .before .before .before .args .file)) (queryOf (now (c .before .before .before .before .before .before .before .before .before .before .before .before .before .before .before .args .start)) (c .before .before .before .before .before .before .before .before .before .before .before .before .before .before .before .args .stop-given) (now (c .before .before .before .before .before .before .before .before .before .before .before .before .before .before .before .args .stop)) (now (c .before .before .before .before .before .before .before .before .before .before .before .before .before .before .before .args .prefix))) (c .before .before .before .before .before .before .before .before .before .before .before .before .before .before .before .args .child) _ (c .before .before .before .before .before .before .before .before .admits .ensures) (not-false _ (c .before .before .before .before .before .before .before .if1 .left)) _ _ _ _ _ _ _ (c .before .before .before .before .before .«open» .ensures .0) (c .before .before .before .before .before .«open» .ensures .1) _ _ (c .before .opening2 .given .1)
+returns-3 c =
+    let args = c .before .before .before .before .before .before .before .before .before .before .before .before .before .before .before .args in
+    let admits = c .before .before .before .before .before .before .before .before .admits in
+    let if1 = c .before .before .before .before .before .before .before .if1 in
+    let before = c .before .before .before .before .before in
+    visit-refused (now (args .file)) (queryOf (now (args .start)) (args .stop-given) (now (args .stop)) (now (args .prefix))) (args .child)
+    _ (admits .ensures) (not-false _ (if1 .left)) _ _ _ _ _ _ _ (before .«open» .ensures .0) (before .«open» .ensures .1) _ _
+    (c .before .opening2 .given .1)
 
 pub visit-spec : {M : Type 1} → statement M
 visit-spec =

@@ -42,16 +42,20 @@ loop-less c = search needs
 loop-again : tie.Need-loop-again Inv-loop μ-loop
 loop-again c =
     let at = c .before .before .loop in
-    let words = listed (c .before .before .before .args .hash) in
-    let byte = ap (λ (l : List ℕ). getD l (at .i % 4) 0) (c .be32-bytes .ensures) in
-    let more = wordBytes-set (at .out) words (at .i) (getD (c .be32-bytes .result) (at .i % 4) 0) in
-    (omega arith, simp length-set (at .inv .1), more (omega arith) (omega arith) (at .inv .2) byte)
+    let args = c .before .before .before .args in
+    let words = listed (args .hash) in let byte = ap (λ (l : List ℕ). getD l (at .i % 4) 0) (c .be32-bytes .ensures) in let more =
+    wordBytes-set (at .out) words (at .i) (getD (c .be32-bytes .result) (at .i % 4) 0) in (
+      omega arith,
+      simp length-set (at .inv .1),
+      more
+          (omega arith) (omega arith) (at .inv .2) byte,
+    )
 
 returns : tie.Need-returns Inv-loop μ-loop
 returns c =
-    let at = c .before .loop in
-    let done : at .i ≡ 32 = omega arith in
-    wordBytes-all (at .out) (c .before .before .args .hash) (at .inv .1) (rw done at (at .inv .2))
+    let args = c .before .before .args in
+    let at = c .before .loop in let done : at .i ≡ 32 = omega arith in wordBytes-all (at .out) (args .hash) (at .inv .1) (rw done at
+    (at .inv .2))
 
 pub digest-spec : {M : Type 1} → statement M
 digest-spec =

@@ -40,9 +40,13 @@ loop-less c = search needs
 loop-again : tie.Need-loop-again Inv-loop μ-loop
 loop-again c =
     let at = c .before .before .loop in
-    let block = c .before .before .before .before .args .block .now in
-    let more = wordsOf-set (at .w) block (at .t) (c .be32-at .result) in
-    (omega arith, simp length-set (at .inv .1), more (omega arith) (at .inv .2) (c .be32-at .ensures))
+    let args = c .before .before .before .before .args in
+    let block = args .block .now in let more = wordsOf-set (at .w) block (at .t) (c .be32-at .result) in (
+      omega arith,
+      simp length-set
+          (at .inv .1),
+      more (omega arith) (at .inv .2) (c .be32-at .ensures),
+    )
 
 returns : tie.Need-returns Inv-loop μ-loop
 returns c =

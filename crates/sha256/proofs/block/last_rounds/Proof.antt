@@ -105,27 +105,23 @@ loop-less c = search needs
 loop-again : tie.Need-loop-again Inv-loop μ-loop
 loop-again c =
     let at = c .before .before .before .before .before .before .before .before .before .before .before .before .before .loop in
-    let few = c .before .before .before .before .before .before .before .before .before .before .before .before .loop-test .taken in
-    let even = at .inv .2 in
-    let given = c .before .before .before .before .before .before .before .before .before .before .before .before .before .before .pre in
-    let k = c .before .before .before .before .before .before .before .before .before .before .before .before .before .before .args .k .now in
-    let w = c .before .before .before .before .before .before .before .before .before .before .before .before .before .before .args .w .now in
-    let long = given .0 in
-    let wide = given .1 in
-    let step = rounds-four k w (at .t) (omega arith) (omega arith) (at .v) _ _ _ _ (c .before .before .before .before .before .before .before .before .before .round .ensures) (c .before .before .before .before .before .before .round2 .ensures) (c .before .before .before .round3 .ensures) (c .round4 .ensures) in
-    (omega arith, omega arith, omega arith, sym step ∙ at .inv .3)
+    let loop-test = c .before .before .before .before .before .before .before .before .before .before .before .before .loop-test in
+    let pre = c .before .before .before .before .before .before .before .before .before .before .before .before .before .before .pre in
+    let args = c .before .before .before .before .before .before .before .before .before .before .before .before .before .before .args in
+    let round = c .before .before .before .before .before .before .before .before .before .round in
+    let round2 = c .before .before .before .before .before .before .round2 in
+    let round3 = c .before .before .before .round3 in
+    let few = loop-test .taken in let even = at .inv .2 in let given = pre in let k = args .k .now in let w = args .w .now in let long =
+    given .0 in let wide = given .1 in let step = rounds-four k w (at .t) (omega arith) (omega arith) (at .v) _ _ _ _ (round .ensures)
+    (round2 .ensures) (round3 .ensures) (c .round4 .ensures) in (omega arith, omega arith, omega arith, sym step ∙ at .inv .3)
 
 returns : tie.Need-returns Inv-loop μ-loop
 returns c =
-    let at = c .before .loop in
-    let even = at .inv .2 in
-    let left = c .loop-test .left in
-    let given = c .before .before .pre in
-    let k = c .before .before .args .k .now in
-    let w = c .before .before .args .w .now in
-    let long = given .0 in
-    let done : at .t ≡ 64 = omega arith in
-    sym (rounds-done k (drop (at .t) w) (at .v) (at .t) (omega arith)) ∙ at .inv .3
+    let pre = c .before .before .pre in
+    let args = c .before .before .args in
+    let at = c .before .loop in let even = at .inv .2 in let left = c .loop-test .left in let given = pre in let k = args .k .now in let w =
+    args .w .now in let long = given .0 in let done : at .t ≡ 64 = omega arith in sym (rounds-done k (drop (at .t) w) (at .v) (at .t) (omega
+    arith)) ∙ at .inv .3
 
 pub last-rounds-spec : {M : Type 1} → statement M
 last-rounds-spec =

@@ -60,8 +60,12 @@ add-requires-3 c κs = search needs
 returns : tie.Need-returns
 returns c long =
     let a = c .before .before .before .before .before .before .before .before .before .args in
-    rw (c .add3 .ensures, c .before .before .add2 .ensures, c .before .before .before .small-sigma0 .ensures, c .before .before .before .before .before .add .ensures, c .before .before .before .before .before .before .before .small-sigma1 .ensures)
-    (sym (nextWord-take (a .w .now) (a .t) (omega arith) long))
+    let add2 = c .before .before .add2 in
+    let small-sigma0 = c .before .before .before .small-sigma0 in
+    let add = c .before .before .before .before .before .add in
+    let small-sigma1 = c .before .before .before .before .before .before .before .small-sigma1 in
+    rw (c .add3 .ensures, add2 .ensures, small-sigma0 .ensures, add .ensures, small-sigma1 .ensures) (sym (nextWord-take (a .w .now) (a .t)
+    (omega arith) long))
 
 pub next-word-spec : {M : Type 1} → statement M
 next-word-spec =

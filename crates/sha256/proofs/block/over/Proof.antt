@@ -44,17 +44,20 @@ loop-less c = search needs
 
 loop-again : tie.Need-loop-again Inv-loop μ-loop
 loop-again c =
-    let s = c .before .before .before .before .before .args .s .now in
-    let at = c .before .before .before .loop in
-    let block = over-drop (at .v) s (at .at) (c .before .before .loop-test .taken) in
-    (omega arith, rw (c .compress .ensures) (sym block ∙ at .inv .1))
+    let args = c .before .before .before .before .before .args in
+    let loop = c .before .before .before .loop in
+    let loop-test = c .before .before .loop-test in
+    let s = args .s .now in let at = loop in let block = over-drop (at .v) s (at .at) (loop-test .taken) in (
+      omega arith,
+      rw
+          (c .compress .ensures) (sym block ∙ at .inv .1),
+    )
 
 returns : tie.Need-returns Inv-loop μ-loop
 returns c =
-    let at = c .before .loop in
-    let rest = drop (at .at) (c .before .before .before .args .s .now) in
-    let few = length-drop (at .at) (c .before .before .before .args .s .now) in
-    sym (over-short (at .v) rest (omega arith)) ∙ at .inv .1
+    let args = c .before .before .before .args in
+    let at = c .before .loop in let rest = drop (at .at) (args .s .now) in let few = length-drop (at .at) (args .s .now) in sym (over-short
+    (at .v) rest (omega arith)) ∙ at .inv .1
 
 pub over-spec : {M : Type 1} → statement M
 over-spec =

@@ -19,8 +19,13 @@ first-words-requires c κs = search needs
 
 loop-holds : tie.Need-loop-holds Inv-loop μ-loop
 loop-holds c =
-    let block = c .before .before .args .block .now in
-    (omega arith, omega arith, Mixed-start (wordsOf 16 block) (c .before .before .args .hash) (c .first-words .result) (search needs) (c .first-words .ensures))
+    let args = c .before .before .args in
+    let block = args .block .now in (
+      omega arith,
+      omega arith,
+      Mixed-start (wordsOf 16 block) (args .hash) (c .first-words .result) (search
+          needs) (c .first-words .ensures),
+    )
 
 mul-round : tie.Need-mul-round Inv-loop μ-loop
 mul-round c = search needs
@@ -170,32 +175,38 @@ loop-again : tie.Need-loop-again Inv-loop μ-loop
 unfolding K
 loop-again c =
     let at = c .before .before .before .before .before .before .before .before .before .before .before .before .before .loop in
-    let few = c .before .before .before .before .before .before .before .before .before .before .before .before .loop-test .taken in
-    let even = at .inv .1 in
-    let block = c .before .before .before .before .before .before .before .before .before .before .before .before .before .before .before .before .args .block .now in
-    let hash = c .before .before .before .before .before .before .before .before .before .before .before .before .before .before .before .before .args .hash in
-    let v1 = c .before .before .before .before .before .before .before .before .before .before .before .round in
-    let x1 = c .before .before .before .before .before .before .before .before .before .next-word in
-    let v2 = c .before .before .before .before .before .before .before .before .round2 in
-    let x2 = c .before .before .before .before .before .before .next-word2 in
-    let v3 = c .before .before .before .before .before .round3 in
-    let x3 = c .before .before .before .next-word3 in
-    let v4 = c .before .before .round4 in
-    let x4 = c .next-word4 in
-    let more = Mixed-four (wordsOf 16 block) hash (at .w) (at .v) (v1 .result) (v2 .result) (v3 .result) (v4 .result) (x1 .result) (x2 .result) (x3 .result) (x4 .result) (at .t) (wordsOf-length 16 block) (omega arith) (at .inv .2) in
-    (omega arith, omega arith, more (v1 .ensures) (x1 .ensures) (v2 .ensures) (x2 .ensures) (v3 .ensures) (x3 .ensures) (v4 .ensures) (x4 .ensures))
+    let loop-test = c .before .before .before .before .before .before .before .before .before .before .before .before .loop-test in
+    let args = c .before .before .before .before .before .before .before .before .before .before .before .before .before .before .before .before .args in
+    let round = c .before .before .before .before .before .before .before .before .before .before .before .round in
+    let next-word = c .before .before .before .before .before .before .before .before .before .next-word in
+    let round2 = c .before .before .before .before .before .before .before .before .round2 in
+    let next-word2 = c .before .before .before .before .before .before .next-word2 in
+    let round3 = c .before .before .before .before .before .round3 in
+    let next-word3 = c .before .before .before .next-word3 in
+    let round4 = c .before .before .round4 in
+    let few = loop-test .taken in let even = at .inv .1 in let block = args .block .now in let hash = args .hash in let v1 = round in let x1
+    = next-word in let v2 = round2 in let x2 = next-word2 in let v3 = round3 in let x3 = next-word3 in let v4 = round4 in let x4 =
+    c .next-word4 in let more = Mixed-four (wordsOf 16 block) hash (at .w) (at .v) (v1 .result) (v2 .result) (v3 .result) (v4 .result)
+    (x1 .result) (x2 .result) (x3 .result) (x4 .result) (at .t) (wordsOf-length 16 block) (omega arith) (at .inv .2) in (
+      omega arith,
+      omega
+          arith,
+      more (v1 .ensures) (x1 .ensures) (v2 .ensures) (x2 .ensures) (v3 .ensures) (x3 .ensures) (v4 .ensures) (x4 .ensures),
+    )
 
 last-rounds-requires : tie.Need-last-rounds-requires Inv-loop μ-loop
-last-rounds-requires c κs = (refl, c .before .before .before .loop .inv .2 .long)
+last-rounds-requires c κs =
+    let loop = c .before .before .before .loop in
+    (refl, loop .inv .2 .long)
 
 returns : tie.Need-returns Inv-loop μ-loop
 unfolding K schedule
 returns c =
     let at = c .before .before .before .before .loop in
-    let even = at .inv .1 in
-    let left = c .before .before .before .loop-test .left in
-    let done : at .t ≡ 48 = omega arith in
-    c .last-rounds .ensures ∙ Mixed-last (wordsOf 16 (c .before .before .before .before .before .before .before .args .block .now)) (c .before .before .before .before .before .before .before .args .hash) (at .w) (at .v) (rw done at (at .inv .2))
+    let loop-test = c .before .before .before .loop-test in
+    let args = c .before .before .before .before .before .before .before .args in
+    let even = at .inv .1 in let left = loop-test .left in let done : at .t ≡ 48 = omega arith in c .last-rounds .ensures ∙ Mixed-last
+    (wordsOf 16 (args .block .now)) (args .hash) (at .w) (at .v) (rw done at (at .inv .2))
 
 pub rounds-spec : {M : Type 1} → statement M
 rounds-spec =

@@ -15,7 +15,9 @@ rotr-requires-3 c κs = search needs
 
 returns : tie.Need-returns
 unfolding Σ₁
-returns c = rw (c .before .before .rotr .ensures, c .before .rotr2 .ensures, c .rotr3 .ensures)
+returns c =
+    let rotr = c .before .before .rotr in
+    rw (rotr .ensures, c .before .rotr2 .ensures, c .rotr3 .ensures)
 
 pub big-sigma1-spec : {M : Type 1} → statement M
 big-sigma1-spec = tie.close (tie.spec rotr-requires rotr-requires-2 rotr-requires-3 returns)

@@ -47,16 +47,24 @@ ascend-leaf-requires : (t : ℕ) → ascend-lts.Need-leaf-requires (calls t) (as
 ascend-leaf-requires t c κs = search needs
 
 ascend-returns : (t : ℕ) → ascend-lts.Need-returns (calls t) (ascend-at t) ascend.Post ascend-Inv-loop ascend-μ-loop
-ascend-returns t c = c .leaf .ensures ∙ ascent-leaf (now (c .before .before .before .args .file)) (c .before .before .before .args .level) (c .before .before .before .args .at) (c .before .before .before .args .least) (c .before .if1 .taken)
+ascend-returns t c =
+    let args = c .before .before .before .args in
+    c .leaf .ensures ∙ ascent-leaf (now (args .file)) (args .level) (args .at) (args .least) (c .before .if1 .taken)
 
 ascend-payload-at-requires : (t : ℕ) → ascend-lts.Need-payload-at-requires (calls t) (ascend-at t) ascend.Post ascend-Inv-loop ascend-μ-loop
 ascend-payload-at-requires t c κs = search needs
 
 ascend-loop-holds : (t : ℕ) → ascend-lts.Need-loop-holds (calls t) (ascend-at t) ascend.Post ascend-Inv-loop ascend-μ-loop
-ascend-loop-holds t c = ascent-start (now (c .before .before .before .args .file)) (c .before .before .before .args .level) (c .before .before .before .args .at) (c .before .before .before .args .least) (c .before .if1 .left) (c .payload-at .result) (c .payload-at .ensures .0)
+ascend-loop-holds t c =
+    let args = c .before .before .before .args in
+    ascent-start (now (args .file)) (args .level) (args .at) (args .least) (c .before .if1 .left) (c .payload-at .result)
+    (c .payload-at .ensures .0)
 
 ascend-slice-aggregate-entry-at : (t : ℕ) → ascend-lts.Need-slice-aggregate-entry-at (calls t) (ascend-at t) ascend.Post ascend-Inv-loop ascend-μ-loop
-ascend-slice-aggregate-entry-at t c = sym (length-take-le (c .before .before .before .payload-at .result .end) (now (c .before .before .before .before .before .before .args .file)) (c .before .before .before .payload-at .ensures .1 .1))
+ascend-slice-aggregate-entry-at t c =
+    let payload-at = c .before .before .before .payload-at in
+    let args = c .before .before .before .before .before .before .args in
+    sym (length-take-le (payload-at .result .end) (now (args .file)) (payload-at .ensures .1 .1))
 
 ascend-entry-at-requires : (t : ℕ) → ascend-lts.Need-entry-at-requires (calls t) (ascend-at t) ascend.Post ascend-Inv-loop ascend-μ-loop
 ascend-entry-at-requires t c κs = search needs
@@ -66,7 +74,14 @@ ascend-enum-told t c = search needs
 
 ascend-returns-2 : (t : ℕ) → ascend-lts.Need-returns-2 (calls t) (ascend-at t) ascend.Post ascend-Inv-loop ascend-μ-loop
 unfolding ascentSaid entry
-ascend-returns-2 t c = sym (going-refused _ _ _ _ _ _ (c .before .before .before .before .loop-test .taken) (c .before .before .before .before .before .loop .inv) _ _ (sym (c .before .before .entry-at .ensures .0 0) ∙ ap (entry 0 (take (c .before .before .before .before .before .before .payload-at .result .end) (now (c .before .before .before .before .before .before .before .before .before .args .file)))) (c .enum-told .given .1)) ∙ over-end _ _)
+ascend-returns-2 t c =
+    let loop-test = c .before .before .before .before .loop-test in
+    let loop = c .before .before .before .before .before .loop in
+    let entry-at = c .before .before .entry-at in
+    let payload-at = c .before .before .before .before .before .before .payload-at in
+    let args = c .before .before .before .before .before .before .before .before .before .args in
+    sym (going-refused _ _ _ _ _ _ (loop-test .taken) (loop .inv) _ _ (sym (entry-at .ensures .0 0) ∙ ap (entry 0 (take
+    (payload-at .result .end) (now (args .file)))) (c .enum-told .given .1)) ∙ over-end _ _)
 
 ascend-enum-known-step : (t : ℕ) → ascend-lts.Need-enum-known-step (calls t) (ascend-at t) ascend.Post ascend-Inv-loop ascend-μ-loop
 ascend-enum-known-step t c = search needs
@@ -76,16 +91,25 @@ ascend-sub-ascend t c = search needs
 
 ascend-ascend-requires : (t : ℕ) → ascend-lts.Need-ascend-requires (calls t) (ascend-at t) ascend.Post ascend-Inv-loop ascend-μ-loop
 ascend-ascend-requires t c κs =
-    let me = c .before .before .before .before .before .before .before .before .before .before .pre .0 in
-    let some = c .before .before .before .before .before .before .before .before .if1 .left in
-    (omega arith, tt)
+    let pre = c .before .before .before .before .before .before .before .before .before .before .pre in
+    let if1 = c .before .before .before .before .before .before .before .before .if1 in
+    let me = pre .0 in let some = if1 .left in (omega arith, tt)
 
 ascend-enum-known-child : (t : ℕ) → ascend-lts.Need-enum-known-child (calls t) (ascend-at t) ascend.Post ascend-Inv-loop ascend-μ-loop
 ascend-enum-known-child t c = search needs
 
 ascend-returns-3 : (t : ℕ) → ascend-lts.Need-returns-3 (calls t) (ascend-at t) ascend.Post ascend-Inv-loop ascend-μ-loop
 unfolding ascentSaid entry
-ascend-returns-3 t c = sym (going-stop _ _ _ _ _ _ (c .before .before .before .before .before .before .before .before .before .loop-test .taken) (c .before .before .before .before .before .before .before .before .before .before .loop .inv) _ (sym (c .before .before .before .before .before .before .before .entry-at .ensures .0 0) ∙ ap (entry 0 (take (c .before .before .before .before .before .before .before .before .before .before .before .payload-at .result .end) (now (c .before .before .before .before .before .before .before .before .before .before .before .before .before .before .args .file)))) (c .before .before .before .before .before .step .given .1)) _ (over-fallen _ _ _ _ _ (sym (c .before .before .before .ascend .ensures) ∙ ap ascentSaid (c .before .child .given .1))))
+ascend-returns-3 t c =
+    let loop-test = c .before .before .before .before .before .before .before .before .before .loop-test in
+    let loop = c .before .before .before .before .before .before .before .before .before .before .loop in
+    let entry-at = c .before .before .before .before .before .before .before .entry-at in
+    let payload-at = c .before .before .before .before .before .before .before .before .before .before .before .payload-at in
+    let args = c .before .before .before .before .before .before .before .before .before .before .before .before .before .before .args in
+    let step = c .before .before .before .before .before .step in
+    let ascend = c .before .before .before .ascend in
+    sym (going-stop _ _ _ _ _ _ (loop-test .taken) (loop .inv) _ (sym (entry-at .ensures .0 0) ∙ ap (entry 0 (take (payload-at .result .end)
+    (now (args .file)))) (step .given .1)) _ (over-fallen _ _ _ _ _ (sym (ascend .ensures) ∙ ap ascentSaid (c .before .child .given .1))))
 
 ascend-enum-known-child-2 : (t : ℕ) → ascend-lts.Need-enum-known-child-2 (calls t) (ascend-at t) ascend.Post ascend-Inv-loop ascend-μ-loop
 ascend-enum-known-child-2 t c = search needs
@@ -93,14 +117,29 @@ ascend-enum-known-child-2 t c = search needs
 ascend-loop-less : (t : ℕ) → ascend-lts.Need-loop-less (calls t) (ascend-at t) ascend.Post ascend-Inv-loop ascend-μ-loop
 unfolding entry
 ascend-loop-less t c =
-    let e = entry⇒Entered 0 (take (c .before .before .before .before .before .before .before .before .before .before .before .payload-at .result .end) (now (c .before .before .before .before .before .before .before .before .before .before .before .before .before .before .args .file))) _ _ (sym (c .before .before .before .before .before .before .before .entry-at .ensures .0 0) ∙ ap (entry 0 (take (c .before .before .before .before .before .before .before .before .before .before .before .payload-at .result .end) (now (c .before .before .before .before .before .before .before .before .before .before .before .before .before .before .args .file)))) (c .before .before .before .before .before .step .given .1)) in
-    let forward = e .forward in
-    let before = c .before .before .before .before .before .before .before .before .before .loop-test .taken in
-    omega arith
+    let payload-at = c .before .before .before .before .before .before .before .before .before .before .before .payload-at in
+    let args = c .before .before .before .before .before .before .before .before .before .before .before .before .before .before .args in
+    let entry-at = c .before .before .before .before .before .before .before .entry-at in
+    let step = c .before .before .before .before .before .step in
+    let loop-test = c .before .before .before .before .before .before .before .before .before .loop-test in
+    let e = entry⇒Entered 0 (take (payload-at .result .end) (now (args .file))) _ _ (sym (entry-at .ensures .0 0) ∙ ap (entry 0 (take
+    (payload-at .result .end) (now (args .file)))) (step .given .1)) in let forward = e .forward in let before = loop-test .taken in omega
+    arith
 
 ascend-loop-again : (t : ℕ) → ascend-lts.Need-loop-again (calls t) (ascend-at t) ascend.Post ascend-Inv-loop ascend-μ-loop
 unfolding ascentSaid entry
-ascend-loop-again t c = going-more _ _ _ _ _ _ (c .before .before .before .before .before .before .before .before .before .loop-test .taken) (c .before .before .before .before .before .before .before .before .before .before .loop .inv) _ (sym (c .before .before .before .before .before .before .before .entry-at .ensures .0 0) ∙ ap (entry 0 (take (c .before .before .before .before .before .before .before .before .before .before .before .payload-at .result .end) (now (c .before .before .before .before .before .before .before .before .before .before .before .before .before .before .args .file)))) (c .before .before .before .before .before .step .given .1)) (entry⇒Entered 0 (take (c .before .before .before .before .before .before .before .before .before .before .before .payload-at .result .end) (now (c .before .before .before .before .before .before .before .before .before .before .before .before .before .before .args .file))) _ _ (sym (c .before .before .before .before .before .before .before .entry-at .ensures .0 0) ∙ ap (entry 0 (take (c .before .before .before .before .before .before .before .before .before .before .before .payload-at .result .end) (now (c .before .before .before .before .before .before .before .before .before .before .before .before .before .before .args .file)))) (c .before .before .before .before .before .step .given .1)) .forward) _ (over-risen _ _ _ _ (sym (c .before .before .before .ascend .ensures) ∙ ap ascentSaid (c .before .child2 .given .1)))
+ascend-loop-again t c =
+    let loop-test = c .before .before .before .before .before .before .before .before .before .loop-test in
+    let loop = c .before .before .before .before .before .before .before .before .before .before .loop in
+    let entry-at = c .before .before .before .before .before .before .before .entry-at in
+    let payload-at = c .before .before .before .before .before .before .before .before .before .before .before .payload-at in
+    let args = c .before .before .before .before .before .before .before .before .before .before .before .before .before .before .args in
+    let step = c .before .before .before .before .before .step in
+    let ascend = c .before .before .before .ascend in
+    going-more _ _ _ _ _ _ (loop-test .taken) (loop .inv) _ (sym (entry-at .ensures .0 0) ∙ ap (entry 0 (take (payload-at .result .end) (now
+    (args .file)))) (step .given .1)) (entry⇒Entered 0 (take (payload-at .result .end) (now (args .file))) _ _ (sym (entry-at .ensures .0 0)
+    ∙ ap (entry 0 (take (payload-at .result .end) (now (args .file)))) (step .given .1)) .forward) _ (over-risen _ _ _ _ (sym
+    (ascend .ensures) ∙ ap ascentSaid (c .before .child2 .given .1)))
 
 ascend-returns-4 : (t : ℕ) → ascend-lts.Need-returns-4 (calls t) (ascend-at t) ascend.Post ascend-Inv-loop ascend-μ-loop
 unfolding ascentSaid

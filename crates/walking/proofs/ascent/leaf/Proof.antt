@@ -15,11 +15,15 @@ add-t6 c = search needs
 
 returns-2 : tie.Need-returns-2
 unfolding ascentSaid
-returns-2 c = sym (leaf-risen (c .before .before .args .long) (c .before .before .args .at) (c .before .before .args .least) (c .before .if1 .left) (c .if2 .taken))
+returns-2 c =
+    let args = c .before .before .args in
+    sym (leaf-risen (args .long) (args .at) (args .least) (c .before .if1 .left) (c .if2 .taken))
 
 returns-3 : tie.Need-returns-3
 unfolding ascentSaid
-returns-3 c = sym (leaf-past (c .before .before .args .long) (c .before .before .args .at) (c .before .before .args .least) (c .before .if1 .left) (c .if2 .left))
+returns-3 c =
+    let args = c .before .before .args in
+    sym (leaf-past (args .long) (args .at) (args .least) (c .before .if1 .left) (c .if2 .left))
 
 pub leaf-spec : {M : Type 1} → statement M
 leaf-spec = tie.close (tie.spec returns add-t6 returns-2 returns-3)

@@ -14,7 +14,9 @@ use Rattle.walking.proofs.hash.hash_right.Statement.{statement}
 use Rattle.walking.proofs.hash.hash_right.Tie as tie
 
 returns : tie.Need-returns
-returns c = λ bs e short. hash-missing (now (c .before .before .args .file)) (payloads (now (c .before .before .args .file)) bs) (c .if1 .taken)
+returns c =
+    let args = c .before .before .args in
+    λ bs e short. hash-missing (now (args .file)) (payloads (now (args .file)) bs) (c .if1 .taken)
 
 hashed-requires : tie.Need-hashed-requires
 hashed-requires c κs = search needs
@@ -38,10 +40,13 @@ begins-with-requires : tie.Need-begins-with-requires
 begins-with-requires c κs = search needs
 
 returns-2 : tie.Need-returns-2
-returns-2 c = λ bs e short.
-    c .begins-with .ensures
-    ∙ ap (λ (d : List _). begins d (take (length (now (c .before .before .before .before .before .before .before .args .file)) - 40) (drop 40 (now (c .before .before .before .before .before .before .before .args .file))))) (c .before .before .before .finish .ensures ∙ payloads-sha256 (now (c .before .before .before .before .before .before .before .args .file)) (c .before .before .before .before .before .before .before .args .from) bs e short _ (c .before .before .before .before .hashed .ensures bs e))
-    ∙ ap (begins (sha256 (payloads (now (c .before .before .before .before .before .before .before .args .file)) bs))) (rest (now (c .before .before .before .before .before .before .before .args .file)) 40)
+returns-2 c =
+    let args = c .before .before .before .before .before .before .before .args in
+    let finish = c .before .before .before .finish in
+    let hashed = c .before .before .before .before .hashed in
+    λ bs e short. c .begins-with .ensures ∙ ap (λ (d : List _). begins d (take (length (now (args .file)) - 40) (drop 40 (now
+    (args .file))))) (finish .ensures ∙ payloads-sha256 (now (args .file)) (args .from) bs e short _ (hashed .ensures bs e)) ∙ ap (begins
+    (sha256 (payloads (now (args .file)) bs))) (rest (now (args .file)) 40)
 
 pub hash-right-spec : {M : Type 1} → statement M
 hash-right-spec =

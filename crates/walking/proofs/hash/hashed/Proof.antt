@@ -25,7 +25,9 @@ begin-requires : tie.Need-begin-requires Inv-loop μ-loop
 begin-requires c κs = search needs
 
 loop-holds : tie.Need-loop-holds Inv-loop μ-loop
-loop-holds c = λ bs e. subst (Passed (now (c .before .before .args .file)) bs (c .before .before .args .from)) (sym (c .begin .ensures)) (passed-start (now (c .before .before .args .file)) (c .before .before .args .from) bs e)
+loop-holds c =
+    let args = c .before .before .args in
+    λ bs e. subst (Passed (now (args .file)) bs (args .from)) (sym (c .begin .ensures)) (passed-start (now (args .file)) (args .from) bs e)
 
 frame-at-requires : tie.Need-frame-at-requires Inv-loop μ-loop
 frame-at-requires c κs = search needs
@@ -35,7 +37,13 @@ enum-told c = search needs
 
 returns : tie.Need-returns Inv-loop μ-loop
 unfolding frame
-returns c = λ bs e. absurd (passed-refused (now (c .before .before .before .before .before .before .before .args .file)) bs _ _ (c .before .before .before .before .loop .inv bs e) (c .before .before .before .loop-test .taken) _ _ (sym (c .before .before .frame-at .ensures) ∙ ap (frame (c .before .before .before .before .loop .at)) (c .enum-told .given .1)))
+returns c =
+    let args = c .before .before .before .before .before .before .before .args in
+    let loop = c .before .before .before .before .loop in
+    let loop-test = c .before .before .before .loop-test in
+    let frame-at = c .before .before .frame-at in
+    λ bs e. absurd (passed-refused (now (args .file)) bs _ _ (loop .inv bs e) (loop-test .taken) _ _ (sym (frame-at .ensures) ∙ ap (frame
+    (loop .at)) (c .enum-told .given .1)))
 
 enum-known-found : tie.Need-enum-known-found Inv-loop μ-loop
 enum-known-found c = search needs
@@ -43,35 +51,49 @@ enum-known-found c = search needs
 passed-requires : tie.Need-passed-requires Inv-loop μ-loop
 unfolding frame
 passed-requires c κs =
-    let f = frame⇒Framed (now (c .before .before .before .before .before .before .before .before .args .file)) (c .before .before .before .before .before .loop .at) _ (sym (c .before .before .before .frame-at .ensures) ∙ ap (frame (c .before .before .before .before .before .loop .at)) (c .before .found .given .1)) in
-    let some = f .some in
-    let sized = f .sized in
-    let within = f .within in
-    (some, omega arith)
+    let args = c .before .before .before .before .before .before .before .before .args in
+    let loop = c .before .before .before .before .before .loop in
+    let frame-at = c .before .before .before .frame-at in
+    let f = frame⇒Framed (now (args .file)) (loop .at) _ (sym (frame-at .ensures) ∙ ap (frame (loop .at)) (c .before .found .given .1)) in
+    let some = f .some in let sized = f .sized in let within = f .within in (some, omega arith)
 
 add-at : tie.Need-add-at Inv-loop μ-loop
 unfolding frame
 add-at c =
-    let f = frame⇒Framed (now (c .before .before .before .before .before .before .before .before .before .before .args .file)) (c .before .before .before .before .before .before .before .loop .at) _ (sym (c .before .before .before .before .before .frame-at .ensures) ∙ ap (frame (c .before .before .before .before .before .before .before .loop .at)) (c .before .before .before .found .given .1)) in
-    let within = f .within in
-    omega (arith, c .before .before .before .before .before .before .before .before .before .before .good)
+    let args = c .before .before .before .before .before .before .before .before .before .before .args in
+    let loop = c .before .before .before .before .before .before .before .loop in
+    let frame-at = c .before .before .before .before .before .frame-at in
+    let found = c .before .before .before .found in
+    let good = c .before .before .before .before .before .before .before .before .before .before .good in
+    let f = frame⇒Framed (now (args .file)) (loop .at) _ (sym (frame-at .ensures) ∙ ap (frame (loop .at)) (found .given .1)) in let within =
+    f .within in omega (arith, good)
 
 loop-less : tie.Need-loop-less Inv-loop μ-loop
 unfolding frame
 loop-less c =
-    let f = frame⇒Framed (now (c .before .before .before .before .before .before .before .before .before .before .args .file)) (c .before .before .before .before .before .before .before .loop .at) _ (sym (c .before .before .before .before .before .frame-at .ensures) ∙ ap (frame (c .before .before .before .before .before .before .before .loop .at)) (c .before .before .before .found .given .1)) in
-    let number = f .number in
-    let some = f .some in
-    let sized = f .sized in
-    let before = c .before .before .before .before .before .before .loop-test .taken in
-    omega arith
+    let args = c .before .before .before .before .before .before .before .before .before .before .args in
+    let loop = c .before .before .before .before .before .before .before .loop in
+    let frame-at = c .before .before .before .before .before .frame-at in
+    let found = c .before .before .before .found in
+    let loop-test = c .before .before .before .before .before .before .loop-test in
+    let f = frame⇒Framed (now (args .file)) (loop .at) _ (sym (frame-at .ensures) ∙ ap (frame (loop .at)) (found .given .1)) in let number =
+    f .number in let some = f .some in let sized = f .sized in let before = loop-test .taken in omega arith
 
 loop-again : tie.Need-loop-again Inv-loop μ-loop
 unfolding frame
-loop-again c = λ bs e. passed-more (now (c .before .before .before .before .before .before .before .before .before .before .args .file)) bs _ _ (c .before .before .before .before .before .before .before .loop .inv bs e) (c .before .before .before .before .before .before .loop-test .taken) _ (sym (c .before .before .before .before .before .frame-at .ensures) ∙ ap (frame (c .before .before .before .before .before .before .before .loop .at)) (c .before .before .before .found .given .1)) _ (c .before .passed .ensures)
+loop-again c =
+    let args = c .before .before .before .before .before .before .before .before .before .before .args in
+    let loop = c .before .before .before .before .before .before .before .loop in
+    let loop-test = c .before .before .before .before .before .before .loop-test in
+    let frame-at = c .before .before .before .before .before .frame-at in
+    let found = c .before .before .before .found in
+    λ bs e. passed-more (now (args .file)) bs _ _ (loop .inv bs e) (loop-test .taken) _ (sym (frame-at .ensures) ∙ ap (frame (loop .at))
+    (found .given .1)) _ (c .before .passed .ensures)
 
 returns-2 : tie.Need-returns-2 Inv-loop μ-loop
-returns-2 c = λ bs e. passed-end (now (c .before .before .before .before .args .file)) bs _ _ (c .before .loop .inv bs e) (c .loop-test .left)
+returns-2 c =
+    let args = c .before .before .before .before .args in
+    λ bs e. passed-end (now (args .file)) bs _ _ (c .before .loop .inv bs e) (c .loop-test .left)
 
 pub hashed-spec : {M : Type 1} → statement M
 hashed-spec =

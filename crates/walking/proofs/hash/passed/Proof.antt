@@ -23,7 +23,9 @@ absorb-requires c κs = search needs
 
 returns : tie.Need-returns
 unfolding isData part
-returns c = rw (eq-eqb _ _ (c .before .before .if1 .taken)) (c .absorb .ensures)
+returns c =
+    let if1 = c .before .before .if1 in
+    rw (eq-eqb _ _ (if1 .taken)) (c .absorb .ensures)
 
 returns-2 : tie.Need-returns-2
 unfolding isData

@@ -52,10 +52,14 @@ abbrev keys-under-μ-loop : keys-under-lts.MeasureT-loop
 keys-under-μ-loop file at level end place₀ met₀ place met = end - place
 
 keys-under-leaf-keys-requires : (t : ℕ) → keys-under-lts.Need-leaf-keys-requires (calls t) (keys-under-at t) keys-under.Post keys-under-Inv-loop keys-under-μ-loop
-keys-under-leaf-keys-requires t c κs = c .before .before .pre .1
+keys-under-leaf-keys-requires t c κs =
+    let pre = c .before .before .pre in
+    pre .1
 
 keys-under-returns : (t : ℕ) → keys-under-lts.Need-returns (calls t) (keys-under-at t) keys-under.Post keys-under-Inv-loop keys-under-μ-loop
-keys-under-returns t c = c .leaf-keys .ensures ∙ keys-leaf (now (c .before .before .before .args .file)) (c .before .before .before .args .level) (c .before .before .before .args .at) (c .before .before .before .args .before) (c .before .if1 .taken)
+keys-under-returns t c =
+    let args = c .before .before .before .args in
+    c .leaf-keys .ensures ∙ keys-leaf (now (args .file)) (args .level) (args .at) (args .before) (c .before .if1 .taken)
 
 keys-under-payload-at-requires : (t : ℕ) → keys-under-lts.Need-payload-at-requires (calls t) (keys-under-at t) keys-under.Post keys-under-Inv-loop keys-under-μ-loop
 keys-under-payload-at-requires t c κs = search needs
@@ -64,10 +68,18 @@ keys-under-opened-requires : (t : ℕ) → keys-under-lts.Need-opened-requires (
 keys-under-opened-requires t c κs = search needs
 
 keys-under-loop-holds : (t : ℕ) → keys-under-lts.Need-loop-holds (calls t) (keys-under-at t) keys-under.Post keys-under-Inv-loop keys-under-μ-loop
-keys-under-loop-holds t c = (keys-start (now (c .before .before .before .before .args .file)) (c .before .before .before .before .args .level) (c .before .before .before .before .args .at) _ (c .before .payload-at .result) (c .before .payload-at .ensures .0), met-within (now (c .before .before .before .before .args .file)) (c .before .before .before .before .args .before) _ (c .opened .ensures) (c .before .before .before .before .pre .1))
+keys-under-loop-holds t c =
+    let args = c .before .before .before .before .args in
+    let pre = c .before .before .before .before .pre in (
+      keys-start (now (args .file)) (args .level) (args .at) _ (c .before .payload-at .result) (c .before .payload-at .ensures .0),
+      met-within (now (args .file)) (args .before) _ (c .opened .ensures) (pre .1),
+    )
 
 keys-under-slice-aggregate-entry-at : (t : ℕ) → keys-under-lts.Need-slice-aggregate-entry-at (calls t) (keys-under-at t) keys-under.Post keys-under-Inv-loop keys-under-μ-loop
-keys-under-slice-aggregate-entry-at t c = sym (length-take-le (c .before .before .before .before .payload-at .result .end) (now (c .before .before .before .before .before .before .before .args .file)) (c .before .before .before .before .payload-at .ensures .1 .1))
+keys-under-slice-aggregate-entry-at t c =
+    let payload-at = c .before .before .before .before .payload-at in
+    let args = c .before .before .before .before .before .before .before .args in
+    sym (length-take-le (payload-at .result .end) (now (args .file)) (payload-at .ensures .1 .1))
 
 keys-under-entry-at-requires : (t : ℕ) → keys-under-lts.Need-entry-at-requires (calls t) (keys-under-at t) keys-under.Post keys-under-Inv-loop keys-under-μ-loop
 keys-under-entry-at-requires t c κs = search needs
@@ -77,7 +89,17 @@ keys-under-enum-told t c = search needs
 
 keys-under-returns-2 : (t : ℕ) → keys-under-lts.Need-returns-2 (calls t) (keys-under-at t) keys-under.Post keys-under-Inv-loop keys-under-μ-loop
 unfolding entry
-keys-under-returns-2 t c = sym (sym (keys-whole (now (c .before .before .before .before .before .before .before .before .before .before .args .file)) (c .before .before .before .before .before .before .before .before .before .before .args .level) (c .before .before .before .before .before .before .before .before .before .before .args .at) (c .before .before .before .before .before .before .before .before .before .before .args .before) _ (c .before .before .before .before .before .before .before .before .if1 .left) (c .before .before .before .before .before .before .opened .ensures)) ∙ going-refused _ _ _ _ _ _ (c .before .before .before .before .loop-test .taken) (c .before .before .before .before .before .loop .inv .0) _ _ (sym (c .before .before .entry-at .ensures .0 0) ∙ ap (entry 0 (take (c .before .before .before .before .before .before .before .payload-at .result .end) (now (c .before .before .before .before .before .before .before .before .before .before .args .file)))) (c .enum-told .given .1)) ∙ over-keys-end _ _ _ _)
+keys-under-returns-2 t c =
+    let args = c .before .before .before .before .before .before .before .before .before .before .args in
+    let if1 = c .before .before .before .before .before .before .before .before .if1 in
+    let opened = c .before .before .before .before .before .before .opened in
+    let loop-test = c .before .before .before .before .loop-test in
+    let loop = c .before .before .before .before .before .loop in
+    let entry-at = c .before .before .entry-at in
+    let payload-at = c .before .before .before .before .before .before .before .payload-at in
+    sym (sym (keys-whole (now (args .file)) (args .level) (args .at) (args .before) _ (if1 .left) (opened .ensures)) ∙ going-refused _ _ _ _
+    _ _ (loop-test .taken) (loop .inv .0) _ _ (sym (entry-at .ensures .0 0) ∙ ap (entry 0 (take (payload-at .result .end) (now
+    (args .file)))) (c .enum-told .given .1)) ∙ over-keys-end _ _ _ _)
 
 keys-under-enum-known-step : (t : ℕ) → keys-under-lts.Need-enum-known-step (calls t) (keys-under-at t) keys-under.Post keys-under-Inv-loop keys-under-μ-loop
 keys-under-enum-known-step t c = search needs
@@ -87,42 +109,71 @@ keys-under-sub-keys-under t c = search needs
 
 keys-under-keys-under-requires : (t : ℕ) → keys-under-lts.Need-keys-under-requires (calls t) (keys-under-at t) keys-under.Post keys-under-Inv-loop keys-under-μ-loop
 keys-under-keys-under-requires t c κs =
-    let me = c .before .before .before .before .before .before .before .before .before .before .before .pre .0 in
-    let some = c .before .before .before .before .before .before .before .before .before .if1 .left in
-    (omega arith, c .before .before .before .before .before .before .loop .inv .1)
+    let pre = c .before .before .before .before .before .before .before .before .before .before .before .pre in
+    let if1 = c .before .before .before .before .before .before .before .before .before .if1 in
+    let loop = c .before .before .before .before .before .before .loop in
+    let me = pre .0 in let some = if1 .left in (omega arith, loop .inv .1)
 
 keys-under-entry-keys-requires : (t : ℕ) → keys-under-lts.Need-entry-keys-requires (calls t) (keys-under-at t) keys-under.Post keys-under-Inv-loop keys-under-μ-loop
 unfolding entry
 keys-under-entry-keys-requires t c κs =
-    let e = entry⇒Entered 0 (take (c .before .before .before .before .before .before .before .before .before .payload-at .result .end) (now (c .before .before .before .before .before .before .before .before .before .before .before .before .args .file))) _ _ (sym (c .before .before .before .before .entry-at .ensures .0 0) ∙ ap (entry 0 (take (c .before .before .before .before .before .before .before .before .before .payload-at .result .end) (now (c .before .before .before .before .before .before .before .before .before .before .before .before .args .file)))) (c .before .before .step .given .1)) in
-    let forward = e .forward in
-    let all = length-take-le (c .before .before .before .before .before .before .before .before .before .payload-at .result .end) (now (c .before .before .before .before .before .before .before .before .before .before .before .before .args .file)) (c .before .before .before .before .before .before .before .before .before .payload-at .ensures .1 .1) in
-    let inside = within-told _ _ _ _ _ _ _ (c .before .before .step .given .1) (c .before .before .before .before .entry-at .ensures .1) in
-    (omega arith, c .before .before .before .before .before .before .before .loop .inv .1, (subst (λ (k : Keys). Within (now (c .before .before .before .before .before .before .before .before .before .before .before .before .args .file)) (k .span)) (sym (c .keys-under .ensures)) (keys-within (now (c .before .before .before .before .before .before .before .before .before .before .before .before .args .file)) (c .before .before .before .before .before .before .before .before .before .before .before .before .args .level - 1) _ _ (c .before .before .before .before .before .before .before .loop .inv .1))))
+    let payload-at = c .before .before .before .before .before .before .before .before .before .payload-at in
+    let args = c .before .before .before .before .before .before .before .before .before .before .before .before .args in
+    let entry-at = c .before .before .before .before .entry-at in
+    let step = c .before .before .step in
+    let loop = c .before .before .before .before .before .before .before .loop in
+    let e = entry⇒Entered 0 (take (payload-at .result .end) (now (args .file))) _ _ (sym (entry-at .ensures .0 0) ∙ ap (entry 0 (take
+    (payload-at .result .end) (now (args .file)))) (step .given .1)) in let forward = e .forward in let all = length-take-le
+    (payload-at .result .end) (now (args .file)) (payload-at .ensures .1 .1) in let inside = within-told _ _ _ _ _ _ _ (step .given .1)
+    (entry-at .ensures .1) in (
+      omega arith,
+      loop .inv .1,
+      (subst (λ (k : Keys). Within (now (args .file)) (k .span)) (sym
+          (c .keys-under .ensures)) (keys-within (now (args .file)) (args .level - 1) _ _ (loop .inv .1))),
+    )
 
 keys-under-loop-less : (t : ℕ) → keys-under-lts.Need-loop-less (calls t) (keys-under-at t) keys-under.Post keys-under-Inv-loop keys-under-μ-loop
 unfolding entry
 keys-under-loop-less t c =
-    let e = entry⇒Entered 0 (take (c .before .before .before .before .before .before .before .before .before .before .payload-at .result .end) (now (c .before .before .before .before .before .before .before .before .before .before .before .before .before .args .file))) _ _ (sym (c .before .before .before .before .before .entry-at .ensures .0 0) ∙ ap (entry 0 (take (c .before .before .before .before .before .before .before .before .before .before .payload-at .result .end) (now (c .before .before .before .before .before .before .before .before .before .before .before .before .before .args .file)))) (c .before .before .before .step .given .1)) in
-    let forward = e .forward in
-    let all = length-take-le (c .before .before .before .before .before .before .before .before .before .before .payload-at .result .end) (now (c .before .before .before .before .before .before .before .before .before .before .before .before .before .args .file)) (c .before .before .before .before .before .before .before .before .before .before .payload-at .ensures .1 .1) in
-    let inside = within-told _ _ _ _ _ _ _ (c .before .before .before .step .given .1) (c .before .before .before .before .before .entry-at .ensures .1) in
-    let before = c .before .before .before .before .before .before .before .loop-test .taken in
-    omega arith
+    let payload-at = c .before .before .before .before .before .before .before .before .before .before .payload-at in
+    let args = c .before .before .before .before .before .before .before .before .before .before .before .before .before .args in
+    let entry-at = c .before .before .before .before .before .entry-at in
+    let step = c .before .before .before .step in
+    let loop-test = c .before .before .before .before .before .before .before .loop-test in
+    let e = entry⇒Entered 0 (take (payload-at .result .end) (now (args .file))) _ _ (sym (entry-at .ensures .0 0) ∙ ap (entry 0 (take
+    (payload-at .result .end) (now (args .file)))) (step .given .1)) in let forward = e .forward in let all = length-take-le
+    (payload-at .result .end) (now (args .file)) (payload-at .ensures .1 .1) in let inside = within-told _ _ _ _ _ _ _ (step .given .1)
+    (entry-at .ensures .1) in let before = loop-test .taken in omega arith
 
 keys-under-loop-again : (t : ℕ) → keys-under-lts.Need-loop-again (calls t) (keys-under-at t) keys-under.Post keys-under-Inv-loop keys-under-μ-loop
 unfolding entry
 keys-under-loop-again t c =
-    let e = entry⇒Entered 0 (take (c .before .before .before .before .before .before .before .before .before .before .payload-at .result .end) (now (c .before .before .before .before .before .before .before .before .before .before .before .before .before .args .file))) _ _ (sym (c .before .before .before .before .before .entry-at .ensures .0 0) ∙ ap (entry 0 (take (c .before .before .before .before .before .before .before .before .before .before .payload-at .result .end) (now (c .before .before .before .before .before .before .before .before .before .before .before .before .before .args .file)))) (c .before .before .before .step .given .1)) in
-    let forward = e .forward in
-    let all = length-take-le (c .before .before .before .before .before .before .before .before .before .before .payload-at .result .end) (now (c .before .before .before .before .before .before .before .before .before .before .before .before .before .args .file)) (c .before .before .before .before .before .before .before .before .before .before .payload-at .ensures .1 .1) in
-    let inside = within-told _ _ _ _ _ _ _ (c .before .before .before .step .given .1) (c .before .before .before .before .before .entry-at .ensures .1) in (
-      going-more _ _ _ _ _ _ (c .before .before .before .before .before .before .before .loop-test .taken) (c .before .before .before .before .before .before .before .before .loop .inv .0) _ (sym (c .before .before .before .before .before .entry-at .ensures .0 0) ∙ ap (entry 0 (take (c .before .before .before .before .before .before .before .before .before .before .payload-at .result .end) (now (c .before .before .before .before .before .before .before .before .before .before .before .before .before .args .file)))) (c .before .before .before .step .given .1)) forward _ (over-key (now (c .before .before .before .before .before .before .before .before .before .before .before .before .before .args .file)) (c .before .before .before .before .before .before .before .before .before .before .before .before .before .args .at) (c .before .before .before .before .before .before .before .before .before .before .payload-at .result .end) (keysOf (now (c .before .before .before .before .before .before .before .before .before .before .before .before .before .args .file)) (c .before .before .before .before .before .before .before .before .before .before .before .before .before .args .level - 1)) (record { at = c .before .before .before .step .given .0 .0; size = c .before .before .before .step .given .0 .1 .0 }) _ _ _ _ _ (omega arith) (c .before .keys-under .ensures) (c .entry-keys .ensures)),
-      subst (λ (k : Keys). Within (now (c .before .before .before .before .before .before .before .before .before .before .before .before .before .args .file)) (k .span)) (sym (c .entry-keys .ensures)) (entry-keys-within (now (c .before .before .before .before .before .before .before .before .before .before .before .before .before .args .file)) _ _ _ _ (c .before .before .before .before .before .before .before .before .loop .inv .1) (subst (λ (k : Keys). Within (now (c .before .before .before .before .before .before .before .before .before .before .before .before .before .args .file)) (k .span)) (sym (c .before .keys-under .ensures)) (keys-within (now (c .before .before .before .before .before .before .before .before .before .before .before .before .before .args .file)) (c .before .before .before .before .before .before .before .before .before .before .before .before .before .args .level - 1) _ _ (c .before .before .before .before .before .before .before .before .loop .inv .1)))),
+    let payload-at = c .before .before .before .before .before .before .before .before .before .before .payload-at in
+    let args = c .before .before .before .before .before .before .before .before .before .before .before .before .before .args in
+    let entry-at = c .before .before .before .before .before .entry-at in
+    let step = c .before .before .before .step in
+    let loop-test = c .before .before .before .before .before .before .before .loop-test in
+    let loop = c .before .before .before .before .before .before .before .before .loop in
+    let e = entry⇒Entered 0 (take (payload-at .result .end) (now (args .file))) _ _ (sym (entry-at .ensures .0 0) ∙ ap (entry 0 (take
+    (payload-at .result .end) (now (args .file)))) (step .given .1)) in let forward = e .forward in let all = length-take-le
+    (payload-at .result .end) (now (args .file)) (payload-at .ensures .1 .1) in let inside = within-told _ _ _ _ _ _ _ (step .given .1)
+    (entry-at .ensures .1) in (
+      going-more _ _ _ _ _ _ (loop-test .taken) (loop .inv .0) _ (sym (entry-at .ensures .0 0) ∙ ap (entry 0 (take
+          (payload-at .result .end) (now (args .file)))) (step .given .1)) forward _ (over-key (now (args .file)) (args .at)
+          (payload-at .result .end) (keysOf (now (args .file)) (args .level - 1)) (record { at = step .given .0 .0; size = step .given .0 .1 .0 })
+          _ _ _ _ _ (omega arith) (c .before .keys-under .ensures) (c .entry-keys .ensures)),
+      subst (λ (k : Keys). Within (now (args .file))
+          (k .span)) (sym (c .entry-keys .ensures)) (entry-keys-within (now (args .file)) _ _ _ _ (loop .inv .1) (subst (λ (k : Keys). Within (now
+          (args .file)) (k .span)) (sym (c .before .keys-under .ensures)) (keys-within (now (args .file)) (args .level - 1) _ _ (loop .inv .1)))),
     )
 
 keys-under-returns-3 : (t : ℕ) → keys-under-lts.Need-returns-3 (calls t) (keys-under-at t) keys-under.Post keys-under-Inv-loop keys-under-μ-loop
-keys-under-returns-3 t c = sym (sym (keys-whole (now (c .before .before .before .before .before .before .args .file)) (c .before .before .before .before .before .before .args .level) (c .before .before .before .before .before .before .args .at) (c .before .before .before .before .before .before .args .before) _ (c .before .before .before .before .if1 .left) (c .before .before .opened .ensures)) ∙ going-end _ _ _ _ _ _ (c .before .loop .inv .0) (c .loop-test .left) ∙ over-keys-end _ _ _ _)
+keys-under-returns-3 t c =
+    let args = c .before .before .before .before .before .before .args in
+    let if1 = c .before .before .before .before .if1 in
+    let opened = c .before .before .opened in
+    sym (sym (keys-whole (now (args .file)) (args .level) (args .at) (args .before) _ (if1 .left) (opened .ensures)) ∙ going-end _ _ _ _ _ _
+    (c .before .loop .inv .0) (c .loop-test .left) ∙ over-keys-end _ _ _ _)
 
 pub +keys-under-spec : {M : Type 1} → statement M
 +keys-under-spec = close μ-keys-under λ t. keys-under-lts.spec (calls t)

@@ -33,7 +33,9 @@ at-most-requires : tie.Need-at-most-requires
 at-most-requires c κs = search needs
 
 returns : tie.Need-returns
-returns c = lent-at-most (now (c .before .before .before .before .before .before .args .file)) (c .before .before .before .before .before .before .args .x) (c .before .before .before .before .before .before .args .y) _ (c .at-most .ensures)
+returns c =
+    let args = c .before .before .before .before .before .before .args in
+    lent-at-most (now (args .file)) (args .x) (args .y) _ (c .at-most .ensures)
 
 pub at-most-spec : {M : Type 1} → statement M
 at-most-spec =

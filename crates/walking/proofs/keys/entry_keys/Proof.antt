@@ -11,16 +11,27 @@ joined-requires : tie.Need-joined-requires
 joined-requires c κs = search needs
 
 fits-between-requires : tie.Need-fits-between-requires
-fits-between-requires c κs = (c .before .before .before .before .pre .0, c .before .before .before .before .pre .1, c .before .before .before .before .pre .2)
+fits-between-requires c κs =
+    let pre = c .before .before .before .before .pre in
+    (pre .0, pre .1, pre .2)
 
 returns : tie.Need-returns
-returns c = entry-is (now (c .before .before .before .before .before .before .args .file)) (c .before .before .before .before .before .before .args .at) (bytesOf (now (c .before .before .before .before .before .before .args .file)) (c .before .before .before .before .before .before .args .key)) (c .before .before .before .before .before .before .args .before) (c .before .before .before .before .before .before .args .child) _ _ (c .before .before .joined .ensures) (fits-kept _ _ _ (sym (c .before .fits-between .ensures) ∙ c .if1 .taken))
+returns c =
+    let args = c .before .before .before .before .before .before .args in
+    let joined = c .before .before .joined in
+    entry-is (now (args .file)) (args .at) (bytesOf (now (args .file)) (args .key)) (args .before) (args .child) _ _ (joined .ensures)
+    (fits-kept _ _ _ (sym (c .before .fits-between .ensures) ∙ c .if1 .taken))
 
 earlier-requires : tie.Need-earlier-requires
 earlier-requires c κs = search needs
 
 returns-2 : tie.Need-returns-2
-returns-2 c = entry-is (now (c .before .before .before .before .before .before .before .args .file)) (c .before .before .before .before .before .before .before .args .at) (bytesOf (now (c .before .before .before .before .before .before .before .args .file)) (c .before .before .before .before .before .before .before .args .key)) (c .before .before .before .before .before .before .before .args .before) (c .before .before .before .before .before .before .before .args .child) _ _ (c .before .before .before .joined .ensures) (fits-broken _ _ _ _ (sym (c .before .before .fits-between .ensures) ∙ c .before .if1 .left) (c .earlier .ensures))
+returns-2 c =
+    let args = c .before .before .before .before .before .before .before .args in
+    let joined = c .before .before .before .joined in
+    let fits-between = c .before .before .fits-between in
+    entry-is (now (args .file)) (args .at) (bytesOf (now (args .file)) (args .key)) (args .before) (args .child) _ _ (joined .ensures)
+    (fits-broken _ _ _ _ (sym (fits-between .ensures) ∙ c .before .if1 .left) (c .earlier .ensures))
 
 pub entry-keys-spec : {M : Type 1} → statement M
 entry-keys-spec =

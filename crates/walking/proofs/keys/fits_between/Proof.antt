@@ -7,15 +7,21 @@ use Rattle.walking.proofs.keys.fits_between.Tie as tie
 
 at-most-requires : tie.Need-at-most-requires
 unfolding Within
-at-most-requires c κs = (c .before .before .before .pre .1 .1, c .before .before .before .pre .0)
+at-most-requires c κs =
+    let pre = c .before .before .before .pre in
+    (pre .1 .1, pre .0)
 
 at-most-requires-2 : tie.Need-at-most-requires-2
 unfolding Within
-at-most-requires-2 c κs = (c .before .before .before .before .before .pre .0, c .before .before .before .before .before .pre .2 .0)
+at-most-requires-2 c κs =
+    let pre = c .before .before .before .before .before .pre in
+    (pre .0, pre .2 .0)
 
 returns : tie.Need-returns
 unfolding fitsBetween
-returns c = both-true _ _ _ (sym (c .before .before .at-most .ensures) ∙ c .before .if1 .taken) (c .at-most2 .ensures)
+returns c =
+    let at-most = c .before .before .at-most in
+    both-true _ _ _ (sym (at-most .ensures) ∙ c .before .if1 .taken) (c .at-most2 .ensures)
 
 returns-2 : tie.Need-returns-2
 unfolding fitsBetween

@@ -5,10 +5,14 @@ use Rattle.walking.proofs.keys.joined.Statement.{statement}
 use Rattle.walking.proofs.keys.joined.Tie as tie
 
 returns : tie.Need-returns
-returns c = sym (joined-none (c .before .before .before .before .args .a) (c .before .before .before .before .args .b) (c .if1 .taken))
+returns c =
+    let args = c .before .before .before .before .args in
+    sym (joined-none (args .a) (args .b) (c .if1 .taken))
 
 returns-2 : tie.Need-returns-2
-returns-2 c = sym (joined-some (c .before .before .before .before .args .a) (c .before .before .before .before .args .b) (c .if1 .left))
+returns-2 c =
+    let args = c .before .before .before .before .args in
+    sym (joined-some (args .a) (args .b) (c .if1 .left))
 
 pub joined-spec : {M : Type 1} → statement M
 joined-spec = tie.close (tie.spec returns returns-2)

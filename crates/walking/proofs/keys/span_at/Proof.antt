@@ -27,10 +27,15 @@ payload-at-requires c κs = search needs
 
 loop-holds : tie.Need-loop-holds Inv-loop μ-loop
 unfolding noSpan nonePiece
-loop-holds c = over-records-start (now (c .before .before .args .file)) (c .before .before .args .at) (c .payload-at .result) (c .payload-at .ensures .0)
+loop-holds c =
+    let args = c .before .before .args in
+    over-records-start (now (args .file)) (args .at) (c .payload-at .result) (c .payload-at .ensures .0)
 
 slice-aggregate-text-at : tie.Need-slice-aggregate-text-at Inv-loop μ-loop
-slice-aggregate-text-at c = sym (length-take-le (c .before .before .before .payload-at .result .end) (now (c .before .before .before .before .before .args .file)) (c .before .before .before .payload-at .ensures .1 .1))
+slice-aggregate-text-at c =
+    let payload-at = c .before .before .before .payload-at in
+    let args = c .before .before .before .before .before .args in
+    sym (length-take-le (payload-at .result .end) (now (args .file)) (payload-at .ensures .1 .1))
 
 text-at-requires : tie.Need-text-at-requires Inv-loop μ-loop
 text-at-requires c κs = search needs
@@ -40,7 +45,14 @@ enum-told c = search needs
 
 returns : tie.Need-returns Inv-loop μ-loop
 unfolding text
-returns c = sym (going-refused _ _ _ _ _ _ (c .before .before .before .before .loop-test .taken) (c .before .before .before .before .before .loop .inv) _ _ (sym (c .before .before .text-at .ensures 0) ∙ ap (text 0 (take (c .before .before .before .before .before .before .payload-at .result .end) (now (c .before .before .before .before .before .before .before .before .args .file)))) (c .enum-told .given .1)) ∙ over-records-end _)
+returns c =
+    let loop-test = c .before .before .before .before .loop-test in
+    let loop = c .before .before .before .before .before .loop in
+    let text-at = c .before .before .text-at in
+    let payload-at = c .before .before .before .before .before .before .payload-at in
+    let args = c .before .before .before .before .before .before .before .before .args in
+    sym (going-refused _ _ _ _ _ _ (loop-test .taken) (loop .inv) _ _ (sym (text-at .ensures 0) ∙ ap (text 0 (take (payload-at .result .end)
+    (now (args .file)))) (c .enum-told .given .1)) ∙ over-records-end _)
 
 enum-known-step : tie.Need-enum-known-step Inv-loop μ-loop
 enum-known-step c = search needs
@@ -51,30 +63,41 @@ joined-requires c κs = search needs
 add-place : tie.Need-add-place Inv-loop μ-loop
 unfolding text
 add-place c =
-    let p = text⇒Placed 0 (take (c .before .before .before .before .before .before .before .before .payload-at .result .end) (now (c .before .before .before .before .before .before .before .before .before .before .args .file))) _ _ (sym (c .before .before .before .before .text-at .ensures 0) ∙ ap (text 0 (take (c .before .before .before .before .before .before .before .before .payload-at .result .end) (now (c .before .before .before .before .before .before .before .before .before .before .args .file)))) (c .before .before .step .given .1)) in
-    let within = p .within in
-    let forward = p .forward in
-    let all = length-take-le (c .before .before .before .before .before .before .before .before .payload-at .result .end) (now (c .before .before .before .before .before .before .before .before .before .before .args .file)) (c .before .before .before .before .before .before .before .before .payload-at .ensures .1 .1) in
-    omega (arith, c .before .before .before .before .before .before .before .before .before .before .good)
+    let payload-at = c .before .before .before .before .before .before .before .before .payload-at in
+    let args = c .before .before .before .before .before .before .before .before .before .before .args in
+    let text-at = c .before .before .before .before .text-at in
+    let step = c .before .before .step in
+    let good = c .before .before .before .before .before .before .before .before .before .before .good in
+    let p = text⇒Placed 0 (take (payload-at .result .end) (now (args .file))) _ _ (sym (text-at .ensures 0) ∙ ap (text 0 (take
+    (payload-at .result .end) (now (args .file)))) (step .given .1)) in let within = p .within in let forward = p .forward in let all =
+    length-take-le (payload-at .result .end) (now (args .file)) (payload-at .ensures .1 .1) in omega (arith, good)
 
 loop-less : tie.Need-loop-less Inv-loop μ-loop
 unfolding text
 loop-less c =
-    let p = text⇒Placed 0 (take (c .before .before .before .before .before .before .before .before .payload-at .result .end) (now (c .before .before .before .before .before .before .before .before .before .before .args .file))) _ _ (sym (c .before .before .before .before .text-at .ensures 0) ∙ ap (text 0 (take (c .before .before .before .before .before .before .before .before .payload-at .result .end) (now (c .before .before .before .before .before .before .before .before .before .before .args .file)))) (c .before .before .step .given .1)) in
-    let within = p .within in
-    let forward = p .forward in
-    let all = length-take-le (c .before .before .before .before .before .before .before .before .payload-at .result .end) (now (c .before .before .before .before .before .before .before .before .before .before .args .file)) (c .before .before .before .before .before .before .before .before .payload-at .ensures .1 .1) in
-    let before = c .before .before .before .before .before .before .loop-test .taken in
-    omega arith
+    let payload-at = c .before .before .before .before .before .before .before .before .payload-at in
+    let args = c .before .before .before .before .before .before .before .before .before .before .args in
+    let text-at = c .before .before .before .before .text-at in
+    let step = c .before .before .step in
+    let loop-test = c .before .before .before .before .before .before .loop-test in
+    let p = text⇒Placed 0 (take (payload-at .result .end) (now (args .file))) _ _ (sym (text-at .ensures 0) ∙ ap (text 0 (take
+    (payload-at .result .end) (now (args .file)))) (step .given .1)) in let within = p .within in let forward = p .forward in let all =
+    length-take-le (payload-at .result .end) (now (args .file)) (payload-at .ensures .1 .1) in let before = loop-test .taken in omega arith
 
 loop-again : tie.Need-loop-again Inv-loop μ-loop
 unfolding text
 loop-again c =
-    let p = text⇒Placed 0 (take (c .before .before .before .before .before .before .before .before .payload-at .result .end) (now (c .before .before .before .before .before .before .before .before .before .before .args .file))) _ _ (sym (c .before .before .before .before .text-at .ensures 0) ∙ ap (text 0 (take (c .before .before .before .before .before .before .before .before .payload-at .result .end) (now (c .before .before .before .before .before .before .before .before .before .before .args .file)))) (c .before .before .step .given .1)) in
-    let within = p .within in
-    let forward = p .forward in
-    let all = length-take-le (c .before .before .before .before .before .before .before .before .payload-at .result .end) (now (c .before .before .before .before .before .before .before .before .before .before .args .file)) (c .before .before .before .before .before .before .before .before .payload-at .ensures .1 .1) in
-    going-more _ _ _ _ _ _ (c .before .before .before .before .before .before .loop-test .taken) (c .before .before .before .before .before .before .before .loop .inv) _ (sym (c .before .before .before .before .text-at .ensures 0) ∙ ap (text 0 (take (c .before .before .before .before .before .before .before .before .payload-at .result .end) (now (c .before .before .before .before .before .before .before .before .before .before .args .file)))) (c .before .before .step .given .1)) (omega arith) _ (over-record-read (take (c .before .before .before .before .before .before .before .before .payload-at .result .end) (now (c .before .before .before .before .before .before .before .before .before .before .args .file))) _ _ within _ _ (c .joined .ensures))
+    let payload-at = c .before .before .before .before .before .before .before .before .payload-at in
+    let args = c .before .before .before .before .before .before .before .before .before .before .args in
+    let text-at = c .before .before .before .before .text-at in
+    let step = c .before .before .step in
+    let loop-test = c .before .before .before .before .before .before .loop-test in
+    let loop = c .before .before .before .before .before .before .before .loop in
+    let p = text⇒Placed 0 (take (payload-at .result .end) (now (args .file))) _ _ (sym (text-at .ensures 0) ∙ ap (text 0 (take
+    (payload-at .result .end) (now (args .file)))) (step .given .1)) in let within = p .within in let forward = p .forward in let all =
+    length-take-le (payload-at .result .end) (now (args .file)) (payload-at .ensures .1 .1) in going-more _ _ _ _ _ _ (loop-test .taken)
+    (loop .inv) _ (sym (text-at .ensures 0) ∙ ap (text 0 (take (payload-at .result .end) (now (args .file)))) (step .given .1)) (omega
+    arith) _ (over-record-read (take (payload-at .result .end) (now (args .file))) _ _ within _ _ (c .joined .ensures))
 
 returns-2 : tie.Need-returns-2 Inv-loop μ-loop
 returns-2 c = sym (going-end _ _ _ _ _ _ (c .before .loop .inv) (c .loop-test .left) ∙ over-records-end _)

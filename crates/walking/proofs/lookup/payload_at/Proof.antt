@@ -21,24 +21,38 @@ enum-known-found c = search needs
 add-t6 : tie.Need-add-t6
 unfolding frame
 add-t6 c =
-    let f = frame⇒Framed (now (c .before .before .before .before .before .before .args .file)) (c .before .before .before .before .before .before .args .at) _ (sym (c .before .before .before .before .frame-at .ensures) ∙ ap (frame (c .before .before .before .before .before .before .args .at)) (c .before .before .found .given .1)) in
-    let some = f .some in
-    let sized = f .sized in
-    let within = f .within in
-    omega (arith, c .before .before .before .before .before .before .good)
+    let args = c .before .before .before .before .before .before .args in
+    let frame-at = c .before .before .before .before .frame-at in
+    let found = c .before .before .found in
+    let good = c .before .before .before .before .before .before .good in
+    let f = frame⇒Framed (now (args .file)) (args .at) _ (sym (frame-at .ensures) ∙ ap (frame (args .at)) (found .given .1)) in let some =
+    f .some in let sized = f .sized in let within = f .within in omega (arith, good)
 
 returns : tie.Need-returns
 unfolding frame
-returns c = (sym (bounds-none (now (c .before .before .before .before .args .file)) (c .before .before .before .before .args .at) _ _ (sym (c .before .before .frame-at .ensures) ∙ ap (frame (c .before .before .before .before .args .at)) (c .enum-told .given .1))), (omega arith, omega arith))
+returns c =
+    let args = c .before .before .before .before .args in
+    let frame-at = c .before .before .frame-at in (
+      sym (bounds-none (now (args .file)) (args .at) _ _ (sym (frame-at .ensures) ∙ ap (frame (args .at)) (c .enum-told .given .1))),
+      (
+        omega
+            arith,
+        omega arith,
+      ),
+    )
 
 returns-2 : tie.Need-returns-2
 unfolding frame
 returns-2 c =
-    let f = frame⇒Framed (now (c .before .before .before .before .before .before .args .file)) (c .before .before .before .before .before .before .args .at) _ (sym (c .before .before .before .before .frame-at .ensures) ∙ ap (frame (c .before .before .before .before .before .before .args .at)) (c .before .before .found .given .1)) in
-    let some = f .some in
-    let sized = f .sized in
-    let within = f .within in
-    (sym (bounds-found (now (c .before .before .before .before .before .before .args .file)) (c .before .before .before .before .before .before .args .at) _ (sym (c .before .before .before .before .frame-at .ensures) ∙ ap (frame (c .before .before .before .before .before .before .args .at)) (c .before .before .found .given .1))), (omega arith, omega arith))
+    let args = c .before .before .before .before .before .before .args in
+    let frame-at = c .before .before .before .before .frame-at in
+    let found = c .before .before .found in
+    let f = frame⇒Framed (now (args .file)) (args .at) _ (sym (frame-at .ensures) ∙ ap (frame (args .at)) (found .given .1)) in let some =
+    f .some in let sized = f .sized in let within = f .within in (
+      sym (bounds-found (now (args .file)) (args .at) _ (sym (frame-at .ensures)
+          ∙ ap (frame (args .at)) (found .given .1))),
+      (omega arith, omega arith),
+    )
 
 pub payload-at-spec : {M : Type 1} → statement M
 payload-at-spec =

@@ -18,22 +18,43 @@ keys-under-requires c κs = (omega arith, omega arith)
 
 returns : tie.Need-returns
 unfolding faultOf noKeys noSpan nonePiece
-returns c = λ bs e short. sym (ap (λ (k : Keys). behindOf (now (c .before .before .before .before .args .file)) k bs) (sym (c .before .before .keys-under .ensures)) ∙ behind-unordered (now (c .before .before .before .before .args .file)) (c .before .before .keys-under .result) bs (c .if1 .taken))
+returns c =
+    let args = c .before .before .before .before .args in
+    let keys-under = c .before .before .keys-under in
+    λ bs e short. sym (ap (λ (k : Keys). behindOf (now (args .file)) k bs) (sym (keys-under .ensures)) ∙ behind-unordered (now (args .file))
+    (keys-under .result) bs (c .if1 .taken))
 
 returns-2 : tie.Need-returns-2
 unfolding faultOf noKeys noSpan nonePiece
-returns-2 c = λ bs e short. sym (ap (λ (k : Keys). behindOf (now (c .before .before .before .before .before .before .args .file)) k bs) (sym (c .before .before .before .before .keys-under .ensures)) ∙ behind-misfit (now (c .before .before .before .before .before .before .args .file)) (c .before .before .before .before .keys-under .result) bs (c .before .before .if1 .left) (c .if2 .taken))
+returns-2 c =
+    let args = c .before .before .before .before .before .before .args in
+    let keys-under = c .before .before .before .before .keys-under in
+    let if1 = c .before .before .if1 in
+    λ bs e short. sym (ap (λ (k : Keys). behindOf (now (args .file)) k bs) (sym (keys-under .ensures)) ∙ behind-misfit (now (args .file))
+    (keys-under .result) bs (if1 .left) (c .if2 .taken))
 
 hash-right-requires : tie.Need-hash-right-requires
 hash-right-requires c κs = search needs
 
 returns-3 : tie.Need-returns-3
 unfolding faultOf noKeys noSpan nonePiece must
-returns-3 c = λ bs e short. sym (ap (λ (k : Keys). behindOf (now (c .before .before .before .before .before .before .before .before .args .file)) k bs) (sym (c .before .before .before .before .before .before .keys-under .ensures)) ∙ behind-hash (now (c .before .before .before .before .before .before .before .before .args .file)) (c .before .before .before .before .before .before .keys-under .result) bs (c .before .before .before .before .if1 .left) (c .before .before .if2 .left) _ (sym (c .if3 .taken) ∙ c .before .hash-right .ensures bs e short))
+returns-3 c =
+    let args = c .before .before .before .before .before .before .before .before .args in
+    let keys-under = c .before .before .before .before .before .before .keys-under in
+    let if1 = c .before .before .before .before .if1 in
+    let if2 = c .before .before .if2 in
+    λ bs e short. sym (ap (λ (k : Keys). behindOf (now (args .file)) k bs) (sym (keys-under .ensures)) ∙ behind-hash (now (args .file))
+    (keys-under .result) bs (if1 .left) (if2 .left) _ (sym (c .if3 .taken) ∙ c .before .hash-right .ensures bs e short))
 
 returns-4 : tie.Need-returns-4
 unfolding faultOf noKeys noSpan nonePiece must
-returns-4 c = λ bs e short. sym (ap (λ (k : Keys). behindOf (now (c .before .before .before .before .before .before .before .before .args .file)) k bs) (sym (c .before .before .before .before .before .before .keys-under .ensures)) ∙ behind-hash (now (c .before .before .before .before .before .before .before .before .args .file)) (c .before .before .before .before .before .before .keys-under .result) bs (c .before .before .before .before .if1 .left) (c .before .before .if2 .left) _ (sym (c .if3 .left) ∙ c .before .hash-right .ensures bs e short))
+returns-4 c =
+    let args = c .before .before .before .before .before .before .before .before .args in
+    let keys-under = c .before .before .before .before .before .before .keys-under in
+    let if1 = c .before .before .before .before .if1 in
+    let if2 = c .before .before .if2 in
+    λ bs e short. sym (ap (λ (k : Keys). behindOf (now (args .file)) k bs) (sym (keys-under .ensures)) ∙ behind-hash (now (args .file))
+    (keys-under .result) bs (if1 .left) (if2 .left) _ (sym (c .if3 .left) ∙ c .before .hash-right .ensures bs e short))
 
 pub behind-fault-spec : {M : Type 1} → statement M
 behind-fault-spec =

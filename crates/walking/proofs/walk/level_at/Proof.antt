@@ -17,11 +17,17 @@ enum-known-found c = search needs
 
 returns : tie.Need-returns
 unfolding frame levelOf
-returns c = ap levelOf (sym (sym (c .before .before .frame-at .ensures) ∙ ap (frame (c .before .before .before .before .args .at)) (c .enum-told .given .1)))
+returns c =
+    let frame-at = c .before .before .frame-at in
+    let args = c .before .before .before .before .args in
+    ap levelOf (sym (sym (frame-at .ensures) ∙ ap (frame (args .at)) (c .enum-told .given .1)))
 
 returns-2 : tie.Need-returns-2
 unfolding frame levelOf
-returns-2 c = ap levelOf (sym (sym (c .before .before .before .frame-at .ensures) ∙ ap (frame (c .before .before .before .before .before .args .at)) (c .before .found .given .1)))
+returns-2 c =
+    let frame-at = c .before .before .before .frame-at in
+    let args = c .before .before .before .before .before .args in
+    ap levelOf (sym (sym (frame-at .ensures) ∙ ap (frame (args .at)) (c .before .found .given .1)))
 
 pub level-at-spec : {M : Type 1} → statement M
 level-at-spec = tie.close (tie.spec frame-at-requires enum-told enum-known-found returns returns-2)

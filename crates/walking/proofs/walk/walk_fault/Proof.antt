@@ -25,11 +25,21 @@ behind-fault-requires c κs = search needs
 
 returns : tie.Need-returns
 unfolding ascentSaid faultOf
-returns c = λ bs ready. walk-fallen (now (c .before .before .before .before .before .before .args .file)) (c .before .before .before .before .before .before .args .from) (c .before .before .before .before .before .before .args .root) bs ready _ (c .before .before .before .before .level-at .ensures) _ (sym (c .before .before .before .ascend .ensures) ∙ ap ascentSaid (c .before .walk .given .1))
+returns c =
+    let args = c .before .before .before .before .before .before .args in
+    let level-at = c .before .before .before .before .level-at in
+    let ascend = c .before .before .before .ascend in
+    λ bs ready. walk-fallen (now (args .file)) (args .from) (args .root) bs ready _ (level-at .ensures) _ (sym (ascend .ensures) ∙ ap
+    ascentSaid (c .before .walk .given .1))
 
 returns-2 : tie.Need-returns-2
 unfolding ascentSaid
-returns-2 c = λ bs ready. c .behind-fault .ensures bs (ready .read) (ready .short) ∙ walk-risen (now (c .before .before .before .before .before .before .args .file)) (c .before .before .before .before .before .before .args .from) (c .before .before .before .before .before .before .args .root) bs ready _ (c .before .before .before .before .level-at .ensures) _ (sym (c .before .before .before .ascend .ensures) ∙ ap ascentSaid (c .before .enum-told .given .1))
+returns-2 c =
+    let args = c .before .before .before .before .before .before .args in
+    let level-at = c .before .before .before .before .level-at in
+    let ascend = c .before .before .before .ascend in
+    λ bs ready. c .behind-fault .ensures bs (ready .read) (ready .short) ∙ walk-risen (now (args .file)) (args .from) (args .root) bs ready
+    _ (level-at .ensures) _ (sym (ascend .ensures) ∙ ap ascentSaid (c .before .enum-told .given .1))
 
 pub walk-fault-spec : {M : Type 1} → statement M
 walk-fault-spec =
