@@ -8,9 +8,9 @@ use native.Mathlib.Omega.{arith}
 use lib.ListN.{length, take, length-take}
 use borrow.Author.Tests.{le-leb, lt-leb, eq-eqb, ne-eqb}
 use Rattle.outcome.specs.Outcome.{Outcome, answer, refused, _>>=_}
-use Rattle.outcome.specs.Items.{Step, itemsFrom}
+use Rattle.items.specs.Items.{Step, itemsFrom}
 use Rattle.outcome.proofs.OutcomeLaws.{answer-injective, kept⁻¹, bind-answer, bind-refused, bind⁻¹, map-refused⁻¹}
-use Rattle.outcome.proofs.ItemsLaws.{items-length}
+use Rattle.items.proofs.ItemsLaws.{items-length}
 use Rattle.framing.specs.declared.Frame.{Frame}
 use Rattle.framing.specs.Frame.{soundFrameAt}
 use Rattle.payload.specs.Payload.{Text, payloadAt, recordsAt, entriesAt}

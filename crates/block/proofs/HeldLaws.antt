@@ -10,10 +10,10 @@ use lib.ListN.{length, take, getD}
 use lib.Seq.{length-take-le}
 use borrow.Author.Tests.{leb-true, leb-false}
 use Rattle.outcome.specs.Outcome.{Outcome, answer}
-use Rattle.outcome.specs.Items.{Step, soundFrom}
+use Rattle.items.specs.Items.{Step, soundFrom}
 use Rattle.outcome.proofs.OutcomeLaws.{answer-injective, bind⁻¹}
-use Rattle.outcome.proofs.ItemsLaws.{Row, items⇒row, row⇒items, row-change, row-some, items⇒sound}
-use Rattle.outcome.proofs.ListsLaws.{AscendingIn, ascending-wider}
+use Rattle.items.proofs.ItemsLaws.{Row, items⇒row, row⇒items, row-change, row-some, items⇒sound}
+use Rattle.lists.proofs.ListsLaws.{AscendingIn, ascending-wider}
 use Rattle.framing.specs.declared.Frame.{Frame}
 use Rattle.framing.specs.Frame.{frameAt}
 use Rattle.payload.specs.Payload.{Text, Entry, textAt, entryAt, payloadAt, recordsAt, entriesAt, rising}

@@ -10,13 +10,14 @@ use lib.ListN.{length, take, drop, getD, length-take}
 use lib.Seq.{take-take}
 use Rattle.uleb128.specs.Number.{number, reading}
 use Rattle.uleb128.proofs.NumberLaws.{number-local}
-use Rattle.fixed_width.specs.FixedWidth.{littleEndian}
+use Rattle.endian.specs.FixedWidth.{littleEndian}
 use Rattle.crc64.specs.Crc64.{crc64}
 use Rattle.outcome.specs.Outcome.{Outcome, answer, _>>=_, _>>_, must}
-use Rattle.outcome.specs.Items.{Step, part, soundFrom}
+use Rattle.items.specs.Items.{Step, soundFrom}
+use Rattle.part.specs.Part.{part}
 use Rattle.outcome.proofs.OutcomeLaws.{bind-answer, bind-same, bind⁻¹}
-use Rattle.outcome.proofs.PartLaws.{drop-take, drop-later, part-later, getD-inside, part-inside}
-use Rattle.outcome.proofs.ItemsLaws.{items-agree, sound-agree}
+use Rattle.part.proofs.PartLaws.{drop-take, drop-later, part-later, getD-inside, part-inside}
+use Rattle.items.proofs.ItemsLaws.{items-agree, sound-agree}
 use Rattle.framing.specs.declared.Frame.{Frame}
 use Rattle.framing.specs.Frame.{readAs, numberAt, framed, frameAt, crcRight, soundFrameAt}
 use Rattle.payload.specs.Payload.{Text, Entry, textAt, entryAt, entrySized, payloadAt, recordsAt, entriesAt, rising}

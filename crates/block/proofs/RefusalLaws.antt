@@ -11,12 +11,13 @@ use lib.ListN.{length, take, drop, getD}
 use Rattle.uleb128.specs.Number.{Reading, number, cutOff, reading, continuing, sevens}
 use Rattle.uleb128.specs.Number.{refused as badNumber}
 use Rattle.outcome.specs.Outcome.{Outcome, answer, _>>=_}
-use Rattle.outcome.specs.Items.{Step, itemsFrom}
+use Rattle.items.specs.Items.{Step, itemsFrom}
 use Rattle.framing.specs.declared.Frame.{Frame}
 use Rattle.framing.specs.Frame.{readAs, numberAt, framed, frameAt, soundFrameAt}
 use Rattle.payload.specs.Payload.{Text, textAt, entryAt, entrySized, payloadAt, recordsAt, entriesAt}
 use Rattle.block.specs.Block.{Block, isData, isOrdinary, blockIn, blockAt, blockStep, blocksAt}
-use Rattle.outcome.proofs.RefusalLaws.{Refuses, refuses-answer, refuses-refused, refuses-bind, refuses-rule, refuses-items}
+use Rattle.outcome.proofs.RefusalLaws.{Refuses, refuses-answer, refuses-refused, refuses-bind, refuses-rule}
+use Rattle.items.proofs.RefusalItemsLaws.{refuses-items}
 
 -- a number that is refused is too wide or not shortest
 bad-number : (s : List ℕ) (k : ℕ) → reading s ≡ badNumber k → (k ≡ 11) ⊎ (k ≡ 12)

@@ -9,10 +9,10 @@ use lib.Dec.{leb}
 use lib.ListN.{length, length-append}
 use borrow.Author.Tests.{le-leb, lt-leb, eq-eqb, ne-eqb}
 use Rattle.outcome.specs.Outcome.{answer, refused}
-use Rattle.outcome.specs.Lists.{keep, any}
+use Rattle.lists.specs.Lists.{keep, any}
 use Rattle.outcome.proofs.OutcomeLaws.{answer-injective, bind-answer, bind-refused, bind⁻¹, map-refused⁻¹}
-use Rattle.outcome.proofs.ItemsLaws.{Progress, progress-start, progress-more, progress-end, progress-refused}
-use Rattle.outcome.proofs.ListsLaws.{keep-append, any-append, flatMap-append}
+use Rattle.items.proofs.ItemsLaws.{Progress, progress-start, progress-more, progress-end, progress-refused}
+use Rattle.lists.proofs.ListsLaws.{keep-append, any-append, flatMap-append}
 use Rattle.framing.specs.declared.Frame.{Frame}
 use Rattle.block.specs.declared.Survey.{Survey}
 use Rattle.payload.specs.Payload.{Text}

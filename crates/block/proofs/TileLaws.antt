@@ -7,10 +7,10 @@ use Prim.Native.Nat.{ℕ, _+_, _-_, _≤_, _<_}
 use native.Mathlib.Omega.{arith}
 use lib.ListN.{length}
 use Rattle.outcome.specs.Outcome.{answer}
-use Rattle.outcome.specs.Items.{Step}
+use Rattle.items.specs.Items.{Step}
 use Rattle.outcome.proofs.OutcomeLaws.{answer-injective, bind⁻¹}
-use Rattle.outcome.proofs.ItemsLaws.{Row, row-end, row-more, items⇒row, ReadFrom, row-member}
-use Rattle.outcome.proofs.ListsLaws.{Ascending, AscendingIn, ascending-wider, ascending-append, ascending-all, ascending-unique, flatMap-member, member-flatMap}
+use Rattle.items.proofs.ItemsLaws.{Row, row-end, row-more, items⇒row, ReadFrom, row-member}
+use Rattle.lists.proofs.ListsLaws.{Ascending, AscendingIn, ascending-wider, ascending-append, ascending-all, ascending-unique, flatMap-member, member-flatMap}
 use Rattle.payload.specs.Payload.{Text}
 use Rattle.block.specs.Block.{Block, blockAt, blockStep, blocksAt}
 use Rattle.block.specs.Survey.{recordsOf}

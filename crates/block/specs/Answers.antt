@@ -4,13 +4,13 @@ use lib.ListN.{length}
 use Rattle.outcome.specs.Outcome.{Outcome, answer, refused, _>>=_}
 use Rattle.framing.specs.declared.Frame.{Frame}
 use Rattle.block.specs.declared.pass.BlockOutcome.{BlockOutcome}
-use Rattle.block.specs.declared.pass.BlockOutcome.the-variants.{Sound as SoundBlock, Refused as NoBlock}
+use Rattle.block.specs.declared.pass.BlockOutcome.the-variants.{Answer as SoundBlock, Refused as NoBlock}
 use Rattle.block.specs.declared.pass.SurveyOutcome.{SurveyOutcome}
-use Rattle.block.specs.declared.pass.SurveyOutcome.the-variants.{Sound as SoundFile, Refused as NoFile}
+use Rattle.block.specs.declared.pass.SurveyOutcome.the-variants.{Answer as SoundFile, Refused as NoFile}
 use Rattle.block.specs.declared.Survey.{Survey}
 use Rattle.block.specs.Block.{Block}
 
--- what a block's tests report: its frame, and how many records it has
+-- what a blockSaid's tests report: its frame, and how many records it has
 pub record Tallied : Type 0 where
   pub frame : Frame
   pub records : ℕ
@@ -18,10 +18,10 @@ pub record Tallied : Type 0 where
 unfoldable pub tallied : Outcome Block → Outcome Tallied
 tallied o = o >>= λ b. answer (record { frame = b .frame; records = length (b .records) })
 
-unfoldable pub block : ℕ → BlockOutcome → Outcome Tallied
-block place (SoundBlock f records) = answer (record { frame = f; records = records })
-block place (NoBlock n) = refused n place
+unfoldable pub blockSaid : ℕ → BlockOutcome → Outcome Tallied
+blockSaid place (SoundBlock f records) = answer (record { frame = f; records = records })
+blockSaid place (NoBlock n) = refused n place
 
-unfoldable pub survey : SurveyOutcome → Outcome Survey
-survey (SoundFile s) = answer s
-survey (NoFile number place) = refused number place
+unfoldable pub surveySaid : SurveyOutcome → Outcome Survey
+surveySaid (SoundFile s) = answer s
+surveySaid (NoFile number place) = refused number place

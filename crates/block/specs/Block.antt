@@ -5,7 +5,7 @@ use mathlib.Core.List.{List, []}
 use lib.Dec.{leb, eqb}
 use lib.ListN.{length, take}
 use Rattle.outcome.specs.Outcome.{Outcome, answer, _>>=_}
-use Rattle.outcome.specs.Items.{Step, itemsFrom}
+use Rattle.items.specs.Items.{Step, itemsFrom}
 use Rattle.framing.specs.declared.Frame.{Frame}
 use Rattle.framing.specs.Frame.{soundFrameAt}
 use Rattle.payload.specs.Payload.{Text, Entry, recordsAt, entriesAt}

@@ -5,7 +5,7 @@ use mathlib.Core.List.{List, flatMap}
 use lib.Dec.{leb, eqb}
 use lib.ListN.{length}
 use Rattle.outcome.specs.Outcome.{Outcome, answer, _>>=_}
-use Rattle.outcome.specs.Lists.{keep, any}
+use Rattle.lists.specs.Lists.{keep, any}
 use Rattle.framing.specs.declared.Frame.{Frame}
 use Rattle.block.specs.declared.Survey.{Survey}
 use Rattle.payload.specs.Payload.{Text}

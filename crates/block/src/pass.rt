@@ -16,31 +16,31 @@ use payload::records_at;
 
 pub enum BlockOutcome {
     // A sound block, and how many records it has.
-    Sound { frame: Frame, records: usize },
+    Answer { frame: Frame, records: usize },
     Refused(u64),
 }
 
 // The block at an offset, with every test of one block (10 to 16, 21).
 pub fn block_at(file: &[u8], at: usize) -> BlockOutcome
-    ensures { λ r. ⌜ answers.block at r ≡ answers.tallied (blocks.blockAt (now (file .entry)) at) ⌝ }
+    ensures { λ r. ⌜ answers.blockSaid at r ≡ answers.tallied (blocks.blockAt (now (file .entry)) at) ⌝ }
 {
     let found = sound_frame_at(file, at);
     match found {
         FrameOutcome::Refused(n) => BlockOutcome::Refused(n),
-        FrameOutcome::Found(f) => block_in(file, f),
+        FrameOutcome::Answer(f) => block_in(file, f),
     }
 }
 
 // The block that a sound frame encloses.
 pub fn block_in(file: &[u8], f: Frame) -> BlockOutcome
     requires { ⌜ (f .body < f .end) × (f .end ≤ length (now file)) ⌝ }
-    ensures { λ r. ⌜ answers.block (f .start) r ≡ answers.tallied (blocks.blockIn (now (file .entry)) f) ⌝ }
+    ensures { λ r. ⌜ answers.blockSaid (f .start) r ≡ answers.tallied (blocks.blockIn (now (file .entry)) f) ⌝ }
 {
     let level = f.level;
     let from = f.body + 1;
     let end = f.end;
     if 63 < level {
-        return BlockOutcome::Sound {
+        return BlockOutcome::Answer {
             frame: f,
             records: 0,
         };
@@ -49,7 +49,7 @@ pub fn block_in(file: &[u8], f: Frame) -> BlockOutcome
         let items = records_at(&file[..end], from);
         match items {
             PayloadOutcome::Refused(n) => BlockOutcome::Refused(n),
-            PayloadOutcome::Sound(count) => BlockOutcome::Sound {
+            PayloadOutcome::Answer(count) => BlockOutcome::Answer {
                 frame: f,
                 records: count,
             },
@@ -58,7 +58,7 @@ pub fn block_in(file: &[u8], f: Frame) -> BlockOutcome
         let items = entries_at(&file[..end], from);
         match items {
             PayloadOutcome::Refused(n) => BlockOutcome::Refused(n),
-            PayloadOutcome::Sound(_) => BlockOutcome::Sound {
+            PayloadOutcome::Answer(_) => BlockOutcome::Answer {
                 frame: f,
                 records: 0,
             },
@@ -93,13 +93,13 @@ fn found_root(found: bool, f: Frame, root: u64, rootsize: u64) -> bool
 }
 
 pub enum SurveyOutcome {
-    Sound(Survey),
+    Answer(Survey),
     Refused { number: u64, place: usize },
 }
 
 // The block stage: every block from an offset to the file's end, front to back. `root` and `rootsize` are the header's.
 pub fn survey(file: &[u8], from: usize, root: u64, rootsize: u64) -> SurveyOutcome
-    ensures { λ r. ⌜ answers.survey r ≡ surveys.surveyOf (now (file .entry)) from root rootsize ⌝ }
+    ensures { λ r. ⌜ answers.surveySaid r ≡ surveys.surveyOf (now (file .entry)) from root rootsize ⌝ }
 {
     let mut at = from;
     let mut ordinary: usize = 0;
@@ -112,7 +112,7 @@ pub fn survey(file: &[u8], from: usize, root: u64, rootsize: u64) -> SurveyOutco
                 number: n,
                 place: at,
             },
-            BlockOutcome::Sound { frame, records: n } => {
+            BlockOutcome::Answer { frame, records: n } => {
                 ordinary += one_if_ordinary(frame.level);
                 records += n;
                 found = found_root(found, frame, root, rootsize);
@@ -120,7 +120,7 @@ pub fn survey(file: &[u8], from: usize, root: u64, rootsize: u64) -> SurveyOutco
             },
         }
     }
-    SurveyOutcome::Sound(Survey {
+    SurveyOutcome::Answer(Survey {
         blocks: ordinary,
         records,
         root: found,

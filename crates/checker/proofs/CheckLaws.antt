@@ -16,11 +16,11 @@ use Rattle.header.specs.Header.{headerOf, blocksFrom}
 use Rattle.block.specs.declared.Survey.{Survey}
 use Rattle.block.specs.Block.{Block, blocksAt}
 use Rattle.block.specs.Survey.{ordinary, recordsOf, surveyed, surveyOf}
-use Rattle.checker.specs.declared.CheckAnswer.{CheckAnswer}
-use Rattle.tree.specs.declared.Fault.{Fault}
+use Rattle.checker.specs.declared.Checked.{Checked}
+use Rattle.outcome.specs.declared.Refusal.{Refusal}
 use Rattle.tree.specs.Stages.{treeOf, hasRoot}
 use Rattle.checker.specs.Check.{checkOf, checkAnswer}
-use Rattle.tree.specs.Fault.{faultOf}
+use Rattle.outcome.specs.Refusal.{refusalOf}
 use Rattle.checker.proofs.StageLaws.{fault-none, fault-some}
 
 -- ---- what is reported
@@ -69,13 +69,13 @@ module _ (file : List ℕ) (places : ℕ) (h : Header) (bs : List Block) (header
 -- ---- the ways out of the code
 
 -- a refusal
-pub told : (o : Outcome (List Block)) (number place : ℕ) → o ≡ refused number place → (r : CheckAnswer) → r ≡ record { number = number; place = place; blocks = 0; records = 0 } → r ≡ checkAnswer o
+pub told : (o : Outcome (List Block)) (number place : ℕ) → o ≡ refused number place → (r : Checked) → r ≡ record { number = number; place = place; blocks = 0; records = 0 } → r ≡ checkAnswer o
 told o number place e r is = is ∙ sym (answer-of-refusal o number place e)
 
 module _ (file : List ℕ) (places : ℕ) (h : Header) (header : headerOf file ≡ answer h) where
   -- the block stage refuses
   pub told-unsound : (number place : ℕ) → surveyOf file (blocksFrom h) (h .root) (h .rootsize) ≡ refused number place
-      → (r : CheckAnswer) → r ≡ record { number = number; place = place; blocks = 0; records = 0 } → r ≡ checkAnswer (checkOf file places)
+      → (r : Checked) → r ≡ record { number = number; place = place; blocks = 0; records = 0 } → r ≡ checkAnswer (checkOf file places)
   unfolding surveyOf
   told-unsound number place e =
       told (checkOf file places) number place (check-unsound file places h header number place (map-refused⁻¹ (blocksAt file (blocksFrom h)) (surveyed (h .root) (h .rootsize)) number place e))
@@ -98,27 +98,27 @@ module _ (file : List ℕ) (places : ℕ) (h : Header) (header : headerOf file �
     unfolding surveyed
     records-are bs same = ap (λ (t : Survey). t .records) same
 
-    pub told-17 : s .root ≡ false → (r : CheckAnswer) → r ≡ record { number = 17; place = 0; blocks = 0; records = 0 } → r ≡ checkAnswer (checkOf file places)
+    pub told-17 : s .root ≡ false → (r : Checked) → r ≡ record { number = 17; place = 0; blocks = 0; records = 0 } → r ≡ checkAnswer (checkOf file places)
     told-17 none =
         let (bs, blocks, same) = accepted in
         told (checkOf file places) 17 0 (check-17 file places h header bs blocks (root-is bs same ∙ none))
 
-    pub told-18 : s .root ≡ true → places < s .blocks → (r : CheckAnswer) → r ≡ record { number = 18; place = 0; blocks = 0; records = 0 } → r ≡ checkAnswer (checkOf file places)
+    pub told-18 : s .root ≡ true → places < s .blocks → (r : Checked) → r ≡ record { number = 18; place = 0; blocks = 0; records = 0 } → r ≡ checkAnswer (checkOf file places)
     told-18 one few =
         let (bs, blocks, same) = accepted in
         let many = blocks-are bs same in
         told (checkOf file places) 18 0 (check-18 file places h bs header blocks (root-is bs same ∙ one) (omega arith))
 
     -- 19 to 25, as the code reports them
-    module _ (one : s .root ≡ true) (enough : s .blocks ≤ places) (f : Fault)
-        (is : (bs : List Block) → blocksAt file (blocksFrom h) ≡ answer bs → hasRoot h bs ≡ true → length (ordinary bs) ≡ s .blocks → faultOf f ≡ treeOf file h bs) where
-      decided : (bs : List Block) → blocksAt file (blocksFrom h) ≡ answer bs → surveyed (h .root) (h .rootsize) bs ≡ s → (checkOf file places ≡ (treeOf file h bs >> answer bs)) × (faultOf f ≡ treeOf file h bs)
+    module _ (one : s .root ≡ true) (enough : s .blocks ≤ places) (f : Refusal)
+        (is : (bs : List Block) → blocksAt file (blocksFrom h) ≡ answer bs → hasRoot h bs ≡ true → length (ordinary bs) ≡ s .blocks → refusalOf f ≡ treeOf file h bs) where
+      decided : (bs : List Block) → blocksAt file (blocksFrom h) ≡ answer bs → surveyed (h .root) (h .rootsize) bs ≡ s → (checkOf file places ≡ (treeOf file h bs >> answer bs)) × (refusalOf f ≡ treeOf file h bs)
       decided bs blocks same =
           let many = blocks-are bs same in
           let root = root-is bs same ∙ one in
           (check-tree file places h bs header blocks root (omega arith), is bs blocks root many)
 
-      pub told-fault : f .number ≢ 0 → (r : CheckAnswer) → r ≡ record { number = f .number; place = f .place; blocks = 0; records = 0 } → r ≡ checkAnswer (checkOf file places)
+      pub told-fault : f .number ≢ 0 → (r : Checked) → r ≡ record { number = f .number; place = f .place; blocks = 0; records = 0 } → r ≡ checkAnswer (checkOf file places)
       told-fault some =
           let (bs, blocks, same) = accepted in
           let d = decided bs blocks same in

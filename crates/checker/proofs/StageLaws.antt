@@ -10,31 +10,31 @@ use lib.Dec.{leb, eqb}
 use borrow.Author.Tests.{eqb-true, leb-true, eq-eqb, ne-eqb}
 use Rattle.outcome.specs.Outcome.{answer, refused, _>>_}
 use Rattle.outcome.proofs.OutcomeLaws.{after-answer, after-refused, after-assoc, passed⁻¹}
-use Rattle.outcome.proofs.ListsLaws.{any-member, both⁻¹}
+use Rattle.lists.proofs.ListsLaws.{any-member, both⁻¹}
 use Rattle.header.specs.declared.Header.{Header}
 use Rattle.header.specs.Header.{headerOf, blocksFrom}
 use Rattle.header.proofs.HeaderLaws.{is-header}
 use Rattle.block.specs.Block.{Block, isOrdinary, blocksAt}
 use Rattle.block.specs.Survey.{ordinary, isRoot}
-use Rattle.tree.specs.declared.Fault.{Fault}
+use Rattle.outcome.specs.declared.Refusal.{Refusal}
 use Rattle.tree.specs.Stages.{each, entriesFit, namedRightly, treeOf, hasRoot}
-use Rattle.tree.specs.Fault.{faultOf}
-use Rattle.naming.specs.Names.{namingOf}
-use Rattle.walking.specs.Walk.{walkOf, Ready}
+use Rattle.outcome.specs.Refusal.{refusalOf}
+use Rattle.check_names.specs.Names.{namingOf}
+use Rattle.check_walk.specs.Walk.{walkRulesOf, Ready}
 
 -- 19 and 20, then 22 to 25
-pub naming-then-walk : (file : List ℕ) (h : Header) (bs : List Block) → treeOf file h bs ≡ (namingOf bs (h .root) >> walkOf file (h .root) bs)
-unfolding treeOf namingOf walkOf
-naming-then-walk file h bs = after-assoc (each (entriesFit bs) 19 (ordinary bs)) (each (namedRightly bs (h .root)) 20 (ordinary bs)) (walkOf file (h .root) bs)
+pub naming-then-walk : (file : List ℕ) (h : Header) (bs : List Block) → treeOf file h bs ≡ (namingOf bs (h .root) >> walkRulesOf file (h .root) bs)
+unfolding treeOf namingOf walkRulesOf
+naming-then-walk file h bs = after-assoc (each (entriesFit bs) 19 (ordinary bs)) (each (namedRightly bs (h .root)) 20 (ordinary bs)) (walkRulesOf file (h .root) bs)
 
 -- ---- what a fault says
 
-pub fault-none : (f : Fault) → f .number ≡ 0 → faultOf f ≡ answer tt
-unfolding faultOf
+pub fault-none : (f : Refusal) → f .number ≡ 0 → refusalOf f ≡ answer tt
+unfolding refusalOf
 fault-none f z = rw (eq-eqb (f .number) 0 z)
 
-pub fault-some : (f : Fault) → f .number ≢ 0 → faultOf f ≡ refused (f .number) (f .place)
-unfolding faultOf
+pub fault-some : (f : Refusal) → f .number ≢ 0 → refusalOf f ≡ refused (f .number) (f .place)
+unfolding refusalOf
 fault-some f h = rw (ne-eqb (f .number) 0 h)
 
 -- ---- the two steps
@@ -64,14 +64,14 @@ module _ (file : List ℕ) (h : Header) (bs : List Block) (header : headerOf fil
       }
 
   -- 19 or 20 refuses
-  pub misnamed : (f : Fault) → faultOf f ≡ namingOf bs (h .root) → f .number ≢ 0 → faultOf f ≡ treeOf file h bs
+  pub misnamed : (f : Refusal) → refusalOf f ≡ namingOf bs (h .root) → f .number ≢ 0 → refusalOf f ≡ treeOf file h bs
   misnamed f is some =
       let said = fault-some f some in
-      said ∙ sym (after-refused (namingOf bs (h .root)) (walkOf file (h .root) bs) (f .number) (f .place) (sym is ∙ said)) ∙ sym (naming-then-walk file h bs)
+      said ∙ sym (after-refused (namingOf bs (h .root)) (walkRulesOf file (h .root) bs) (f .number) (f .place) (sym is ∙ said)) ∙ sym (naming-then-walk file h bs)
 
   -- both pass, and the walk decides
-  pub walked : (f : Fault) → faultOf f ≡ namingOf bs (h .root) → f .number ≡ 0
-      → (g : Fault) → ((cs : List Block) → Ready file (blocksFrom h) (h .root) cs → faultOf g ≡ walkOf file (h .root) cs) → faultOf g ≡ treeOf file h bs
+  pub walked : (f : Refusal) → refusalOf f ≡ namingOf bs (h .root) → f .number ≡ 0
+      → (g : Refusal) → ((cs : List Block) → Ready file (blocksFrom h) (h .root) cs → refusalOf g ≡ walkRulesOf file (h .root) cs) → refusalOf g ≡ treeOf file h bs
   walked f is none g walk =
       let passed = sym is ∙ fault-none f none in
-      walk bs (ready passed) ∙ sym (after-answer (namingOf bs (h .root)) (walkOf file (h .root) bs) tt passed) ∙ sym (naming-then-walk file h bs)
+      walk bs (ready passed) ∙ sym (after-answer (namingOf bs (h .root)) (walkRulesOf file (h .root) bs) tt passed) ∙ sym (naming-then-walk file h bs)

@@ -7,7 +7,7 @@ use Rattle.outcome.specs.Outcome.{Outcome, answer, _>>=_, _>>_, must, numberOf,
 use Rattle.header.specs.Header.{headerOf, blocksFrom}
 use Rattle.block.specs.Block.{Block, blocksAt}
 use Rattle.block.specs.Survey.{ordinary, recordsOf}
-use Rattle.checker.specs.declared.CheckAnswer.{CheckAnswer}
+use Rattle.checker.specs.declared.Checked.{Checked}
 use Rattle.tree.specs.Stages.{treeOf, hasRoot}
 
 -- Acceptance: none of 1 to 17 and 19 to 25 applies. The answer is the file's blocks in file order. No work list comes in.
@@ -30,7 +30,7 @@ checkOf file places = do
   answer bs
 
 -- what `check` answers
-unfoldable pub checkAnswer : Outcome (List Block) → CheckAnswer
+unfoldable pub checkAnswer : Outcome (List Block) → Checked
 checkAnswer o =
     record {
       number = numberOf o;

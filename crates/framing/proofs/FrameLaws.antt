@@ -9,13 +9,13 @@ use lib.Dec.{leb}
 use lib.ListN.{length, take, drop, getD, drop-of-length-le, length-drop}
 use lib.Seq.{take-all}
 use borrow.Author.Tests.{le-leb, lt-leb, leb-true}
-use Rattle.uleb128.specs.Number.{Reading, number, cutOff, reading, continuing, meaning}
+use Rattle.uleb128.specs.Number.{Reading, number, cutOff, reading, continuing, readingSaid}
 use Rattle.uleb128.specs.declared.Number.{Number}
 use Rattle.uleb128.specs.declared.Number.the-variants.{Value}
 use Rattle.uleb128.specs.Number.{refused as badNumber}
 use Rattle.uleb128.proofs.NumberLaws.{number-used, number-lt, reading-cut}
 use Rattle.outcome.specs.Outcome.{answer, refused}
-use Rattle.outcome.specs.Items.{Step}
+use Rattle.items.specs.Items.{Step}
 use Rattle.outcome.proofs.OutcomeLaws.{answer-injective, refused-not-answer, kept, broken, kept⁻¹, bind-answer, bind⁻¹}
 use Rattle.framing.specs.declared.Frame.{Frame}
 use Rattle.framing.specs.Frame.{readAs, numberAt, framed, frameAt, crcRight, soundFrameAt}
@@ -27,16 +27,16 @@ pub rest : (s : List ℕ) (at : ℕ) → take (length s - at) (drop at s) ≡ dr
 rest s at = take-all (length s - at) (drop at s) (simp length-drop (omega arith))
 
 -- the number at an offset is what reading the rest finds
-pub number-found : (cut place : ℕ) (s : List ℕ) (at : ℕ) (n : Number) → meaning n ≡ reading (take (length s - at) (drop at s)) → readAs cut place at (meaning n) ≡ numberAt cut place s at
+pub number-found : (cut place : ℕ) (s : List ℕ) (at : ℕ) (n : Number) → readingSaid n ≡ reading (take (length s - at) (drop at s)) → readAs cut place at (readingSaid n) ≡ numberAt cut place s at
 unfolding numberAt
 number-found cut place s at n e = ap (readAs cut place at) (e ∙ ap reading (rest s at))
 
 -- a value that was read
-pub value-read : (s : List ℕ) (n : Number) (value used : ℕ) → n ≡ Value value used → meaning n ≡ reading s → reading s ≡ number value used
-unfolding meaning
-value-read s n value used told e = sym e ∙ ap meaning told
+pub value-read : (s : List ℕ) (n : Number) (value used : ℕ) → n ≡ Value value used → readingSaid n ≡ reading s → reading s ≡ number value used
+unfolding readingSaid
+value-read s n value used told e = sym e ∙ ap readingSaid told
 
-pub value-used : (s : List ℕ) (n : Number) (value used : ℕ) → n ≡ Value value used → meaning n ≡ reading s → used ≤ length s
+pub value-used : (s : List ℕ) (n : Number) (value used : ℕ) → n ≡ Value value used → readingSaid n ≡ reading s → used ≤ length s
 value-used s n value used told e = number-used s value used (value-read s n value used told e) .2
 
 -- past the end every number is cut off

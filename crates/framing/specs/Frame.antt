@@ -6,10 +6,11 @@ use lib.Dec.{leb, eqb}
 use lib.ListN.{length, drop, getD}
 use Rattle.uleb128.specs.Number.{Reading, number, cutOff, reading}
 use Rattle.uleb128.specs.Number.{refused as badNumber}
-use Rattle.fixed_width.specs.FixedWidth.{littleEndian}
+use Rattle.endian.specs.FixedWidth.{littleEndian}
 use Rattle.crc64.specs.Crc64.{crc64}
 use Rattle.outcome.specs.Outcome.{Outcome, answer, refused, _>>=_, _>>_, must}
-use Rattle.outcome.specs.Items.{Step, part}
+use Rattle.items.specs.Items.{Step}
+use Rattle.part.specs.Part.{part}
 use Rattle.framing.specs.declared.Frame.{Frame}
 
 -- a number that was read, as a step: its value, and where it ends

@@ -19,51 +19,51 @@ pub struct Frame {
     pub end: usize,
 }
 
-pub enum NumberStep {
+pub enum NumberOutcome {
     // The value, and where the number ends.
-    Value { value: u64, next: usize },
+    Answer { value: u64, next: usize },
     Refused(u64),
 }
 
 // The number at an offset of `s`, which ends with `s`; `cut` is the refusal where it is cut off.
-pub fn number_at(s: &[u8], at: usize, cut: u64) -> NumberStep
-    ensures { λ r. ⌜ ((place : ℕ) → answers.number place r ≡ frames.numberAt cut place (now (s .entry)) at) ⌝ }
+pub fn number_at(s: &[u8], at: usize, cut: u64) -> NumberOutcome
+    ensures { λ r. ⌜ ((place : ℕ) → answers.numberSaid place r ≡ frames.numberAt cut place (now (s .entry)) at) ⌝ }
 {
     if s.len() < at {
-        return NumberStep::Refused(cut);
+        return NumberOutcome::Refused(cut);
     }
     let read = uleb128::read_number(&s[at..]);
     match read {
-        Number::Value { value, used } => NumberStep::Value {
+        Number::Value { value, used } => NumberOutcome::Answer {
             value,
             next: at + used,
         },
-        Number::CutOff => NumberStep::Refused(cut),
-        Number::TooWide => NumberStep::Refused(11),
-        Number::NotShortest => NumberStep::Refused(12),
+        Number::CutOff => NumberOutcome::Refused(cut),
+        Number::TooWide => NumberOutcome::Refused(11),
+        Number::NotShortest => NumberOutcome::Refused(12),
     }
 }
 
 pub enum FrameOutcome {
-    Found(Frame),
+    Answer(Frame),
     Refused(u64),
 }
 
 // The frame at an offset, apart from its CRC (10 to 13).
 pub fn frame_at(file: &[u8], at: usize) -> FrameOutcome
-    ensures { λ r. ⌜ answers.frame at r ≡ frames.frameAt (now (file .entry)) at ⌝ }
+    ensures { λ r. ⌜ answers.frameSaid at r ≡ frames.frameAt (now (file .entry)) at ⌝ }
 {
     let number = number_at(file, at, 10);
     match number {
-        NumberStep::Refused(n) => FrameOutcome::Refused(n),
-        NumberStep::Value { value, next } => framed(file, at, value, next),
+        NumberOutcome::Refused(n) => FrameOutcome::Refused(n),
+        NumberOutcome::Answer { value, next } => framed(file, at, value, next),
     }
 }
 
 // The frame whose number has been read.
 fn framed(file: &[u8], at: usize, value: u64, next: usize) -> FrameOutcome
     requires { ⌜ (at ≤ next) × (next ≤ length (now file)) ⌝ }
-    ensures { λ r. ⌜ answers.frame at r ≡ frames.framed (now (file .entry)) at (record { item = value; next = next }) ⌝ }
+    ensures { λ r. ⌜ answers.frameSaid at r ≡ frames.framed (now (file .entry)) at (record { item = value; next = next }) ⌝ }
 {
     if value < 1 {
         return FrameOutcome::Refused(13);
@@ -76,7 +76,7 @@ fn framed(file: &[u8], at: usize, value: u64, next: usize) -> FrameOutcome
         return FrameOutcome::Refused(10);
     }
     let end = next + value as usize;
-    FrameOutcome::Found(Frame {
+    FrameOutcome::Answer(Frame {
         start: at,
         size: end + 8 - at,
         level: file[next],
@@ -90,21 +90,21 @@ fn crc_right(file: &[u8], body: usize, end: usize) -> bool
     requires { ⌜ (body ≤ end) × (end ≤ length (now file)) ⌝ }
     ensures { λ r. ⌜ r ≡ frames.crcRight (now (file .entry)) body end ⌝ }
 {
-    fixed_width::le64_at(file, end) == crc64::checksum(&file[body..end])
+    endian::le64_at(file, end) == crc64::checksum(&file[body..end])
 }
 
 // The frame at an offset with its CRC (10 to 14).
 pub fn sound_frame_at(file: &[u8], at: usize) -> FrameOutcome
-    ensures { λ r. ⌜ answers.frame at r ≡ frames.soundFrameAt (now (file .entry)) at ⌝ }
+    ensures { λ r. ⌜ answers.frameSaid at r ≡ frames.soundFrameAt (now (file .entry)) at ⌝ }
 {
     let found = frame_at(file, at);
     match found {
         FrameOutcome::Refused(n) => FrameOutcome::Refused(n),
-        FrameOutcome::Found(f) => {
+        FrameOutcome::Answer(f) => {
             let body = f.body;
             let end = f.end;
             if crc_right(file, body, end) {
-                FrameOutcome::Found(f)
+                FrameOutcome::Answer(f)
             } else {
                 FrameOutcome::Refused(14)
             }

@@ -10,25 +10,25 @@ use native.Mathlib.Omega.{arith}
 use lib.Dec.{eqb, lit≤}
 use lib.ListN.{length, take, drop}
 use borrow.Author.Tests.{leb-true, eqb-true, not-true}
-use Rattle.byte_order.specs.Order.{begins}
-use Rattle.fixed_width.specs.FixedWidth.{littleEndian}
+use Rattle.byte_string.specs.Order.{begins}
+use Rattle.endian.specs.FixedWidth.{littleEndian}
 use Rattle.outcome.specs.Outcome.{Outcome, answer, refused, _>>_, must}
-use Rattle.outcome.specs.Items.{part}
+use Rattle.part.specs.Part.{part}
 use Rattle.outcome.proofs.OutcomeLaws.{kept, broken, kept⁻¹, answer-injective, answer-not-refused}
-use Rattle.outcome.proofs.PartLaws.{drop-take, part-take}
+use Rattle.part.proofs.PartLaws.{drop-take, part-take}
 use Rattle.header.specs.declared.Header.{Header}
-use Rattle.header.specs.declared.HeaderOutcome.the-variants.{Good, Bad}
-use Rattle.header.specs.Header.{magic, unfinishedMagic, codecNone, numberAt, isMetadata, H, M, headerCrcRight, fieldsOf, headerOf, blocksFrom, meaning}
+use Rattle.header.specs.declared.HeaderOutcome.the-variants.{Answer as Good, Refused as Bad}
+use Rattle.header.specs.Header.{magic, unfinishedMagic, codecNone, fieldAt, isMetadata, H, M, headerCrcRight, fieldsOf, headerOf, blocksFrom, headerSaid}
 use Rattle.header.proofs.RuleLaws.{holdsHeader⁻¹, holdsHeader-of, holdsMetadata⁻¹, holdsMetadata-of, numbersOf, fields-good, header-fields}
 
 -- ---- what an answer of `Header::read` says
 
-pub good-header : (file : List ℕ) (h : Header) → meaning (Good h) ≡ headerOf file → headerOf file ≡ answer h
-unfolding meaning
+pub good-header : (file : List ℕ) (h : Header) → headerSaid (Good h) ≡ headerOf file → headerOf file ≡ answer h
+unfolding headerSaid
 good-header file h e = sym e
 
-pub bad-header : (file : List ℕ) (number : ℕ) → meaning (Bad number) ≡ headerOf file → headerOf file ≡ refused number 0
-unfolding meaning
+pub bad-header : (file : List ℕ) (number : ℕ) → headerSaid (Bad number) ≡ headerOf file → headerOf file ≡ refused number 0
+unfolding headerSaid
 bad-header file number e = sym e
 
 -- ---- an accepted header
@@ -44,15 +44,15 @@ pub record IsHeader (file : List ℕ) (h : Header) : Type 0 where
   pub fields : 80 ≤ H file
   pub room : M file ≤ H file - 80
   pub codec : begins codecNone (drop 72 file) ≡ true
-  pub total : numberAt file 32 ≡ length file
+  pub total : fieldAt file 32 ≡ length file
   pub metadata-rule : isMetadata (part file 96 (M file)) ≡ true
   pub is-extent : h .extent ≡ H file
-  pub is-root : h .root ≡ numberAt file 16
-  pub is-rootsize : h .rootsize ≡ numberAt file 24
+  pub is-root : h .root ≡ fieldAt file 16
+  pub is-rootsize : h .rootsize ≡ fieldAt file 24
   pub is-metadata : h .metadata ≡ M file
 
 -- a header is its four numbers
-same-numbers : (file : List ℕ) (h : Header) → h .extent ≡ H file → h .root ≡ numberAt file 16 → h .rootsize ≡ numberAt file 24 → h .metadata ≡ M file
+same-numbers : (file : List ℕ) (h : Header) → h .extent ≡ H file → h .root ≡ fieldAt file 16 → h .rootsize ≡ fieldAt file 24 → h .metadata ≡ M file
     → numbersOf file ≡ h
 unfolding numbersOf
 same-numbers file h e r s m = rw (← e, ← r, ← s, ← m)
@@ -83,7 +83,7 @@ is-header file h e =
       fields = room .0;
       room = room .1;
       codec = i .0;
-      total = eqb-true (numberAt file 32) (length file) (j .0);
+      total = eqb-true (fieldAt file 32) (length file) (j .0);
       metadata-rule = k .0;
       is-extent = sym (ap (λ (x : Header). x .extent) n);
       is-root = sym (ap (λ (x : Header). x .root) n);
@@ -132,8 +132,8 @@ module _ (file t : List ℕ) (end : ℕ) (same : take end t ≡ take end file) w
       cut : take (end - at) (drop at t) ≡ take (end - at) (drop at file)
       cut = sym (drop-take at end t) ∙ ap (drop at) same ∙ drop-take at end file
 
-  pub numberAt-same : (at : ℕ) → at + 8 ≤ end → numberAt t at ≡ numberAt file at
-  unfolding numberAt
+  pub numberAt-same : (at : ℕ) → at + 8 ≤ end → fieldAt t at ≡ fieldAt file at
+  unfolding fieldAt
   numberAt-same at h = ap littleEndian (part-same at 8 h)
 
   pub H-same : 16 ≤ end → H t ≡ H file

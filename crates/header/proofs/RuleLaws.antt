@@ -10,13 +10,13 @@ use lib.Dec.{leb, eqb}
 use lib.ListN.{length, take, drop, getD, length-drop}
 use lib.Seq.{take-all}
 use borrow.Author.Tests.{leb-true, leb-false, le-leb, lt-leb, eq-eqb, ne-eqb}
-use Rattle.byte_order.specs.Order.{begins}
-use Rattle.fixed_width.specs.FixedWidth.{littleEndian}
+use Rattle.byte_string.specs.Order.{begins}
+use Rattle.endian.specs.FixedWidth.{littleEndian}
 use Rattle.crc64.specs.Crc64.{crc64}
 use Rattle.outcome.specs.Outcome.{answer, refused, _>>_, must}
-use Rattle.outcome.specs.Items.{part}
+use Rattle.part.specs.Part.{part}
 use Rattle.header.specs.declared.Header.{Header}
-use Rattle.header.specs.Header.{magic, unfinishedMagic, codecNone, numberAt, isMetadata, H, M, holdsHeader, headerCrcRight, holdsMetadata, fieldsOf, headerOf}
+use Rattle.header.specs.Header.{magic, unfinishedMagic, codecNone, fieldAt, isMetadata, H, M, holdsHeader, headerCrcRight, holdsMetadata, fieldsOf, headerOf}
 
 -- ---- tests
 
@@ -110,7 +110,7 @@ metadata-within file held room =
 -- the number behind the header data is compared with the CRC of the data, which are lent
 pub headerCrcRight-by : (file : List ℕ) (h : ℕ) → h ≡ H file
     → headerCrcRight file ≡ eqb (littleEndian (take 8 (drop (16 + h) file))) (crc64 (take (16 + h - 16) (drop 16 file)))
-unfolding headerCrcRight numberAt part
+unfolding headerCrcRight fieldAt part
 headerCrcRight-by file h e = rw (add-sub-cancel-left, e)
 
 -- ---- refusals 7 to 9, and the answer
@@ -126,7 +126,7 @@ metadata-lent file m e = rw (add-sub-cancel-left, e)
 
 -- the numbers of a file
 unfoldable pub numbersOf : List ℕ → Header
-numbersOf file = record { extent = H file; root = numberAt file 16; rootsize = numberAt file 24; metadata = M file }
+numbersOf file = record { extent = H file; root = fieldAt file 16; rootsize = fieldAt file 24; metadata = M file }
 
 -- refusal 7: another codec
 pub fields-codec : (file : List ℕ) → begins codecNone (drop 72 file) ≡ false → fieldsOf file ≡ refused 7 0
@@ -134,21 +134,21 @@ unfolding fieldsOf must _>>_
 fields-codec file other = rw other
 
 -- refusal 8: another total length
-pub fields-total : (file : List ℕ) → begins codecNone (drop 72 file) ≡ true → (numberAt file 32 ≡ length file → ⊥) → fieldsOf file ≡ refused 8 0
+pub fields-total : (file : List ℕ) → begins codecNone (drop 72 file) ≡ true → (fieldAt file 32 ≡ length file → ⊥) → fieldsOf file ≡ refused 8 0
 unfolding fieldsOf must _>>_
-fields-total file codec other = rw (codec, ne-eqb (numberAt file 32) (length file) other)
+fields-total file codec other = rw (codec, ne-eqb (fieldAt file 32) (length file) other)
 
 -- refusal 9: the metadata break their rule
-pub fields-metadata : (file : List ℕ) → begins codecNone (drop 72 file) ≡ true → numberAt file 32 ≡ length file
+pub fields-metadata : (file : List ℕ) → begins codecNone (drop 72 file) ≡ true → fieldAt file 32 ≡ length file
     → isMetadata (part file 96 (M file)) ≡ false → fieldsOf file ≡ refused 9 0
 unfolding fieldsOf must _>>_
-fields-metadata file codec total broken = rw (codec, eq-eqb (numberAt file 32) (length file) total, broken)
+fields-metadata file codec total broken = rw (codec, eq-eqb (fieldAt file 32) (length file) total, broken)
 
 -- otherwise the numbers
-pub fields-good : (file : List ℕ) → begins codecNone (drop 72 file) ≡ true → numberAt file 32 ≡ length file
+pub fields-good : (file : List ℕ) → begins codecNone (drop 72 file) ≡ true → fieldAt file 32 ≡ length file
     → isMetadata (part file 96 (M file)) ≡ true → fieldsOf file ≡ answer (numbersOf file)
 unfolding fieldsOf must _>>_ numbersOf
-fields-good file codec total kept = rw (codec, eq-eqb (numberAt file 32) (length file) total, kept)
+fields-good file codec total kept = rw (codec, eq-eqb (fieldAt file 32) (length file) total, kept)
 
 -- ---- refusals 1 to 6
 

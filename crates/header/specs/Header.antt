@@ -4,14 +4,14 @@ use mathlib.Core.Bool.{Bool, not, _&&_}
 use mathlib.Core.List.{List, [], _∷_}
 use lib.Dec.{leb, eqb}
 use lib.ListN.{length, drop, getD, replicate}
-use Rattle.byte_order.specs.Order.{begins}
-use Rattle.fixed_width.specs.FixedWidth.{littleEndian}
+use Rattle.byte_string.specs.Order.{begins}
+use Rattle.endian.specs.FixedWidth.{littleEndian}
 use Rattle.crc64.specs.Crc64.{crc64}
 use Rattle.outcome.specs.Outcome.{Outcome, answer, refused, _>>_, must}
-use Rattle.outcome.specs.Items.{part}
+use Rattle.part.specs.Part.{part}
 use Rattle.header.specs.declared.Header.{Header}
 use Rattle.header.specs.declared.HeaderOutcome.{HeaderOutcome}
-use Rattle.header.specs.declared.HeaderOutcome.the-variants.{Good, Bad}
+use Rattle.header.specs.declared.HeaderOutcome.the-variants.{Answer as Good, Refused as Bad}
 
 -- the magic of a finished file, and of an unfinished one
 unfoldable pub magic : List ℕ
@@ -25,8 +25,8 @@ unfoldable pub codecNone : List ℕ
 codecNone = 0x6e ∷ 0x6f ∷ 0x6e ∷ 0x65 ∷ replicate 12 0
 
 -- the header number of 8 bytes at a place
-unfoldable pub numberAt : List ℕ → ℕ → ℕ
-numberAt file at = littleEndian (part file at 8)
+unfoldable pub fieldAt : List ℕ → ℕ → ℕ
+fieldAt file at = littleEndian (part file at 8)
 
 -- the metadata rule: at least two bytes, the first `{`, the last `}`
 unfoldable pub isMetadata : List ℕ → Bool
@@ -34,17 +34,17 @@ isMetadata m = leb 2 (length m) && (eqb (getD m 0 0) 0x7b && eqb (getD m (length
 
 -- H, the length of the header data, and M, the length of the metadata
 unfoldable pub H : List ℕ → ℕ
-H file = numberAt file 8
+H file = fieldAt file 8
 
 unfoldable pub M : List ℕ → ℕ
-M file = numberAt file 88
+M file = fieldAt file 88
 
 -- the header data and their CRC lie within the file
 unfoldable pub holdsHeader : List ℕ → Bool
 holdsHeader file = leb 16 (length file) && leb (24 + H file) (length file)
 
 unfoldable pub headerCrcRight : List ℕ → Bool
-headerCrcRight file = eqb (numberAt file (16 + H file)) (crc64 (part file 16 (H file)))
+headerCrcRight file = eqb (fieldAt file (16 + H file)) (crc64 (part file 16 (H file)))
 
 -- the header data hold every field and the metadata
 unfoldable pub holdsMetadata : List ℕ → Bool
@@ -54,9 +54,9 @@ holdsMetadata file = leb 80 (H file) && leb (M file) (H file - 80)
 unfoldable pub fieldsOf : List ℕ → Outcome Header
 fieldsOf file = do
   must (begins codecNone (drop 72 file)) 7 0
-  must (eqb (numberAt file 32) (length file)) 8 0
+  must (eqb (fieldAt file 32) (length file)) 8 0
   must (isMetadata (part file 96 (M file))) 9 0
-  answer (record { extent = H file; root = numberAt file 16; rootsize = numberAt file 24; metadata = M file })
+  answer (record { extent = H file; root = fieldAt file 16; rootsize = fieldAt file 24; metadata = M file })
 
 -- the header, or the first of the refusals 1 to 9
 unfoldable pub headerOf : List ℕ → Outcome Header
@@ -74,6 +74,6 @@ unfoldable pub blocksFrom : Header → ℕ
 blocksFrom h = 24 + h .extent
 
 -- what an answer of `Header::read` says
-unfoldable pub meaning : HeaderOutcome → Outcome Header
-meaning (Good h) = answer h
-meaning (Bad number) = refused number 0
+unfoldable pub headerSaid : HeaderOutcome → Outcome Header
+headerSaid (Good h) = answer h
+headerSaid (Bad number) = refused number 0

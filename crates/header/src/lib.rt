@@ -16,9 +16,9 @@ pub struct Header {
 }
 
 pub enum HeaderOutcome {
-    Good(Header),
+    Answer(Header),
     // The number of a refusal; its place is 0.
-    Bad(u64),
+    Refused(u64),
 }
 
 impl Header {
@@ -49,25 +49,25 @@ impl Header {
 
     // The header of a file, or the first of the refusals 1 to 9.
     pub fn read(file: &[u8]) -> HeaderOutcome
-        ensures { λ r. ⌜ header.meaning r ≡ header.headerOf (now (file .entry)) ⌝ }
+        ensures { λ r. ⌜ header.headerSaid r ≡ header.headerOf (now (file .entry)) ⌝ }
     {
         if Header::MAX_FILE < file.len() {
-            return HeaderOutcome::Bad(1);
+            return HeaderOutcome::Refused(1);
         }
-        if byte_order::begins_with(b"\xabZStoBe\x01", file) {
-            return HeaderOutcome::Bad(2);
+        if byte_string::begins_with(b"\xabZStoBe\x01", file) {
+            return HeaderOutcome::Refused(2);
         }
-        if !byte_order::begins_with(b"\xabZSfiLe\x01", file) {
-            return HeaderOutcome::Bad(3);
+        if !byte_string::begins_with(b"\xabZSfiLe\x01", file) {
+            return HeaderOutcome::Refused(3);
         }
         if !holds_header(file) {
-            return HeaderOutcome::Bad(4);
+            return HeaderOutcome::Refused(4);
         }
         if !crc_right(file) {
-            return HeaderOutcome::Bad(5);
+            return HeaderOutcome::Refused(5);
         }
         if !holds_metadata(file) {
-            return HeaderOutcome::Bad(6);
+            return HeaderOutcome::Refused(6);
         }
         fields(file)
     }
@@ -80,7 +80,7 @@ fn holds_header(file: &[u8]) -> bool
     if file.len() < Header::AROUND {
         return false;
     }
-    fixed_width::le64_at(file, Header::EXTENT_AT) <= (file.len() - Header::AROUND) as u64
+    endian::le64_at(file, Header::EXTENT_AT) <= (file.len() - Header::AROUND) as u64
 }
 
 // Whether the CRC behind the header data is theirs.
@@ -88,19 +88,19 @@ fn crc_right(file: &[u8]) -> bool
     requires { ⌜ header.holdsHeader (now file) ≡ true ⌝ }
     ensures { λ r. ⌜ r ≡ header.headerCrcRight (now (file .entry)) ⌝ }
 {
-    let end = Header::DATA_AT + fixed_width::le64_at(file, Header::EXTENT_AT) as usize;
-    fixed_width::le64_at(file, end) == crc64::checksum(&file[Header::DATA_AT..end])
+    let end = Header::DATA_AT + endian::le64_at(file, Header::EXTENT_AT) as usize;
+    endian::le64_at(file, end) == crc64::checksum(&file[Header::DATA_AT..end])
 }
 
 // Whether the header data hold every field and the metadata.
 fn holds_metadata(file: &[u8]) -> bool
     ensures { λ r. ⌜ r ≡ header.holdsMetadata (now (file .entry)) ⌝ }
 {
-    let extent = fixed_width::le64_at(file, Header::EXTENT_AT);
+    let extent = endian::le64_at(file, Header::EXTENT_AT);
     if extent < Header::LEAST_EXTENT {
         return false;
     }
-    fixed_width::le64_at(file, Header::METADATA_LENGTH_AT) <= extent - Header::LEAST_EXTENT
+    endian::le64_at(file, Header::METADATA_LENGTH_AT) <= extent - Header::LEAST_EXTENT
 }
 
 // The metadata rule: at least two bytes, the first `{`, the last `}`.
@@ -119,23 +119,23 @@ pub fn is_metadata(bytes: &[u8]) -> bool
 // The header, or the first of the refusals 7 to 9.
 fn fields(file: &[u8]) -> HeaderOutcome
     requires { ⌜ (header.holdsHeader (now file) ≡ true) × (header.holdsMetadata (now file) ≡ true) ⌝ }
-    ensures { λ r. ⌜ header.meaning r ≡ header.fieldsOf (now (file .entry)) ⌝ }
+    ensures { λ r. ⌜ header.headerSaid r ≡ header.fieldsOf (now (file .entry)) ⌝ }
 {
-    if !byte_order::begins_with(b"none\0\0\0\0\0\0\0\0\0\0\0\0", &file[Header::CODEC_AT..]) {
-        return HeaderOutcome::Bad(7);
+    if !byte_string::begins_with(b"none\0\0\0\0\0\0\0\0\0\0\0\0", &file[Header::CODEC_AT..]) {
+        return HeaderOutcome::Refused(7);
     }
-    if fixed_width::le64_at(file, Header::TOTAL_AT) != file.len() as u64 {
-        return HeaderOutcome::Bad(8);
+    if endian::le64_at(file, Header::TOTAL_AT) != file.len() as u64 {
+        return HeaderOutcome::Refused(8);
     }
-    let metadata = fixed_width::le64_at(file, Header::METADATA_LENGTH_AT);
+    let metadata = endian::le64_at(file, Header::METADATA_LENGTH_AT);
     let end = Header::METADATA_AT + metadata as usize;
     if !is_metadata(&file[Header::METADATA_AT..end]) {
-        return HeaderOutcome::Bad(9);
+        return HeaderOutcome::Refused(9);
     }
-    HeaderOutcome::Good(Header {
-        extent: fixed_width::le64_at(file, Header::EXTENT_AT),
-        root: fixed_width::le64_at(file, Header::ROOT_AT),
-        rootsize: fixed_width::le64_at(file, Header::ROOT_SIZE_AT),
+    HeaderOutcome::Answer(Header {
+        extent: endian::le64_at(file, Header::EXTENT_AT),
+        root: endian::le64_at(file, Header::ROOT_AT),
+        rootsize: endian::le64_at(file, Header::ROOT_SIZE_AT),
         metadata,
     })
 }

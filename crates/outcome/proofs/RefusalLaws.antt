@@ -1,15 +1,10 @@
 -- Which numbers an outcome is refused with.
 -- Assumes nothing.
-use mathlib.Core.Path.{_≡_, refl, sym, subst}
+use mathlib.Core.Path.{_≡_, refl, subst}
 use mathlib.Core.Bool.{Bool, true, false}
-use mathlib.Core.List.{[], _∷_}
-use Prim.Native.Nat.{ℕ, zero, suc}
-use lib.Dec.{leb}
-use borrow.Author.Tests.{leb-true}
+use Prim.Native.Nat.{ℕ}
 use Rattle.outcome.specs.Outcome.{Outcome, answer, refused, _>>=_, _>>_, must}
-use Rattle.outcome.specs.Items.{Step, itemsFrom}
 use Rattle.outcome.proofs.OutcomeLaws.{answer-not-refused}
-use Rattle.outcome.proofs.ItemsLaws.{items-end}
 
 -- every refusal has a number of this kind
 pub record Refuses {A : Type 0} (Kind : ℕ → Type 0) (o : Outcome A) : Type 0 where
@@ -48,16 +43,3 @@ module _ (Kind : ℕ → Type 0) where
 
   pub refuses-rule : {A : Type 0} (b : Bool) (number place : ℕ) (next : Outcome A) → Kind number → Refuses Kind next → Refuses Kind (must b number place >> next)
   refuses-rule b number place next k r = refuses-stage (must b number place) next (refuses-must b number place k) r
-
-  -- items
-  pub refuses-items : {A : Type 0} (step : ℕ → Outcome (Step A)) (end : ℕ) → ((at : ℕ) → Refuses Kind (step at)) → (fuel at : ℕ) → Refuses Kind (itemsFrom step end fuel at)
-  unfolding itemsFrom
-  refuses-items step end h zero at = refuses-answer []
-  refuses-items {A} step end h (suc fuel) at = go (leb end at) refl (λ (a : ℕ). refuses-items step end h fuel a)
-    where
-      go : (b : Bool) → leb end at ≡ b → ((a : ℕ) → Refuses Kind (itemsFrom step end fuel a)) → Refuses Kind (itemsFrom step end (suc fuel) at)
-      go true e rest = subst (Refuses Kind) (sym (items-end step end (suc fuel) at (leb-true end at e))) (refuses-answer [])
-      go false e rest = subst (Refuses Kind) (sym same) (refuses-bind (step at) _ (h at) (λ s. refuses-bind (itemsFrom step end fuel (s .next)) _ (rest (s .next)) (λ more. refuses-answer (s .item ∷ more))))
-        where
-          same : itemsFrom step end (suc fuel) at ≡ (step at >>= λ s. itemsFrom step end fuel (s .next) >>= λ more. answer (s .item ∷ more))
-          same = rw e

@@ -1,4 +1,3 @@
--- Notions that every layer shares.
+-- An answer or a refusal.
 pub mod Outcome
-pub mod Items
-pub mod Lists
+pub mod Refusal

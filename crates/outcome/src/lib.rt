@@ -1,2 +1,7 @@
-// The notions that every layer shares: an answer or a refusal, a part of a byte string, the items that follow one another.
-// There is no code here; the definitions are in specs/, their laws in proofs/.
+// An answer or a refusal. The definitions are in specs/, their laws in proofs/.
+
+// A refusal's number and place; without one both are 0.
+pub struct Refusal {
+    pub number: u64,
+    pub place: u64,
+}

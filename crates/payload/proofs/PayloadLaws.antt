@@ -8,13 +8,13 @@ use lib.Dec.{leb}
 use lib.ListN.{length}
 use borrow.Author.Tests.{le-leb, lt-leb, leb-true}
 use Rattle.outcome.specs.Outcome.{answer, refused}
-use Rattle.outcome.specs.Items.{Step}
+use Rattle.items.specs.Items.{Step}
 use Rattle.outcome.proofs.OutcomeLaws.{answer-injective, kept, broken, kept⁻¹, bind-answer, bind-refused, bind⁻¹}
-use Rattle.outcome.proofs.PartLaws.{length-part}
+use Rattle.part.proofs.PartLaws.{length-part}
 use Rattle.framing.specs.Frame.{numberAt}
 use Rattle.payload.specs.Payload.{Text, Entry, textAt, entryAt, entrySized}
-use Rattle.payload.specs.declared.EntryStep.{EntryStep}
-use Rattle.payload.specs.declared.EntryStep.the-variants.{Entry as AnEntry}
+use Rattle.payload.specs.declared.EntryOutcome.{EntryOutcome}
+use Rattle.payload.specs.declared.EntryOutcome.the-variants.{Answer as AnEntry}
 use Rattle.payload.specs.Answers.{textIn, KeyWithin}
 use Rattle.framing.proofs.FrameLaws.{Numbered, numbered}
 
@@ -102,6 +102,6 @@ module _ (place : ℕ) (s : List ℕ) (at : ℕ) where
           })
 
 -- the key of an entry that an answer names
-pub within-told : (s : List ℕ) (r : EntryStep) (key n offset size next : ℕ) → r ≡ AnEntry key n offset size next → KeyWithin s r → key + n ≤ length s
+pub within-told : (s : List ℕ) (r : EntryOutcome) (key n offset size next : ℕ) → r ≡ AnEntry key n offset size next → KeyWithin s r → key + n ≤ length s
 unfolding KeyWithin
 within-told s r key n offset size next told h = subst (KeyWithin s) told h

@@ -9,11 +9,12 @@ use lib.Dec.{leb, ltb}
 use lib.ListN.{length, take}
 use borrow.Author.Tests.{ltb-true}
 use Rattle.outcome.specs.Outcome.{Outcome, answer}
-use Rattle.outcome.specs.Items.{Step, part, itemsFrom}
+use Rattle.items.specs.Items.{Step, itemsFrom}
+use Rattle.part.specs.Part.{part}
 use Rattle.outcome.proofs.OutcomeLaws.{answer-injective, kept, kept⁻¹, bind-answer, bind⁻¹}
-use Rattle.outcome.proofs.PartLaws.{part-take}
-use Rattle.outcome.proofs.ItemsLaws.{Row, row-end, row-more, ReadFrom, row-member}
-use Rattle.outcome.proofs.ListsLaws.{AscendingIn, ascending-wider}
+use Rattle.part.proofs.PartLaws.{part-take}
+use Rattle.items.proofs.ItemsLaws.{Row, row-end, row-more, ReadFrom, row-member}
+use Rattle.lists.proofs.ListsLaws.{AscendingIn, ascending-wider}
 use Rattle.framing.specs.Frame.{readAs, numberAt}
 use Rattle.payload.specs.Payload.{Text, Entry, textAt, entryAt, entrySized, payloadAt, rising}
 use Rattle.payload.specs.Answers.{textIn}

@@ -9,13 +9,14 @@ use native.Mathlib.Omega.{arith}
 use lib.Dec.{ltb}
 use lib.ListN.{length, take, drop, length-append}
 use borrow.Author.Tests.{lt-ltb, le-ltb}
-use Rattle.byte_order.specs.Order.{atMost}
-use Rattle.byte_order.proofs.OrderLaws.{nil-atMost}
+use Rattle.byte_string.specs.Order.{atMost}
+use Rattle.byte_string.proofs.OrderLaws.{nil-atMost}
 use Rattle.outcome.specs.Outcome.{Outcome, answer, refused}
-use Rattle.outcome.specs.Items.{Step, part}
+use Rattle.items.specs.Items.{Step}
+use Rattle.part.specs.Part.{part}
 use Rattle.outcome.proofs.OutcomeLaws.{kept, broken, bind-answer, bind-refused}
-use Rattle.outcome.proofs.ItemsLaws.{Progress, progress-start, progress-more, progress-end, progress-refused}
-use Rattle.outcome.proofs.PartLaws.{part-empty}
+use Rattle.items.proofs.ItemsLaws.{Progress, progress-start, progress-more, progress-end, progress-refused}
+use Rattle.part.proofs.PartLaws.{part-empty}
 use Rattle.payload.specs.Payload.{Text, rising, risingFrom, payloadAt}
 use Rattle.payload.specs.Answers.{textIn, counted}
 

@@ -5,9 +5,10 @@ use mathlib.Core.Bool.{Bool, true, _&&_}
 use mathlib.Core.List.{List, [], _∷_, map}
 use lib.Dec.{leb, ltb}
 use lib.ListN.{length}
-use Rattle.byte_order.specs.Order.{atMost}
+use Rattle.byte_string.specs.Order.{atMost}
 use Rattle.outcome.specs.Outcome.{Outcome, answer, _>>=_, _>>_, must}
-use Rattle.outcome.specs.Items.{Step, part, itemsFrom}
+use Rattle.items.specs.Items.{Step, itemsFrom}
+use Rattle.part.specs.Part.{part}
 use Rattle.framing.specs.Frame.{numberAt}
 
 -- a byte string that stands in the file: the offset of its first byte, and its bytes

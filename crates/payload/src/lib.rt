@@ -4,42 +4,42 @@ ghost use Prim.Native.Nat.{ℕ, _+_, _≤_};
 ghost use mathlib.Core.Path.{_≡_};
 ghost use mathlib.Core.Bool.{_&&_};
 ghost use lib.ListN.{length};
-ghost use Rattle.byte_order.specs.Order.{atMost};
-ghost use Rattle.outcome.specs.Items.{part};
+ghost use Rattle.byte_string.specs.Order.{atMost};
+ghost use Rattle.part.specs.Part.{part};
 ghost use Rattle.payload.specs.Payload as payloads;
 ghost use Rattle.payload.specs.Answers as answers;
-use framing::NumberStep;
+use framing::NumberOutcome;
 use framing::number_at;
 
-pub enum TextStep {
+pub enum TextOutcome {
     // A byte string: the offset of its first byte, and its length. The next item follows it.
-    Text { at: usize, length: usize },
+    Answer { at: usize, length: usize },
     Refused(u64),
 }
 
 // The record, or the key of an entry, at an offset: a number and that many bytes.
-pub fn text_at(s: &[u8], at: usize) -> TextStep
-    ensures { λ r. ⌜ ((place : ℕ) → answers.text place (now (s .entry)) r ≡ payloads.textAt place (now (s .entry)) at) ⌝ }
+pub fn text_at(s: &[u8], at: usize) -> TextOutcome
+    ensures { λ r. ⌜ ((place : ℕ) → answers.textSaid place (now (s .entry)) r ≡ payloads.textAt place (now (s .entry)) at) ⌝ }
 {
     let number = number_at(s, at, 15);
     match number {
-        NumberStep::Refused(n) => TextStep::Refused(n),
-        NumberStep::Value { value, next } => {
+        NumberOutcome::Refused(n) => TextOutcome::Refused(n),
+        NumberOutcome::Answer { value, next } => {
             if (s.len() - next) as u64 >= value {
-                TextStep::Text {
+                TextOutcome::Answer {
                     at: next,
                     length: value as usize,
                 }
             } else {
-                TextStep::Refused(15)
+                TextOutcome::Refused(15)
             }
         },
     }
 }
 
-pub enum EntryStep {
+pub enum EntryOutcome {
     // An entry: where its key stands and how long it is, the offset and full size of the block it names, where the next entry begins.
-    Entry {
+    Answer {
         key: usize,
         length: usize,
         offset: u64,
@@ -50,33 +50,33 @@ pub enum EntryStep {
 }
 
 // The entry at an offset: a key and two numbers.
-pub fn entry_at(s: &[u8], at: usize) -> EntryStep
-    ensures { λ r. ⌜ ((place : ℕ) → answers.entry place (now (s .entry)) r ≡ payloads.entryAt place (now (s .entry)) at) ⌝ }
+pub fn entry_at(s: &[u8], at: usize) -> EntryOutcome
+    ensures { λ r. ⌜ ((place : ℕ) → answers.entrySaid place (now (s .entry)) r ≡ payloads.entryAt place (now (s .entry)) at) ⌝ }
     ensures { λ r. ⌜ answers.KeyWithin (now (s .entry)) r ⌝ }
 {
     let text = text_at(s, at);
     match text {
-        TextStep::Refused(n) => EntryStep::Refused(n),
-        TextStep::Text { at, length } => {
+        TextOutcome::Refused(n) => EntryOutcome::Refused(n),
+        TextOutcome::Answer { at, length } => {
             let first = number_at(s, at + length, 15);
             match first {
-                NumberStep::Refused(n) => EntryStep::Refused(n),
-                NumberStep::Value { value, next } => sized(s, at, length, value, next),
+                NumberOutcome::Refused(n) => EntryOutcome::Refused(n),
+                NumberOutcome::Answer { value, next } => sized(s, at, length, value, next),
             }
         },
     }
 }
 
 // The entry whose key and offset have been read.
-fn sized(s: &[u8], key: usize, length: usize, offset: u64, at: usize) -> EntryStep
+fn sized(s: &[u8], key: usize, length: usize, offset: u64, at: usize) -> EntryOutcome
     requires { ⌜ key + length ≤ lib.ListN.length (now s) ⌝ }
-    ensures { λ r. ⌜ ((place : ℕ) → answers.entry place (now (s .entry)) r ≡ payloads.entrySized place (now (s .entry)) (answers.textIn (now (s .entry)) key length) offset at) ⌝ }
+    ensures { λ r. ⌜ ((place : ℕ) → answers.entrySaid place (now (s .entry)) r ≡ payloads.entrySized place (now (s .entry)) (answers.textIn (now (s .entry)) key length) offset at) ⌝ }
     ensures { λ r. ⌜ answers.KeyWithin (now (s .entry)) r ⌝ }
 {
     let number = number_at(s, at, 15);
     match number {
-        NumberStep::Refused(n) => EntryStep::Refused(n),
-        NumberStep::Value { value, next } => EntryStep::Entry {
+        NumberOutcome::Refused(n) => EntryOutcome::Refused(n),
+        NumberOutcome::Answer { value, next } => EntryOutcome::Answer {
             key,
             length,
             offset,
@@ -88,7 +88,7 @@ fn sized(s: &[u8], key: usize, length: usize, offset: u64, at: usize) -> EntrySt
 
 pub enum PayloadOutcome {
     // How many items there are.
-    Sound(usize),
+    Answer(usize),
     Refused(u64),
 }
 
@@ -98,14 +98,14 @@ fn still_rising(s: &[u8], rising: bool, last: usize, size: usize, next: usize, n
     ensures { λ r. ⌜ r ≡ (rising && atMost (part (now (s .entry)) last size) (part (now (s .entry)) next n)) ⌝ }
 {
     if rising {
-        return byte_order::at_most(&s[last..last + size], &s[next..next + n]);
+        return byte_string::at_most(&s[last..last + size], &s[next..next + n]);
     }
     false
 }
 
 // The records of a data block from an offset to the end of `s`: one or more (15), which fill it (11, 12, 15) and rise (16).
 pub fn records_at(s: &[u8], from: usize) -> PayloadOutcome
-    ensures { λ r. ⌜ ((place : ℕ) → answers.payload place r ≡ answers.counted (payloads.recordsAt place (now (s .entry)) from)) ⌝ }
+    ensures { λ r. ⌜ ((place : ℕ) → answers.payloadSaid place r ≡ answers.counted (payloads.recordsAt place (now (s .entry)) from)) ⌝ }
 {
     if s.len() <= from {
         return PayloadOutcome::Refused(15);
@@ -118,8 +118,8 @@ pub fn records_at(s: &[u8], from: usize) -> PayloadOutcome
     while at < s.len() {
         let step = text_at(s, at);
         match step {
-            TextStep::Refused(n) => return PayloadOutcome::Refused(n),
-            TextStep::Text {
+            TextOutcome::Refused(n) => return PayloadOutcome::Refused(n),
+            TextOutcome::Answer {
                 at: next,
                 length: n,
             } => {
@@ -132,7 +132,7 @@ pub fn records_at(s: &[u8], from: usize) -> PayloadOutcome
         }
     }
     if rising {
-        PayloadOutcome::Sound(count)
+        PayloadOutcome::Answer(count)
     } else {
         PayloadOutcome::Refused(16)
     }
@@ -140,7 +140,7 @@ pub fn records_at(s: &[u8], from: usize) -> PayloadOutcome
 
 // The entries of an index block from an offset to the end of `s`: one or more (15), which fill it (11, 12, 15) and whose keys rise (21).
 pub fn entries_at(s: &[u8], from: usize) -> PayloadOutcome
-    ensures { λ r. ⌜ ((place : ℕ) → answers.payload place r ≡ answers.counted (payloads.entriesAt place (now (s .entry)) from)) ⌝ }
+    ensures { λ r. ⌜ ((place : ℕ) → answers.payloadSaid place r ≡ answers.counted (payloads.entriesAt place (now (s .entry)) from)) ⌝ }
 {
     if s.len() <= from {
         return PayloadOutcome::Refused(15);
@@ -153,8 +153,8 @@ pub fn entries_at(s: &[u8], from: usize) -> PayloadOutcome
     while at < s.len() {
         let step = entry_at(s, at);
         match step {
-            EntryStep::Refused(n) => return PayloadOutcome::Refused(n),
-            EntryStep::Entry {
+            EntryOutcome::Refused(n) => return PayloadOutcome::Refused(n),
+            EntryOutcome::Answer {
                 key,
                 length: n,
                 offset: _,
@@ -170,7 +170,7 @@ pub fn entries_at(s: &[u8], from: usize) -> PayloadOutcome
         }
     }
     if rising {
-        PayloadOutcome::Sound(count)
+        PayloadOutcome::Answer(count)
     } else {
         PayloadOutcome::Refused(21)
     }

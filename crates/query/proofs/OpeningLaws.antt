@@ -6,9 +6,9 @@ use mathlib.Core.Logic.{_⊎_, inl, inr}
 use mathlib.Core.Bool.{Bool, true, false, and-false, or-true, and-eq-true-iff}
 use mathlib.Core.List.{List, []}
 use mathlib.Core.Option.{Option, none, some}
-use Rattle.byte_order.specs.Order.{AreBytes, atMost, begins}
-use Rattle.byte_order.proofs.OrderLaws.{atMost-refl, atMost-total, atMost-trans, atMost-antisym}
-use Rattle.byte_order.proofs.PrefixLaws.{begins-refl, begins-atMost, begins-between}
+use Rattle.byte_string.specs.Order.{AreBytes, atMost, begins}
+use Rattle.byte_string.proofs.OrderLaws.{atMost-refl, atMost-total, atMost-trans, atMost-antisym}
+use Rattle.byte_string.proofs.PrefixLaws.{begins-refl, begins-atMost, begins-between}
 use Rattle.query.specs.Query.{Query, given, queryOf, before, matches}
 use Rattle.query.specs.Opening.{upTo, CanMatch, reaches, admitsPrefix, mayMatch}
 use Rattle.query.proofs.QueryLaws.{before-empty, before-down, matches-parts, matches-of-parts}

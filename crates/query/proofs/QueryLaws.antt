@@ -5,9 +5,9 @@ use mathlib.Core.Path.{_≡_, refl, _∙_}
 use mathlib.Core.Bool.{Bool, true, false, and-false, and-eq-true-iff}
 use mathlib.Core.List.{List, []}
 use mathlib.Core.Option.{Option, none, some}
-use Rattle.byte_order.specs.Order.{atMost, less, begins}
-use Rattle.byte_order.proofs.OrderLaws.{not-less-of-atMost, nil-atMost, atMost-less-trans, atMost-trans}
-use Rattle.byte_order.proofs.PrefixLaws.{begins-nil, begins-atMost, begins-between}
+use Rattle.byte_string.specs.Order.{atMost, less, begins}
+use Rattle.byte_string.proofs.OrderLaws.{not-less-of-atMost, nil-atMost, atMost-less-trans, atMost-trans}
+use Rattle.byte_string.proofs.PrefixLaws.{begins-nil, begins-atMost, begins-between}
 use Rattle.query.specs.Query.{Query, given, queryOf, before, matches}
 
 -- The stop.

@@ -4,7 +4,7 @@ use mathlib.Core.Bool.{Bool, true, _&&_, _||_}
 use mathlib.Core.List.{List}
 use mathlib.Core.Option.{Option, none, some}
 use mathlib.Core.Path.{_≡_}
-use Rattle.byte_order.specs.Order.{AreBytes, atMost, begins}
+use Rattle.byte_string.specs.Order.{AreBytes, atMost, begins}
 use Rattle.query.specs.Query.{Query, before, matches}
 
 -- x is at most the upper bound, where there is one

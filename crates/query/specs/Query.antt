@@ -3,7 +3,7 @@ use Prim.Native.Nat.{ℕ}
 use mathlib.Core.Bool.{Bool, true, false, _&&_}
 use mathlib.Core.List.{List}
 use mathlib.Core.Option.{Option, none, some}
-use Rattle.byte_order.specs.Order.{atMost, less, begins}
+use Rattle.byte_string.specs.Order.{atMost, less, begins}
 
 -- a start, a stop that is given or not, and a prefix; start and prefix may be empty
 pub record Query : Type 0 where

@@ -8,7 +8,7 @@ use native.Mathlib.Omega.{arith}
 use lib.Dec.{leb}
 use lib.ListN.{length, take, length-take}
 use Rattle.outcome.specs.Outcome.{Outcome, answer, refused}
-use Rattle.outcome.specs.Items.{Step, soundFrom, whereAnswered}
+use Rattle.items.specs.Items.{Step, soundFrom, whereAnswered}
 use Rattle.outcome.proofs.OutcomeLaws.{bind-answer, bind-refused}
 use Rattle.framing.specs.declared.Frame.{Frame}
 use Rattle.framing.specs.Frame.{frameAt}
@@ -16,45 +16,18 @@ use Rattle.payload.specs.Payload.{textAt}
 use Rattle.framing.proofs.FrameLaws.{frame⇒Framed}
 use Rattle.block.proofs.BlockLaws.{data-level, not-data-level}
 use Rattle.query.specs.Query.{Query}
-use Rattle.reader.specs.Read.{matching}
-use Rattle.reader.specs.Collect.{Stored, putAll, recordsFrom, recordsIn, laidAt, laidFrom}
-use Rattle.reader.proofs.MatchLaws.{matching-nil, matching-few}
-use Rattle.reader.proofs.StoreLaws.{count-putAll, length-putAll}
-use Rattle.reader.proofs.CollectLaws.{Collected, collected-more, collected-end, collected-refused}
-
--- ---- the records of a frame
-
--- there are at most as many items as the fuel
-pub sound-few : {A : Type 0} (step : ℕ → Outcome (Step A)) (end fuel at : ℕ) → length (soundFrom step end fuel at) ≤ fuel
-unfolding soundFrom whereAnswered
-sound-few step end zero at = omega arith
-sound-few step end (suc fuel) at = by-end (leb end at) (by-step (step at) (λ next. sound-few step end fuel next))
-  where
-    by-step : (o : Outcome (Step _)) → ((next : ℕ) → length (soundFrom step end fuel next) ≤ fuel) → length (whereAnswered o (λ s. s .item ∷ soundFrom step end fuel (s .next))) ≤ suc fuel
-    by-step (answer s) rest = let few = rest (s .next) in omega arith
-    by-step (refused number place) rest = omega arith
-
-    by-end : (b : Bool) → length (whereAnswered (step at) (λ s. s .item ∷ soundFrom step end fuel (s .next))) ≤ suc fuel → length (cond b [] (whereAnswered (step at) (λ s. s .item ∷ soundFrom step end fuel (s .next)))) ≤ suc fuel
-    by-end true few = omega arith
-    by-end false few = few
-
--- at most one record for each byte
-pub records-few : (place : ℕ) (s : List ℕ) (from : ℕ) → length (recordsFrom place s from) ≤ length s - from
-unfolding recordsFrom
-records-few place s from = sound-few (textAt place s) (length s) (length s - from) from
-
-pub in-data : (file : List ℕ) (f : Frame) → f .level ≡ 0 → recordsIn file f ≡ recordsFrom (f .start) (take (f .end) file) (f .body + 1)
-unfolding recordsIn
-in-data file f h = rw (data-level (f .level) h)
-
-pub in-other : (file : List ℕ) (f : Frame) → (f .level ≡ 0 → ⊥) → recordsIn file f ≡ []
-unfolding recordsIn
-in-other file f h = rw (not-data-level (f .level) h)
+use Rattle.matching.specs.Matching.{matching}
+use Rattle.matching.specs.Collect.{Stored, putAll, recordsFrom, recordsInFrame}
+use Rattle.reader.specs.Laid.{laidAt, laidFrom}
+use Rattle.matching.proofs.FrameRecordsLaws.{records-few, in-data, in-other}
+use Rattle.matching.proofs.MatchLaws.{matching-nil, matching-few}
+use Rattle.matching.proofs.StoreLaws.{count-putAll, length-putAll}
+use Rattle.matching.proofs.CollectLaws.{Collected, collected-more, collected-end, collected-refused}
 
 -- ---- the frame at an offset
 
 module _ (file : List ℕ) (at : ℕ) where
-  pub laid-found : (f : Frame) → frameAt file at ≡ answer f → laidAt file at ≡ answer (record { item = recordsIn file f; next = at + f .size })
+  pub laid-found : (f : Frame) → frameAt file at ≡ answer f → laidAt file at ≡ answer (record { item = recordsInFrame file f; next = at + f .size })
   unfolding laidAt
   laid-found f e = bind-answer (frameAt file at) _ f e
 
@@ -98,7 +71,7 @@ module _ (file : List ℕ) (from : ℕ) (q : Query) (first : Stored) where
         let bytes : length rs ≤ length (take (f .end) file) - (f .body + 1) = records-few (f .start) (take (f .end) file) (f .body + 1) in
         let cut = length-take (f .end) file in
         let so-far = p .few in
-        collected-more (λ place. laidAt file) (λ rs. rs) q (length file) from first at stored p h (record { item = recordsIn file f; next = at + f .size })
+        collected-more (λ place. laidAt file) (λ rs. rs) q (length file) from first at stored p h (record { item = recordsInFrame file f; next = at + f .size })
         (λ place. laid-found file at f e) (omega arith) later
         (is ∙ ap (λ rs. putAll stored (matching q rs)) (sym (in-data file f level)))
         (omega arith)
@@ -113,7 +86,7 @@ module _ (file : List ℕ) (from : ℕ) (q : Query) (first : Stored) where
         let some = l .some in
         let sized = l .sized in
         let so-far = p .few in
-        collected-more (λ place. laidAt file) (λ rs. rs) q (length file) from first at stored p h (record { item = recordsIn file f; next = at + f .size })
+        collected-more (λ place. laidAt file) (λ rs. rs) q (length file) from first at stored p h (record { item = recordsInFrame file f; next = at + f .size })
         (λ place. laid-found file at f e) (omega arith) stored
         (sym (ap (λ rs. putAll stored (matching q rs)) (in-other file f level) ∙ ap (putAll stored) (matching-nil q)))
         (omega arith)

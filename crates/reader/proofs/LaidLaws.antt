@@ -6,16 +6,18 @@ use mathlib.Core.List.{List, [], _∷_, _++_, map, flatMap}
 use Prim.Native.Nat.{ℕ, zero, suc, _+_, _-_}
 use lib.ListN.{length, take}
 use Rattle.outcome.specs.Outcome.{Outcome, answer}
-use Rattle.outcome.specs.Items.{Step, itemsFrom, soundFrom}
+use Rattle.items.specs.Items.{Step, itemsFrom, soundFrom}
 use Rattle.outcome.proofs.OutcomeLaws.{answer-injective, kept⁻¹, bind⁻¹}
-use Rattle.outcome.proofs.ItemsLaws.{Read, at-end, one-more, items⁻¹, items⇒sound, sound-end, sound-step}
+use Rattle.items.proofs.ItemsLaws.{Read, at-end, one-more, items⁻¹, items⇒sound, sound-end, sound-step}
 use Rattle.framing.specs.declared.Frame.{Frame}
 use Rattle.payload.specs.Payload.{Text, textAt, payloadAt, recordsAt, entriesAt}
 use Rattle.block.specs.Block.{Block, isData, isOrdinary, blockIn, blockAt, blockStep, blocksAt}
 use Rattle.block.specs.Survey.{recordsOf}
 use Rattle.framing.proofs.FrameLaws.{soundFrame⁻¹}
 use Rattle.block.proofs.BlockLaws.{block-data, block-index, block-reserved, block⇒BlockRead}
-use Rattle.reader.specs.Collect.{recordsFrom, recordsIn, laidAt, laidFrom}
+use Rattle.matching.specs.Collect.{recordsFrom, recordsInFrame}
+use Rattle.reader.specs.Laid.{laidAt, laidFrom}
+use Rattle.matching.proofs.FrameRecordsLaws.{inside⇒records}
 use Rattle.reader.proofs.FramesLaws.{laid-found}
 
 -- ---- items
@@ -37,41 +39,7 @@ items⇒sound-map {A} step other g end same (suc fuel) at xs e =
     go ys (one-more s more h p r) rest =
         sound-step other end fuel at (record { item = g (s .item); next = s .next }) h (same at s p) ∙ ap (λ l. g (s .item) ∷ l) (rest s more r)
 
--- ---- the records of a payload that was accepted
-
-pub payload⇒items : {A : Type 0} (step : ℕ → Outcome (Step A)) (textOf : A → Text) (unsorted place end at : ℕ) (xs : List A)
-    → payloadAt step textOf unsorted place end at ≡ answer xs → itemsFrom step end (end - at) at ≡ answer xs
-unfolding payloadAt
-payload⇒items step textOf unsorted place end at xs e =
-    let some = kept⁻¹ _ 15 place _ xs e in
-    let items = bind⁻¹ (itemsFrom step end (end - at) at) _ xs (some .1) in
-    let sorted = kept⁻¹ _ unsorted place _ xs (items .2) in
-    items .1 ∙ ap answer (answer-injective (items .0) xs (sorted .1))
-
-pub records⇒from : (place : ℕ) (s : List ℕ) (at : ℕ) (rs : List Text) → recordsAt place s at ≡ answer rs → recordsFrom place s at ≡ rs
-unfolding recordsAt recordsFrom
-records⇒from place s at rs e = items⇒sound (textAt place s) (length s) (length s - at) at rs (payload⇒items (textAt place s) (λ r. r) 16 place (length s) at rs e)
-
 -- ---- the records of a block that was accepted
-
--- the block in a frame has the records of the frame
-pub inside⇒records : (file : List ℕ) (f : Frame) (b : Block) → blockIn file f ≡ answer b → recordsIn file f ≡ b .records
-unfolding recordsIn
-inside⇒records file f b e = by-data (isData (f .level)) refl
-  where
-    by-ordinary : (o : Bool) → isOrdinary (f .level) ≡ o → isData (f .level) ≡ false → recordsIn file f ≡ b .records
-    by-ordinary true o d =
-        let all = bind⁻¹ (entriesAt (f .start) (take (f .end) file) (f .body + 1)) _ b (sym (block-index file f d o) ∙ e) in
-        rw d (ap (λ (c : Block). c .records) (answer-injective (record { frame = f; records = []; entries = all .0 }) b (all .2)))
-    by-ordinary false o d = rw d (ap (λ (c : Block). c .records) (answer-injective (record { frame = f; records = []; entries = [] }) b (sym (block-reserved file f d o) ∙ e)))
-
-    by-data : (d : Bool) → isData (f .level) ≡ d → recordsIn file f ≡ b .records
-    by-data true d =
-        let all = bind⁻¹ (recordsAt (f .start) (take (f .end) file) (f .body + 1)) _ b (sym (block-data file f d) ∙ e) in
-        rw d
-        (records⇒from (f .start) (take (f .end) file) (f .body + 1) (all .0) (all .1)
-        ∙ ap (λ (c : Block). c .records) (answer-injective (record { frame = f; records = all .0; entries = [] }) b (all .2)))
-    by-data false d = by-ordinary (isOrdinary (f .level)) refl d
 
 pub block⇒laid : (file : List ℕ) (at : ℕ) (b : Block) → blockAt file at ≡ answer b → laidAt file at ≡ answer (record { item = b .records; next = at + b .frame .size })
 block⇒laid file at b e =

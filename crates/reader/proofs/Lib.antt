@@ -1,10 +1,5 @@
--- Laws and theorems of reading a file front to back.
-pub mod MatchLaws
-pub mod StoreLaws
-pub mod CollectLaws
-pub mod RecordsLaws
+-- Laws of reading front to back.
 pub mod FramesLaws
 pub mod LaidLaws
 pub mod ReadLaws
 pub mod PlaceLaws
-pub mod ReadTheorems

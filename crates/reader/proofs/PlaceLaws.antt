@@ -10,10 +10,11 @@ use lib.Dec.{leb}
 use lib.ListN.{length, take, length-take}
 use borrow.Author.Tests.{leb-true, leb-false}
 use Rattle.outcome.specs.Outcome.{Outcome, answer, refused}
-use Rattle.outcome.specs.Items.{Step, part, soundFrom}
+use Rattle.items.specs.Items.{Step, soundFrom}
+use Rattle.part.specs.Part.{part}
 use Rattle.outcome.proofs.OutcomeLaws.{answer-injective, bind⁻¹}
-use Rattle.outcome.proofs.ItemsLaws.{sound-end, sound-step, sound-refused}
-use Rattle.outcome.proofs.PartLaws.{part-take}
+use Rattle.items.proofs.ItemsLaws.{sound-end, sound-step, sound-refused}
+use Rattle.part.proofs.PartLaws.{part-take}
 use Rattle.framing.specs.declared.Frame.{Frame}
 use Rattle.framing.specs.Frame.{frameAt}
 use Rattle.payload.specs.Payload.{Text, textAt}
@@ -23,10 +24,11 @@ use Rattle.payload.specs.Answers.{textIn}
 use Rattle.framing.proofs.FrameLaws.{Framed, frame⇒Framed}
 use Rattle.payload.proofs.PayloadLaws.{text⇒Placed}
 use Rattle.query.specs.Query.{Query, matches}
-use Rattle.outcome.specs.Lists.{keep}
-use Rattle.reader.specs.Read.{matching}
-use Rattle.reader.specs.Collect.{recordsFrom, recordsIn, laidAt, laidFrom}
-use Rattle.reader.proofs.RecordsLaws.{each-once}
+use Rattle.lists.specs.Lists.{keep}
+use Rattle.matching.specs.Matching.{matching}
+use Rattle.matching.specs.Collect.{recordsFrom, recordsInFrame}
+use Rattle.reader.specs.Laid.{laidAt, laidFrom}
+use Rattle.matching.proofs.RecordsLaws.{each-once}
 use Rattle.reader.proofs.LaidLaws.{blocks⇒laid}
 
 module _ (file : List ℕ) where
@@ -104,8 +106,8 @@ module _ (file : List ℕ) where
       subst (λ rs. LaidOut from rs (length (take end file))) (each-once (soundFrom (textAt place (take end file)) (length (take end file)) (length (take end file) - from) from))
       (laid-sound (textAt place (take end file)) (λ r. r ∷ []) (length (take end file)) (text-laid place end) (length (take end file) - from) from h)
 
-  frame-laid : (at : ℕ) (f : Frame) → Framed file at f → LaidOut at (recordsIn file f) (at + f .size) × (at + f .size ≤ length file)
-  unfolding recordsIn LaidOut
+  frame-laid : (at : ℕ) (f : Frame) → Framed file at f → LaidOut at (recordsInFrame file f) (at + f .size) × (at + f .size ≤ length file)
+  unfolding recordsInFrame LaidOut
   frame-laid at f l = (go (isData (f .level)), l .within)
     where
       number : at < f .body

@@ -19,9 +19,12 @@ use Rattle.block.specs.Block.{Block, blocksAt}
 use Rattle.block.specs.Survey.{recordsOf, surveyed, surveyOf}
 use Rattle.query.specs.Query.{Query}
 use Rattle.reader.specs.declared.ReadAnswer.{ReadAnswer}
-use Rattle.reader.specs.Read.{matching, numbersOf, readBlocks, readOf, readAnswer, readList}
-use Rattle.reader.specs.Collect.{Stored, putAll, laidFrom}
-use Rattle.reader.proofs.StoreLaws.{count-putAll, length-putAll, stored-all}
+use Rattle.matching.specs.Matching.{matching}
+use Rattle.matching.specs.ResultList.{numbersOf}
+use Rattle.reader.specs.Read.{readBlocks, readOf, readAnswer, readList}
+use Rattle.matching.specs.Collect.{Stored, putAll}
+use Rattle.reader.specs.Laid.{laidFrom}
+use Rattle.matching.proofs.StoreLaws.{count-putAll, length-putAll, stored-all}
 use Rattle.reader.proofs.LaidLaws.{blocks⇒laid}
 
 -- ---- what is reported

@@ -1,3 +1,3 @@
 -- The meaning of reading a file front to back.
 pub mod Read
-pub mod Collect
+pub mod Laid

@@ -1,25 +1,18 @@
 -- Reading a file front to back under a query.
 use Prim.Native.Nat.{ℕ, _*_}
-use mathlib.Core.List.{List, [], _∷_, flatMap}
+use mathlib.Core.List.{List}
 use lib.Dec.{leb}
 use lib.ListN.{length}
 use Rattle.outcome.specs.Outcome.{Outcome, answer, _>>=_, _>>_, must, numberOf, placeOf, countOf, listOf}
-use Rattle.outcome.specs.Lists.{keep}
 use Rattle.header.specs.declared.Header.{Header}
 use Rattle.header.specs.Header.{headerOf, blocksFrom}
 use Rattle.payload.specs.Payload.{Text}
 use Rattle.block.specs.Block.{blocksAt}
 use Rattle.block.specs.Survey.{recordsOf}
-use Rattle.query.specs.Query.{Query, matches}
+use Rattle.query.specs.Query.{Query}
+use Rattle.matching.specs.Matching.{matching}
+use Rattle.matching.specs.ResultList.{numbersOf}
 use Rattle.reader.specs.declared.ReadAnswer.{ReadAnswer}
-
--- the records that match, in file order, each as often as stored
-unfoldable pub matching : Query → List Text → List Text
-matching q rs = keep (λ r. matches q (r .bytes)) rs
-
--- two numbers for each match: the offset of the record's first byte, and its length
-unfoldable pub numbersOf : List Text → List ℕ
-numbersOf ms = flatMap (λ m. m .at ∷ length (m .bytes) ∷ []) ms
 
 -- behind the header: the block stage, then 27 exactly if the list has fewer than two places per match
 unfoldable pub readBlocks : (file : List ℕ) (q : Query) (room : ℕ) → Header → Outcome (List Text)

@@ -7,9 +7,9 @@ ghost use Rattle.header.specs.Header.{blocksFrom};
 ghost use Rattle.query.specs.Query.{queryOf};
 ghost use Rattle.reader.specs.Read.{readBlocks, readOf, readAnswer, readList};
 
-pub mod collect;
+mod laid;
 
-use crate::collect::collect;
+use crate::laid::collect;
 use block::pass::SurveyOutcome;
 use block::pass::survey;
 use header::Header;
@@ -48,8 +48,8 @@ pub fn read(
     output_list::clear(results);
     let made = Header::read(file);
     match made {
-        HeaderOutcome::Bad(n) => refusal(n, 0),
-        HeaderOutcome::Good(h) => read_blocks(file, h, start, stop_given, stop, prefix, results),
+        HeaderOutcome::Refused(n) => refusal(n, 0),
+        HeaderOutcome::Answer(h) => read_blocks(file, h, start, stop_given, stop, prefix, results),
     }
 }
 
@@ -71,7 +71,7 @@ fn read_blocks(
     let stage = survey(file, from, h.root, h.rootsize);
     match stage {
         SurveyOutcome::Refused { number, place } => refusal(number, place as u64),
-        SurveyOutcome::Sound(_) => {
+        SurveyOutcome::Answer(_) => {
             let found = collect(file, from, start, stop_given, stop, prefix, results);
             if results.len() / 2 < found {
                 output_list::clear(results);

@@ -9,8 +9,8 @@ use native.Mathlib.Omega.{arith}
 use lib.Dec.{leb}
 use lib.ListN.{length, take, drop}
 use borrow.Author.Tests.{le-leb, lt-leb, leb-true, leb-false}
-use Rattle.outcome.specs.Items.{part}
-use Rattle.outcome.proofs.PartLaws.{part-empty, lent-part}
+use Rattle.part.specs.Part.{part}
+use Rattle.part.proofs.PartLaws.{part-empty, lent-part}
 use Rattle.record.specs.Record.{isWithin, partStart, partLength, recordOf}
 
 module _ (file : List ℕ) (offset n : ℕ) where

@@ -4,7 +4,7 @@ use mathlib.Core.Bool.{Bool, cond}
 use mathlib.Core.List.{List}
 use lib.Dec.{leb}
 use lib.ListN.{length}
-use Rattle.outcome.specs.Items.{part}
+use Rattle.part.specs.Part.{part}
 
 -- the part lies within the file; the sum is on unbounded numbers
 unfoldable pub isWithin : List ℕ → (offset n : ℕ) → Bool

@@ -12,10 +12,10 @@ use borrow.Author.Tests.{le-leb, leb-true}
 use Rattle.outcome.specs.Outcome.{answer, refused}
 use Rattle.outcome.proofs.OutcomeLaws.{kept, broken}
 use Rattle.payload.specs.Payload.{Text}
-use Rattle.search.specs.Search.{Found, withMatch, addMatches}
+use Rattle.search.specs.Search.{Walked, withMatch, addMatches}
 
 -- there are two places for each match: all are added
-pub addMatches-all : (room : ℕ) (ms : List Text) (s : Found) → 2 * (length (s .matches) + length ms) ≤ room
+pub addMatches-all : (room : ℕ) (ms : List Text) (s : Walked) → 2 * (length (s .matches) + length ms) ≤ room
     → addMatches room ms s ≡ answer (record { opened = s .opened; matches = s .matches ++ ms })
 unfolding addMatches withMatch
 addMatches-all room [] s h = ap (λ (l : List Text). answer (record { opened = s .opened; matches = l })) (sym (append-nil (s .matches)))
@@ -26,7 +26,7 @@ addMatches-all room (r ∷ rs) s h =
     ∙ ap (λ (l : List Text). answer (record { opened = s .opened; matches = l })) (append-snoc (s .matches) r rs)
 
 -- there are not: 27 at the first match that finds no two places left
-pub addMatches-27 : (room : ℕ) (ms : List Text) (s : Found) → 2 * length (s .matches) ≤ room → room < 2 * (length (s .matches) + length ms) → addMatches room ms s ≡ refused 27 0
+pub addMatches-27 : (room : ℕ) (ms : List Text) (s : Walked) → 2 * length (s .matches) ≤ room → room < 2 * (length (s .matches) + length ms) → addMatches room ms s ≡ refused 27 0
 unfolding addMatches withMatch
 addMatches-27 room [] s few many = absurd (omega arith)
 addMatches-27 room (r ∷ rs) s few many = go (leb (2 * length (s .matches) + 2) room) refl (addMatches-27 room rs (withMatch r s))

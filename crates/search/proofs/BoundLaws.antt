@@ -8,10 +8,11 @@ use native.Mathlib.Omega.{arith}
 use lib.ListN.{length, take, drop}
 use lib.Seq.{length-take-le}
 use Rattle.outcome.specs.Outcome.{answer, refused}
-use Rattle.outcome.specs.Items.{Step, part, itemsFrom}
+use Rattle.items.specs.Items.{Step, itemsFrom}
+use Rattle.part.specs.Part.{part}
 use Rattle.outcome.proofs.OutcomeLaws.{answer-injective, refused-not-answer}
-use Rattle.outcome.proofs.ItemsLaws.{Read, at-end, one-more, items⁻¹, items-end}
-use Rattle.outcome.proofs.PartLaws.{part-take, lent-part}
+use Rattle.items.proofs.ItemsLaws.{Read, at-end, one-more, items⁻¹, items-end}
+use Rattle.part.proofs.PartLaws.{part-take, lent-part}
 use Rattle.payload.specs.Payload.{Text, Entry, textAt, entryAt}
 use Rattle.payload.specs.Answers.{textIn}
 use Rattle.payload.proofs.PayloadLaws.{text⇒Placed}

@@ -13,20 +13,20 @@ use Rattle.output_list.specs.OutputList.{withNumber}
 use Rattle.output_list.proofs.OutputListLaws.{length-withNumber}
 use Rattle.outcome.specs.Outcome.{Outcome, answer, refused, _>>=_}
 use Rattle.outcome.proofs.OutcomeLaws.{answer-injective, refused-not-answer, kept, kept⁻¹, bind-answer, bind⁻¹, map-refused⁻¹}
-use Rattle.outcome.proofs.ListsLaws.{both⁻¹}
+use Rattle.lists.proofs.ListsLaws.{both⁻¹}
 use Rattle.framing.specs.declared.Frame.{Frame}
 use Rattle.framing.specs.Frame.{soundFrameAt}
 use Rattle.block.specs.Block.{Block, blockIn, blockAt}
 use Rattle.block.proofs.BlockLaws.{BlockRead, block⇒BlockRead, frame-bounds}
 use Rattle.query.specs.Query.{Query}
 use Rattle.search.specs.declared.walk.Child.{Child}
-use Rattle.search.specs.Search.{Found, fittingBlock, namedBlock, openBlock}
+use Rattle.search.specs.Search.{Walked, fittingBlock, namedBlock, openBlock}
 use Rattle.search.specs.Steps.{frameOf, admitted, visitOf, visitedList}
 
 -- ---- a block that was opened
 
 -- so many blocks opened, and nothing found
-unfoldable pub opened : ℕ → Found
+unfoldable pub opened : ℕ → Walked
 opened used = record { opened = replicate used 0; matches = [] }
 
 pub opened-many : (used : ℕ) → used ≡ length (opened used .opened)
@@ -44,13 +44,13 @@ module _ (file : List ℕ) (places from number place least most offset size : �
     pub least-level : least ≤ f .level
     pub most-level : f .level ≤ most
     pub inside : blockIn file f ≡ answer block
-    pub again : (s : Found) → used ≡ length (s .opened) → openBlock file places from number place least most offset size s ≡ answer block
+    pub again : (s : Walked) → used ≡ length (s .opened) → openBlock file places from number place least most offset size s ≡ answer block
 
-  open-named : (s : Found) → length (s .opened) < places → openBlock file places from number place least most offset size s ≡ namedBlock file from number place least most offset size
+  open-named : (s : Walked) → length (s .opened) < places → openBlock file places from number place least most offset size s ≡ namedBlock file from number place least most offset size
   unfolding openBlock
   open-named s h = kept (ltb (length (s .opened)) places) 26 0 _ (lt-ltb (length (s .opened)) places h)
 
-  pub opened⇒IsOpened : (s : Found) (b : Block) → openBlock file places from number place least most offset size s ≡ answer b → IsOpened (length (s .opened)) (b .frame)
+  pub opened⇒IsOpened : (s : Walked) (b : Block) → openBlock file places from number place least most offset size s ≡ answer b → IsOpened (length (s .opened)) (b .frame)
   unfolding openBlock namedBlock fittingBlock blockAt
   opened⇒IsOpened s b e =
       let room = kept⁻¹ (ltb (length (s .opened)) places) 26 0 _ b e in
@@ -80,7 +80,7 @@ module _ (file : List ℕ) (places from number place least most offset size : �
           }
 
   -- what an opening says
-  pub frame⇒IsOpened : (s : Found) (f : Frame) → answer f ≡ frameOf (openBlock file places from number place least most offset size s) → IsOpened (length (s .opened)) f
+  pub frame⇒IsOpened : (s : Walked) (f : Frame) → answer f ≡ frameOf (openBlock file places from number place least most offset size s) → IsOpened (length (s .opened)) f
   unfolding frameOf
   frame⇒IsOpened s f e =
       let all = bind⁻¹ (openBlock file places from number place least most offset size s) (λ b. answer (b .frame)) f (sym e) in
@@ -95,13 +95,13 @@ none-not-some : (f : Frame) → _≡_ {A = Option Frame} none (some f) → ⊥
 none-not-some f e = let z : _≡_ {A = ℕ} 0 1 = cc in omega arith
 
 module _ (file : List ℕ) (q : Query) (c : Child) (places from place level : ℕ) where
-  abbrev opening : Found → Outcome Block
+  abbrev opening : Walked → Outcome Block
   opening s = openBlock file places from 19 place level level (c .offset) (c .size) s
 
-  abbrev visited : Found → Outcome (Option Frame)
+  abbrev visited : Walked → Outcome (Option Frame)
   visited s = opening s >>= λ b. answer (some (b .frame))
 
-  pub visit-passed⁻¹ : (s : Found) → answer none ≡ visitOf file q c places from place level s → admitted file q c ≡ false
+  pub visit-passed⁻¹ : (s : Walked) → answer none ≡ visitOf file q c places from place level s → admitted file q c ≡ false
   unfolding visitOf
   visit-passed⁻¹ s e = go (admitted file q c) refl e
     where
@@ -109,7 +109,7 @@ module _ (file : List ℕ) (q : Query) (c : Child) (places from place level : �
       go false p h = p
       go true p h = absurd (let all = bind⁻¹ (opening s) (λ b. answer (some (b .frame))) none (sym h) in none-not-some (all .0 .frame) (answer-injective none (some (all .0 .frame)) (sym (all .2))))
 
-  pub visit-refused⁻¹ : (s : Found) (n p : ℕ) → refused n p ≡ visitOf file q c places from place level s
+  pub visit-refused⁻¹ : (s : Walked) (n p : ℕ) → refused n p ≡ visitOf file q c places from place level s
       → (admitted file q c ≡ true) × (openBlock file places from 19 place level level (c .offset) (c .size) s ≡ refused n p)
   unfolding visitOf
   visit-refused⁻¹ s n p e = go (admitted file q c) refl e
@@ -118,7 +118,7 @@ module _ (file : List ℕ) (q : Query) (c : Child) (places from place level : �
       go true a h = (a, map-refused⁻¹ (opening s) (λ b. some (b .frame)) n p (sym h))
       go false a h = absurd (refused-not-answer none n p h)
 
-  pub visit-opened⁻¹ : (s : Found) (f : Frame) → answer (some f) ≡ visitOf file q c places from place level s
+  pub visit-opened⁻¹ : (s : Walked) (f : Frame) → answer (some f) ≡ visitOf file q c places from place level s
       → (admitted file q c ≡ true) × IsOpened file places from 19 place level level (c .offset) (c .size) (length (s .opened)) f
   unfolding visitOf
   visit-opened⁻¹ s f e = go (admitted file q c) refl e

@@ -14,24 +14,25 @@ use Rattle.payload.specs.Payload.{Text}
 use Rattle.block.specs.Block.{Block, blockIn}
 use Rattle.block.proofs.BlockLaws.{data-level}
 use Rattle.query.specs.Query.{Query}
-use Rattle.reader.specs.Read.{matching, numbersOf}
-use Rattle.reader.specs.Collect.{Stored, putAll, recordsFrom, recordsIn}
-use Rattle.reader.proofs.StoreLaws.{holding, stored-behind, length-putAll}
-use Rattle.reader.proofs.LaidLaws.{inside⇒records}
+use Rattle.matching.specs.Matching.{matching}
+use Rattle.matching.specs.ResultList.{numbersOf}
+use Rattle.matching.specs.Collect.{Stored, putAll, recordsFrom, recordsInFrame}
+use Rattle.matching.proofs.StoreLaws.{holding, stored-behind, length-putAll}
+use Rattle.matching.proofs.FrameRecordsLaws.{inside⇒records}
 use Rattle.search.specs.declared.walk.Progress.{Progress}
-use Rattle.search.specs.declared.walk.Reached.the-variants.{Going, Stopped}
-use Rattle.search.specs.Search.{Found, addMatches}
-use Rattle.search.specs.Steps.{HasRoom, StaysWithin, Holds, Reaches}
+use Rattle.search.specs.declared.walk.WalkOutcome.the-variants.{Answer as Going, Refused as Stopped}
+use Rattle.search.specs.Search.{Walked, addMatches}
+use Rattle.search.specs.Steps.{HasRoom, StaysWithin, ListsHold, Reaches}
 use Rattle.search.proofs.AddLaws.{addMatches-all, addMatches-27}
 
 -- reading the payload of a data block again finds its records
 pub data-from : (file : List ℕ) (f : Frame) (b : Block) → blockIn file f ≡ answer b → f .level ≡ 0 → recordsFrom (f .start) (take (f .end) file) (f .body + 1) ≡ b .records
-unfolding recordsIn
+unfolding recordsInFrame
 data-from file f b e level =
     sym (ap (λ (d : Bool). cond d (recordsFrom (f .start) (take (f .end) file) (f .body + 1)) []) (data-level (f .level) level)) ∙ inside⇒records file f b e
 
 -- matches put on a list that holds what was found
-pub found-behind : (opened list : List ℕ) (p : Progress) (s : Found) (ms : List Text) → 2 * p .found ≤ length list → Holds opened list p s
+pub found-behind : (opened list : List ℕ) (p : Progress) (s : Walked) (ms : List Text) → 2 * p .found ≤ length list → ListsHold opened list p s
     → putAll (record { count = p .found; list = list }) ms ≡ holding (length list) (s .matches ++ ms)
 found-behind opened list p s ms few h =
     let matched = h .matched in
@@ -53,7 +54,7 @@ module _ (file : List ℕ) (f : Frame) (q : Query) (first : List ℕ) (p : Progr
   find-within few openedList used = let long = find-length in (used, omega arith)
 
   -- the frame is that of a data block, and the lists hold what was opened and found
-  module _ (openedList : List ℕ) (b : Block) (s : Found) (inside : blockIn file f ≡ answer b) (level : f .level ≡ 0) (h : Holds openedList first p s) where
+  module _ (openedList : List ℕ) (b : Block) (s : Walked) (inside : blockIn file f ≡ answer b) (level : f .level ≡ 0) (h : ListsHold openedList first p s) where
     put-records : record { count = many; list = list } ≡ holding (length first) (s .matches ++ matching q (b .records))
     put-records =
         is (f .start)

@@ -11,10 +11,11 @@ use lib.Seq.{length-take-le}
 use Rattle.output_list.specs.OutputList.{padded, withNumber}
 use Rattle.output_list.proofs.OutputListLaws.{withNumber-padded}
 use Rattle.outcome.specs.Outcome.{Outcome, answer, refused, _>>=_}
-use Rattle.outcome.specs.Items.{itemsFrom, part}
+use Rattle.items.specs.Items.{itemsFrom}
+use Rattle.part.specs.Part.{part}
 use Rattle.outcome.proofs.OutcomeLaws.{bind-answer, bind-refused}
-use Rattle.outcome.proofs.ItemsLaws.{row⇒items}
-use Rattle.outcome.proofs.PartLaws.{part-take}
+use Rattle.items.proofs.ItemsLaws.{row⇒items}
+use Rattle.part.proofs.PartLaws.{part-take}
 use Rattle.framing.specs.declared.Frame.{Frame}
 use Rattle.payload.specs.Payload.{Entry, entryAt}
 use Rattle.block.specs.Block.{Block, blockIn}
@@ -23,26 +24,26 @@ use Rattle.query.specs.Query.{Query}
 use Rattle.query.specs.Opening.{mayMatch}
 use Rattle.search.specs.declared.bound.Bound.{Bound}
 use Rattle.search.specs.declared.walk.Child.{Child}
-use Rattle.search.specs.declared.walk.Visited.{Visited}
-use Rattle.search.specs.declared.walk.Visited.the-variants.{Passed, Opened, Refused as NoVisit}
+use Rattle.search.specs.declared.walk.VisitOutcome.{VisitOutcome}
+use Rattle.search.specs.declared.walk.VisitOutcome.the-variants.{Passed, Opened, Refused as NoVisit}
 use Rattle.search.specs.declared.walk.Progress.{Progress}
-use Rattle.search.specs.declared.walk.Reached.{Reached}
-use Rattle.search.specs.declared.walk.Reached.the-variants.{Going, Stopped}
-use Rattle.search.specs.Search.{Found, withOpened, nextKey, openBlock, walkOf}
-use Rattle.search.specs.Steps.{boundOf, BoundWithin, visitSaid, admitted, visitOf, visitedList, HasRoom, StaysWithin, Holds, Reaches}
+use Rattle.search.specs.declared.walk.WalkOutcome.{WalkOutcome}
+use Rattle.search.specs.declared.walk.WalkOutcome.the-variants.{Answer as Going, Refused as Stopped}
+use Rattle.search.specs.Search.{Walked, withOpened, nextKey, openBlock, walkOf}
+use Rattle.search.specs.Steps.{boundOf, BoundWithin, visitSaid, admitted, visitOf, visitedList, HasRoom, StaysWithin, ListsHold, Reaches}
 use Rattle.search.proofs.ChildLaws.{opened, opened-many, IsOpened, visit-passed⁻¹, visit-refused⁻¹, visit-opened⁻¹, length-visitedList, visitedList-passed, visitedList-admitted}
 use Rattle.search.proofs.WalkLaws.{Entries, entry-forward, entries-end, entries-next, entries-read, downFrom, through, through-none, through-next}
 
 -- the loop began at `first` with these lists and what was opened and found before
 module _ (file : List ℕ) (q : Query) (from level : ℕ) (above : Bound) (at end : ℕ) (opened₀ results₀ : List ℕ) (first : ℕ) (p₀ : Progress) where
   -- what going through entries gives
-  abbrev pub Gives : List Entry → Found → Outcome Found
+  abbrev pub Gives : List Entry → Walked → Outcome Walked
   Gives es s = through file q (length opened₀) (length results₀) from at (level - 1) (boundOf file above) es s
 
   -- where `all` are the entries and `s` was found before them: these are left, with what is found now
-  pub record Led (openedNow resultsNow : List ℕ) (place : ℕ) (p : Progress) (all : List Entry) (s : Found) : Type 0 where
-    pub found : Found
-    pub held : Holds openedNow resultsNow p found
+  pub record Led (openedNow resultsNow : List ℕ) (place : ℕ) (p : Progress) (all : List Entry) (s : Walked) : Type 0 where
+    pub found : Walked
+    pub held : ListsHold openedNow resultsNow p found
     pub left : List Entry
     pub entries : Entries file at end place left
     pub leads : Gives all s ≡ Gives left found
@@ -51,7 +52,7 @@ module _ (file : List ℕ) (q : Query) (from level : ℕ) (above : Bound) (at en
     pub long : length openedNow ≡ length opened₀
     pub wide : length resultsNow ≡ length results₀
     pub fits : HasRoom p (length opened₀) (length results₀)
-    pub led : (all : List Entry) (s : Found) → Entries file at end first all → Holds opened₀ results₀ p₀ s → Led openedNow resultsNow place p all s
+    pub led : (all : List Entry) (s : Walked) → Entries file at end first all → ListsHold opened₀ results₀ p₀ s → Led openedNow resultsNow place p all s
 
   pub onward-start : HasRoom p₀ (length opened₀) (length results₀) → Onward opened₀ results₀ first p₀
   onward-start fits =
@@ -67,8 +68,8 @@ module _ (file : List ℕ) (q : Query) (from level : ℕ) (above : Bound) (at en
   onward-stays openedNow resultsNow place p on = on .fits
 
   -- what a way out of the loop says
-  abbrev pub Ends : Reached → (openedNow resultsNow : List ℕ) → Type 0
-  Ends r openedNow resultsNow = (all : List Entry) (s : Found) → Entries file at end first all → Holds opened₀ results₀ p₀ s → Reaches r openedNow resultsNow (Gives all s)
+  abbrev pub Ends : WalkOutcome → (openedNow resultsNow : List ℕ) → Type 0
+  Ends r openedNow resultsNow = (all : List Entry) (s : Walked) → Entries file at end first all → ListsHold opened₀ results₀ p₀ s → Reaches r openedNow resultsNow (Gives all s)
 
   module _ (openedNow resultsNow : List ℕ) (place : ℕ) (p : Progress) (on : Onward openedNow resultsNow place p) where
     -- no entry is left
@@ -76,7 +77,7 @@ module _ (file : List ℕ) (q : Query) (from level : ℕ) (above : Bound) (at en
     unfolding Reaches
     onward-end past all s row h = go (on .led all s row h)
       where
-        go : Led openedNow resultsNow place p all s → (t : Found) × (Gives all s ≡ answer t) × Holds openedNow resultsNow p t
+        go : Led openedNow resultsNow place p all s → (t : Walked) × (Gives all s ≡ answer t) × ListsHold openedNow resultsNow p t
         go l = (
           l .found,
           l .leads ∙ ap (λ (es : List Entry). Gives es (l .found)) (entries-end file at end place (l .left) (l .entries) past)
@@ -97,18 +98,18 @@ module _ (file : List ℕ) (q : Query) (from level : ℕ) (above : Bound) (at en
       child = record { key = key; length = n; upper = upper; offset = offset; size = size }
 
       -- the walk down from its block
-      abbrev pub Down : Found → Outcome Found
+      abbrev pub Down : Walked → Outcome Walked
       Down t = downFrom file q (length opened₀) (length results₀) from at (level - 1) offset size (boundOf file upper) t
 
       -- what going through the entries gives, where these are behind it
-      pub record AtEntry (all : List Entry) (s : Found) : Type 0 where
-        pub found : Found
-        pub held : Holds openedNow resultsNow p found
+      pub record AtEntry (all : List Entry) (s : Walked) : Type 0 where
+        pub found : Walked
+        pub held : ListsHold openedNow resultsNow p found
         pub behind : List Entry
         pub entries : Entries file at end next behind
         pub leads : Gives all s ≡ (cond (admitted file q child) (Down found) (answer found) >>= Gives behind)
 
-      pub at-entry : (all : List Entry) (s : Found) → Entries file at end first all → Holds opened₀ results₀ p₀ s → AtEntry all s
+      pub at-entry : (all : List Entry) (s : Walked) → Entries file at end first all → ListsHold opened₀ results₀ p₀ s → AtEntry all s
       unfolding admitted textIn
       at-entry all s row h = go (on .led all s row h)
         where
@@ -132,7 +133,7 @@ module _ (file : List ℕ) (q : Query) (from level : ℕ) (above : Bound) (at en
           go l = let x = entries-next file at end place (l .left) (l .entries) before _ read in there l (x .0) (x .1) (x .2)
 
       -- what the visit says, and the opened list behind it
-      module _ (v : Visited) (said : (s : Found) → p .used ≡ length (s .opened) → visitSaid v ≡ visitOf file q child (length openedNow) from at (level - 1) s)
+      module _ (v : VisitOutcome) (said : (s : Walked) → p .used ≡ length (s .opened) → visitSaid v ≡ visitOf file q child (length openedNow) from at (level - 1) s)
           (visited : List ℕ) (stored : visited ≡ visitedList file q child openedNow (p .used)) where
         pub visited-long : length visited ≡ length openedNow
         visited-long = ap length stored ∙ length-visitedList file q child openedNow (p .used)
@@ -155,11 +156,11 @@ module _ (file : List ℕ) (q : Query) (from level : ℕ) (above : Bound) (at en
             same : visited ≡ openedNow
             same = stored ∙ visitedList-passed file q child openedNow (p .used) none-admitted
 
-            go : (all : List Entry) (s : Found) → AtEntry all s → Led visited resultsNow next p all s
+            go : (all : List Entry) (s : Walked) → AtEntry all s → Led visited resultsNow next p all s
             go all s x =
                 record {
                   found = x .found;
-                  held = subst (λ (l : List ℕ). Holds l resultsNow p (x .found)) (sym same) (x .held);
+                  held = subst (λ (l : List ℕ). ListsHold l resultsNow p (x .found)) (sym same) (x .held);
                   left = x .behind;
                   entries = x .entries;
                   leads =
@@ -210,7 +211,7 @@ module _ (file : List ℕ) (q : Query) (from level : ℕ) (above : Bound) (at en
               (small, o .body, o .within, omega arith, bounded, (omega arith, omega arith))
 
           -- the lists hold what was found before, and the block
-          with-child : (t : Found) → Holds openedNow resultsNow p t → Holds visited resultsNow one-more (withOpened offset t)
+          with-child : (t : Walked) → ListsHold openedNow resultsNow p t → ListsHold visited resultsNow one-more (withOpened offset t)
           unfolding withOpened
           with-child t h =
               let few = opening .1 .fits in
@@ -230,10 +231,10 @@ module _ (file : List ℕ) (q : Query) (from level : ℕ) (above : Bound) (at en
               }
 
           -- what the walk down from it gives, behind the entry
-          module _ (r : Reached) (openedThen resultsThen : List ℕ)
-              (walked : (b : Block) (s : Found) → blockIn file c ≡ answer b → c .level ≡ level - 1 → Holds visited resultsNow one-more s
+          module _ (r : WalkOutcome) (openedThen resultsThen : List ℕ)
+              (walked : (b : Block) (s : Walked) → blockIn file c ≡ answer b → c .level ≡ level - 1 → ListsHold visited resultsNow one-more s
               → Reaches r openedThen resultsThen (walkOf file q (length visited) (length resultsNow) from (level - 1) b (boundOf file upper) s)) where
-            down : (t : Found) → Holds openedNow resultsNow p t
+            down : (t : Walked) → ListsHold openedNow resultsNow p t
                 → Reaches r openedThen resultsThen (Down t)
             unfolding downFrom
             down t h =
@@ -248,7 +249,7 @@ module _ (file : List ℕ) (q : Query) (from level : ℕ) (above : Bound) (at en
                 (ap (λ (k : ℕ). openBlock file k from 19 at (level - 1) (level - 1) offset size t) (sym (on .long)) ∙ o .again t (h .many))))
                 (walked (o .block) (withOpened offset t) (o .inside) (omega arith) (with-child t h))
 
-            admits : (o : Outcome Found) (t : Found) (behind : List Entry) → (cond (admitted file q child) o (answer t) >>= Gives behind) ≡ (o >>= Gives behind)
+            admits : (o : Outcome Walked) (t : Walked) (behind : List Entry) → (cond (admitted file q child) o (answer t) >>= Gives behind) ≡ (o >>= Gives behind)
             admits o t behind = ap (λ (b : Bool). cond b o (answer t) >>= Gives behind) (opening .0)
 
             -- the walk stops
@@ -261,7 +262,7 @@ module _ (file : List ℕ) (q : Query) (from level : ℕ) (above : Bound) (at en
                     x .leads
                     ∙ admits _ (x .found) (x .behind)
                     ∙ bind-refused _ (Gives (x .behind)) number refusedAt
-                    (subst (λ (k : Reached). Reaches k openedThen resultsThen (Down (x .found))) is (down (x .found) (x .held)))
+                    (subst (λ (k : WalkOutcome). Reaches k openedThen resultsThen (Down (x .found))) is (down (x .found) (x .held)))
 
             -- it goes on
             pub onward-more : (p₁ : Progress) → r ≡ Going p₁ → StaysWithin r (length visited) (length resultsNow) → length openedThen ≡ length visited → length resultsThen ≡ length resultsNow → Onward openedThen resultsThen next p₁
@@ -270,7 +271,7 @@ module _ (file : List ℕ) (q : Query) (from level : ℕ) (above : Bound) (at en
                 record {
                   long = long ∙ visited-long ∙ on .long;
                   wide = wide ∙ on .wide;
-                  fits = fit (subst (λ (k : Reached). StaysWithin k (length visited) (length resultsNow)) is stays);
+                  fits = fit (subst (λ (k : WalkOutcome). StaysWithin k (length visited) (length resultsNow)) is stays);
                   led = λ all s row h. go all s (at-entry all s row h);
                 }
               where
@@ -281,7 +282,7 @@ module _ (file : List ℕ) (q : Query) (from level : ℕ) (above : Bound) (at en
                     let w = on .wide in
                     (omega arith, omega arith)
 
-                led : (all : List Entry) (s : Found) (x : AtEntry all s) → (t : Found) × (Down (x .found) ≡ answer t) × Holds openedThen resultsThen p₁ t → Led openedThen resultsThen next p₁ all s
+                led : (all : List Entry) (s : Walked) (x : AtEntry all s) → (t : Walked) × (Down (x .found) ≡ answer t) × ListsHold openedThen resultsThen p₁ t → Led openedThen resultsThen next p₁ all s
                 led all s x (t, walkedTo, held) =
                     record {
                       found = t;
@@ -291,6 +292,6 @@ module _ (file : List ℕ) (q : Query) (from level : ℕ) (above : Bound) (at en
                       leads = x .leads ∙ admits _ (x .found) (x .behind) ∙ bind-answer _ (Gives (x .behind)) t walkedTo;
                     }
 
-                go : (all : List Entry) (s : Found) → AtEntry all s → Led openedThen resultsThen next p₁ all s
+                go : (all : List Entry) (s : Walked) → AtEntry all s → Led openedThen resultsThen next p₁ all s
                 go all s x =
-                    led all s x (subst (λ (k : Reached). Reaches k openedThen resultsThen (Down (x .found))) is (down (x .found) (x .held)))
+                    led all s x (subst (λ (k : WalkOutcome). Reaches k openedThen resultsThen (Down (x .found))) is (down (x .found) (x .held)))

@@ -14,7 +14,7 @@ use Rattle.framing.specs.declared.Frame.{Frame}
 use Rattle.framing.specs.Frame.{soundFrameAt}
 use Rattle.block.specs.Block.{Block, blockIn}
 use Rattle.block.specs.Answers.{Tallied, tallied}
-use Rattle.search.specs.Search.{Found, fittingBlock, namedBlock, openBlock}
+use Rattle.search.specs.Search.{Walked, fittingBlock, namedBlock, openBlock}
 use Rattle.search.specs.Steps.{frameOf}
 
 -- ---- the frame of a block
@@ -102,7 +102,7 @@ module _ (file : List ℕ) (from number place least most offset size : ℕ) wher
 -- ---- the opened list
 
 module _ (file opened : List ℕ) (from number place least most offset size used : ℕ) where
-  pub open-full : (r : Bool) → r ≡ hasPlace opened used → r ≡ false → (s : Found) → used ≡ length (s .opened)
+  pub open-full : (r : Bool) → r ≡ hasPlace opened used → r ≡ false → (s : Walked) → used ≡ length (s .opened)
       → refused 26 0 ≡ frameOf (openBlock file (length opened) from number place least most offset size s)
   unfolding hasPlace openBlock
   open-full r is full s many =
@@ -111,7 +111,7 @@ module _ (file opened : List ℕ) (from number place least most offset size used
       (broken (ltb (length (s .opened)) (length opened)) 26 0 _ (ap (λ (n : ℕ). ltb n (length opened)) (sym many) ∙ sym is ∙ full)))
 
   pub open-placed : (r : Bool) → r ≡ hasPlace opened used → r ≡ true → (o : Outcome Frame) → o ≡ frameOf (namedBlock file from number place least most offset size)
-      → (s : Found) → used ≡ length (s .opened) → o ≡ frameOf (openBlock file (length opened) from number place least most offset size s)
+      → (s : Walked) → used ≡ length (s .opened) → o ≡ frameOf (openBlock file (length opened) from number place least most offset size s)
   unfolding hasPlace openBlock
   open-placed r is room o named s many =
       named

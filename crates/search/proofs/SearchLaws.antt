@@ -16,16 +16,16 @@ use Rattle.header.specs.Header.{headerOf, blocksFrom}
 use Rattle.framing.specs.declared.Frame.{Frame}
 use Rattle.block.specs.Block.{Block, blockIn}
 use Rattle.query.specs.Query.{Query, given}
-use Rattle.reader.specs.Read.{numbersOf}
-use Rattle.search.specs.declared.SearchAnswer.{SearchAnswer}
+use Rattle.matching.specs.ResultList.{numbersOf}
+use Rattle.search.specs.declared.Found.{Found}
 use Rattle.search.specs.declared.bound.Bound.{Bound}
-use Rattle.search.specs.declared.opening.Opening.{Opening}
-use Rattle.search.specs.declared.opening.Opening.the-variants.{Sound, Refused as NoBlock}
+use Rattle.search.specs.declared.opening.OpenOutcome.{OpenOutcome}
+use Rattle.search.specs.declared.opening.OpenOutcome.the-variants.{Answer as Sound, Refused as NoBlock}
 use Rattle.search.specs.declared.walk.Progress.{Progress}
-use Rattle.search.specs.declared.walk.Reached.{Reached}
-use Rattle.search.specs.declared.walk.Reached.the-variants.{Going, Stopped}
-use Rattle.search.specs.Search.{Found, nothing, withOpened, openBlock, walkOf, walkFrom, searchOf, searchAnswer, openedList, resultList}
-use Rattle.search.specs.Steps.{boundOf, BoundWithin, openingSaid, frameOf, HasRoom, Holds, Reaches}
+use Rattle.search.specs.declared.walk.WalkOutcome.{WalkOutcome}
+use Rattle.search.specs.declared.walk.WalkOutcome.the-variants.{Answer as Going, Refused as Stopped}
+use Rattle.search.specs.Search.{Walked, nothing, withOpened, openBlock, walkOf, walkFrom, searchOf, searchAnswer, openedList, resultList}
+use Rattle.search.specs.Steps.{boundOf, BoundWithin, openingSaid, frameOf, HasRoom, ListsHold, Reaches}
 use Rattle.search.proofs.ChildLaws.{IsOpened, frame⇒IsOpened}
 
 -- ---- the root
@@ -37,8 +37,8 @@ unbounded = record { given = false; at = 0; size = 0 }
 abbrev pub begun : Progress
 begun = record { used = 1; found = 0 }
 
-module _ (file : List ℕ) (q : Query) (places room from root rootsize : ℕ) (r : Opening)
-    (said : (s : Found) → 0 ≡ length (s .opened) → openingSaid r ≡ frameOf (openBlock file places from 17 0 1 63 root rootsize s)) where
+module _ (file : List ℕ) (q : Query) (places room from root rootsize : ℕ) (r : OpenOutcome)
+    (said : (s : Walked) → 0 ≡ length (s .opened) → openingSaid r ≡ frameOf (openBlock file places from 17 0 1 63 root rootsize s)) where
   root-said : openingSaid r ≡ frameOf (openBlock file places from 17 0 1 63 root rootsize nothing)
   unfolding nothing
   root-said = said nothing refl
@@ -69,7 +69,7 @@ module _ (file : List ℕ) (q : Query) (places room from root rootsize : ℕ) (r
           let same = now-long in
           (small, o .body, o .within, o .most-level, omega arith, (omega arith, omega arith))
 
-      root-holds : openedFirst ≡ zeros (length openedFirst) → results ≡ zeros (length results) → Holds openedNow results begun (withOpened root nothing)
+      root-holds : openedFirst ≡ zeros (length openedFirst) → results ≡ zeros (length results) → ListsHold openedNow results begun (withOpened root nothing)
       unfolding withOpened nothing zeros numbersOf flatMap
       root-holds clear clean =
           let fits = root-opened .fits in
@@ -86,8 +86,8 @@ module _ (file : List ℕ) (q : Query) (places room from root rootsize : ℕ) (r
 
       -- what it gives
       pub root-walked : openedFirst ≡ zeros (length openedFirst) → results ≡ zeros (length results) → length results ≡ room
-          → (w : Reached) (openedThen resultsThen : List ℕ)
-          → ((b : Block) (s : Found) → blockIn file f ≡ answer b → f .level ≡ f .level → Holds openedNow results begun s
+          → (w : WalkOutcome) (openedThen resultsThen : List ℕ)
+          → ((b : Block) (s : Walked) → blockIn file f ≡ answer b → f .level ≡ f .level → ListsHold openedNow results begun s
           → Reaches w openedThen resultsThen (walkOf file q (length openedNow) (length results) from (f .level) b (boundOf file unbounded) s))
           → Reaches w openedThen resultsThen (walkFrom file q places room from root rootsize)
       unfolding walkFrom boundOf given nothing
@@ -107,7 +107,7 @@ module _ (file : List ℕ) (q : Query) (places room : ℕ) (openedNow results : 
   unfolding searchOf Reaches
   header-refuses number place e = bind-refused (headerOf file) _ number place e
 
-  pub header-accepts : (h : Header) → headerOf file ≡ answer h → (r : Reached) → Reaches r openedNow results (walkFrom file q places room (blocksFrom h) (h .root) (h .rootsize))
+  pub header-accepts : (h : Header) → headerOf file ≡ answer h → (r : WalkOutcome) → Reaches r openedNow results (walkFrom file q places room (blocksFrom h) (h .root) (h .rootsize))
       → Reaches r openedNow results (searchOf file q places room)
   unfolding searchOf
   header-accepts h e r walked = subst (Reaches r openedNow results) (sym (bind-answer (headerOf file) _ h e)) walked
@@ -115,10 +115,10 @@ module _ (file : List ℕ) (q : Query) (places room : ℕ) (openedNow results : 
 -- ---- what is answered
 
 -- what `search` answers, and what its lists hold
-abbrev pub Told : (places room : ℕ) → Outcome Found → SearchAnswer → (openedNow results : List ℕ) → Type 0
+abbrev pub Told : (places room : ℕ) → Outcome Walked → Found → (openedNow results : List ℕ) → Type 0
 Told places room o r openedNow results = (r ≡ searchAnswer o) × ((openedNow ≡ openedList places o) × (results ≡ resultList room o))
 
-pub told-found : (places room : ℕ) (o : Outcome Found) (s : Found) → o ≡ answer s → (p : Progress) (openedNow results : List ℕ) → length openedNow ≡ places → length results ≡ room → Holds openedNow results p s
+pub told-found : (places room : ℕ) (o : Outcome Walked) (s : Walked) → o ≡ answer s → (p : Progress) (openedNow results : List ℕ) → length openedNow ≡ places → length results ≡ room → ListsHold openedNow results p s
     → Told places room o (record { number = 0; place = 0; matches = p .found; opened = p .used }) openedNow results
 unfolding searchAnswer openedList resultList numberOf placeOf countOf listOf
 told-found places room o s e p openedNow results long wide h = (
@@ -129,7 +129,7 @@ told-found places room o s e p openedNow results long wide h = (
   ),
 )
 
-pub told-refused : (places room : ℕ) (o : Outcome Found) (number place : ℕ) → o ≡ refused number place → (openedNow results : List ℕ) → openedNow ≡ zeros places → results ≡ zeros room
+pub told-refused : (places room : ℕ) (o : Outcome Walked) (number place : ℕ) → o ≡ refused number place → (openedNow results : List ℕ) → openedNow ≡ zeros places → results ≡ zeros room
     → Told places room o (record { number = number; place = place; matches = 0; opened = 0 }) openedNow results
 unfolding searchAnswer openedList resultList numberOf placeOf countOf listOf
 told-refused places room o number place e openedNow results clear clean =
@@ -147,7 +147,7 @@ module _ (opened₀ results₀ openedFirst resultsFirst : List ℕ) (clear : ope
   both-zeros = (clear ∙ ap zeros (sym first-long), clean ∙ ap zeros (sym first-wide))
 
   -- behind the walk they are as long as before
-  module _ (file : List ℕ) (q : Query) (r : Reached) (openedThen resultsThen : List ℕ) (long : length openedThen ≡ length openedFirst) (wide : length resultsThen ≡ length resultsFirst)
+  module _ (file : List ℕ) (q : Query) (r : WalkOutcome) (openedThen resultsThen : List ℕ) (long : length openedThen ≡ length openedFirst) (wide : length resultsThen ≡ length resultsFirst)
       (reached : Reaches r openedThen resultsThen (searchOf file q (length openedFirst) (length resultsFirst))) where
     searched : Reaches r openedThen resultsThen (searchOf file q (length opened₀) (length results₀))
     searched =
@@ -157,9 +157,9 @@ module _ (opened₀ results₀ openedFirst resultsFirst : List ℕ) (clear : ope
     pub search-went : (p : Progress) → r ≡ Going p
         → Told (length opened₀) (length results₀) (searchOf file q (length opened₀) (length results₀)) (record { number = 0; place = 0; matches = p .found; opened = p .used }) openedThen resultsThen
     unfolding Reaches
-    search-went p is = go (subst (λ (k : Reached). Reaches k openedThen resultsThen (searchOf file q (length opened₀) (length results₀))) is searched)
+    search-went p is = go (subst (λ (k : WalkOutcome). Reaches k openedThen resultsThen (searchOf file q (length opened₀) (length results₀))) is searched)
       where
-        go : (s : Found) × (searchOf file q (length opened₀) (length results₀) ≡ answer s) × Holds openedThen resultsThen p s
+        go : (s : Walked) × (searchOf file q (length opened₀) (length results₀) ≡ answer s) × ListsHold openedThen resultsThen p s
             → Told (length opened₀) (length results₀) (searchOf file q (length opened₀) (length results₀)) (record { number = 0; place = 0; matches = p .found; opened = p .used }) openedThen resultsThen
         go (s, e, h) = told-found (length opened₀) (length results₀) _ s e p openedThen resultsThen (long ∙ first-long) (wide ∙ first-wide) h
 
@@ -168,5 +168,5 @@ module _ (opened₀ results₀ openedFirst resultsFirst : List ℕ) (clear : ope
     unfolding Reaches
     search-stopped number place is openedLast resultsLast cleared cleaned =
         told-refused (length opened₀) (length results₀) _ number place
-        (subst (λ (k : Reached). Reaches k openedThen resultsThen (searchOf file q (length opened₀) (length results₀))) is searched)
+        (subst (λ (k : WalkOutcome). Reaches k openedThen resultsThen (searchOf file q (length opened₀) (length results₀))) is searched)
         openedLast resultsLast (cleared ∙ ap zeros (long ∙ first-long)) (cleaned ∙ ap zeros (wide ∙ first-wide))

@@ -8,17 +8,17 @@ use Prim.Native.Nat.{ℕ}
 use lib.ListN.{length}
 use Rattle.output_list.specs.OutputList.{withNumber}
 use Rattle.outcome.specs.Outcome.{Outcome, answer, _>>=_}
-use Rattle.outcome.specs.Items.{part}
+use Rattle.part.specs.Part.{part}
 use Rattle.outcome.proofs.OutcomeLaws.{bind-assoc}
 use Rattle.framing.specs.declared.Frame.{Frame}
 use Rattle.block.specs.Block.{Block}
 use Rattle.query.specs.Query.{Query}
 use Rattle.query.specs.Opening.{mayMatch}
-use Rattle.search.specs.declared.opening.Opening.{Opening}
-use Rattle.search.specs.declared.opening.Opening.the-variants.{Sound, Refused as NoBlock}
+use Rattle.search.specs.declared.opening.OpenOutcome.{OpenOutcome}
+use Rattle.search.specs.declared.opening.OpenOutcome.the-variants.{Answer as Sound, Refused as NoBlock}
 use Rattle.search.specs.declared.walk.Child.{Child}
-use Rattle.search.specs.declared.walk.Visited.the-variants.{Passed, Opened, Refused as NoVisit}
-use Rattle.search.specs.Search.{Found, openBlock}
+use Rattle.search.specs.declared.walk.VisitOutcome.the-variants.{Passed, Opened, Refused as NoVisit}
+use Rattle.search.specs.Search.{Walked, openBlock}
 use Rattle.search.specs.Steps.{boundOf, openingSaid, frameOf, visitSaid, admitted, visitOf, visitedList}
 
 -- what is said of a block's frame, where the block was opened
@@ -29,7 +29,7 @@ frame-some o = sym (bind-assoc o (λ b. answer (b .frame)) (λ f. answer (some f
 module _ (file : List ℕ) (q : Query) (c : Child) (r : Bool) (is : r ≡ mayMatch (part file (c .key) (c .length)) (boundOf file (c .upper)) q) where
   -- the bounds admit no match
   pub visit-passed : r ≡ false → (opened : List ℕ) (places from place level used : ℕ)
-      → ((s : Found) → used ≡ length (s .opened) → visitSaid Passed ≡ visitOf file q c places from place level s) × (opened ≡ visitedList file q c opened used)
+      → ((s : Walked) → used ≡ length (s .opened) → visitSaid Passed ≡ visitOf file q c places from place level s) × (opened ≡ visitedList file q c opened used)
   unfolding admitted visitSaid visitOf visitedList
   visit-passed h opened places from place level used =
       let never : admitted file q c ≡ false = sym is ∙ h in (
@@ -38,8 +38,8 @@ module _ (file : List ℕ) (q : Query) (c : Child) (r : Bool) (is : r ≡ mayMat
       )
 
   -- they admit one: the block is opened, and its offset goes on the list
-  module _ (yes : r ≡ true) (opened list : List ℕ) (from place level used : ℕ) (o : Opening)
-      (said : (s : Found) → used ≡ length (s .opened) → openingSaid o ≡ frameOf (openBlock file (length opened) from 19 place level level (c .offset) (c .size) s))
+  module _ (yes : r ≡ true) (opened list : List ℕ) (from place level used : ℕ) (o : OpenOutcome)
+      (said : (s : Walked) → used ≡ length (s .opened) → openingSaid o ≡ frameOf (openBlock file (length opened) from 19 place level level (c .offset) (c .size) s))
       (put : list ≡ withNumber opened used (c .offset)) where
     does : admitted file q c ≡ true
     unfolding admitted
@@ -49,7 +49,7 @@ module _ (file : List ℕ) (q : Query) (c : Child) (r : Bool) (is : r ≡ mayMat
     unfolding visitedList
     visited = put ∙ sym (ap (λ (t : Bool). cond t (withNumber opened used (c .offset)) opened) does)
 
-    visit-said : (s : Found) → used ≡ length (s .opened) → (openingSaid o >>= λ f. answer (some f)) ≡ visitOf file q c (length opened) from place level s
+    visit-said : (s : Walked) → used ≡ length (s .opened) → (openingSaid o >>= λ f. answer (some f)) ≡ visitOf file q c (length opened) from place level s
     unfolding visitOf
     visit-said s many =
         ap (λ (p : Outcome Frame). p >>= λ f. answer (some f)) (said s many)
@@ -57,11 +57,11 @@ module _ (file : List ℕ) (q : Query) (c : Child) (r : Bool) (is : r ≡ mayMat
         ∙ sym (ap (λ (t : Bool). cond t (openBlock file (length opened) from 19 place level level (c .offset) (c .size) s >>= λ b. answer (some (b .frame))) (answer none)) does)
 
     pub visit-opened : (f : Frame) → o ≡ Sound f
-        → ((s : Found) → used ≡ length (s .opened) → visitSaid (Opened f) ≡ visitOf file q c (length opened) from place level s) × (list ≡ visitedList file q c opened used)
+        → ((s : Walked) → used ≡ length (s .opened) → visitSaid (Opened f) ≡ visitOf file q c (length opened) from place level s) × (list ≡ visitedList file q c opened used)
     unfolding visitSaid openingSaid _>>=_
-    visit-opened f sound = (λ s many. sym (ap (λ (p : Opening). openingSaid p >>= λ g. answer (some g)) sound) ∙ visit-said s many, visited)
+    visit-opened f sound = (λ s many. sym (ap (λ (p : OpenOutcome). openingSaid p >>= λ g. answer (some g)) sound) ∙ visit-said s many, visited)
 
     pub visit-refused : (n p : ℕ) → o ≡ NoBlock n p
-        → ((s : Found) → used ≡ length (s .opened) → visitSaid (NoVisit n p) ≡ visitOf file q c (length opened) from place level s) × (list ≡ visitedList file q c opened used)
+        → ((s : Walked) → used ≡ length (s .opened) → visitSaid (NoVisit n p) ≡ visitOf file q c (length opened) from place level s) × (list ≡ visitedList file q c opened used)
     unfolding visitSaid openingSaid _>>=_
-    visit-refused n p h = (λ s many. sym (ap (λ (x : Opening). openingSaid x >>= λ g. answer (some g)) h) ∙ visit-said s many, visited)
+    visit-refused n p h = (λ s many. sym (ap (λ (x : OpenOutcome). openingSaid x >>= λ g. answer (some g)) h) ∙ visit-said s many, visited)

@@ -9,9 +9,9 @@ use native.Mathlib.Omega.{arith}
 use lib.ListN.{length, take}
 use lib.Seq.{length-take-le}
 use Rattle.outcome.specs.Outcome.{Outcome, answer, refused, _>>=_}
-use Rattle.outcome.specs.Items.{Step}
+use Rattle.items.specs.Items.{Step}
 use Rattle.outcome.proofs.OutcomeLaws.{answer-injective, refused-not-answer, bind⁻¹}
-use Rattle.outcome.proofs.ItemsLaws.{Row, row-end, row-more, items⇒row}
+use Rattle.items.proofs.ItemsLaws.{Row, row-end, row-more, items⇒row}
 use Rattle.framing.specs.declared.Frame.{Frame}
 use Rattle.payload.specs.Payload.{Entry, entryAt, entriesAt}
 use Rattle.block.specs.Block.{Block, blockIn}
@@ -21,13 +21,13 @@ use Rattle.payload.proofs.PayloadLaws.{entry⇒Entered}
 use Rattle.payload.proofs.ReadLaws.{payload⁻¹}
 use Rattle.query.specs.Query.{Query}
 use Rattle.query.specs.Opening.{mayMatch}
-use Rattle.reader.specs.Read.{matching}
+use Rattle.matching.specs.Matching.{matching}
 use Rattle.search.specs.declared.bound.Bound.{Bound}
 use Rattle.search.specs.declared.walk.Progress.{Progress}
-use Rattle.search.specs.declared.walk.Reached.{Reached}
-use Rattle.search.specs.declared.walk.Reached.the-variants.{Stopped}
-use Rattle.search.specs.Search.{Found, withOpened, nextKey, openBlock, addMatches, overEntries, walkOf}
-use Rattle.search.specs.Steps.{boundOf, BoundWithin, ChildWithin, StaysWithin, Holds, Reaches}
+use Rattle.search.specs.declared.walk.WalkOutcome.{WalkOutcome}
+use Rattle.search.specs.declared.walk.WalkOutcome.the-variants.{Refused as Stopped}
+use Rattle.search.specs.Search.{Walked, withOpened, nextKey, openBlock, addMatches, walkOver, walkOf}
+use Rattle.search.specs.Steps.{boundOf, BoundWithin, ChildWithin, StaysWithin, ListsHold, Reaches}
 
 -- ---- the entries of an index block
 
@@ -78,41 +78,41 @@ entries-read file at end place es (row-more s more h e r) before number p refuse
 
 module _ (file : List ℕ) (q : Query) (places room from : ℕ) where
   -- the walk down from a block that the index block at `at` names, where its bounds admit a match
-  unfoldable pub downFrom : (at level offset size : ℕ) → Option (List ℕ) → Found → Outcome Found
+  unfoldable pub downFrom : (at level offset size : ℕ) → Option (List ℕ) → Walked → Outcome Walked
   downFrom at level offset size bound t =
       openBlock file places from 19 at level level offset size t >>= λ c. walkOf file q places room from level c bound (withOpened offset t)
 
   -- through these entries of the index block at `at` above blocks of this level
-  unfoldable pub through : (at level : ℕ) → Option (List ℕ) → List Entry → Found → Outcome Found
-  through at level above es s = overEntries q (λ e bound t. downFrom at level (e .offset) (e .size) bound t) above es s
+  unfoldable pub through : (at level : ℕ) → Option (List ℕ) → List Entry → Walked → Outcome Walked
+  through at level above es s = walkOver q (λ e bound t. downFrom at level (e .offset) (e .size) bound t) above es s
 
-  pub through-none : (at level : ℕ) (above : Option (List ℕ)) (s : Found) → through at level above [] s ≡ answer s
-  unfolding through overEntries
+  pub through-none : (at level : ℕ) (above : Option (List ℕ)) (s : Walked) → through at level above [] s ≡ answer s
+  unfolding through walkOver
   through-none at level above s = refl
 
-  pub through-next : (at level : ℕ) (above : Option (List ℕ)) (e : Entry) (es : List Entry) (s : Found)
+  pub through-next : (at level : ℕ) (above : Option (List ℕ)) (e : Entry) (es : List Entry) (s : Walked)
       → through at level above (e ∷ es) s ≡ (cond (mayMatch (e .key .bytes) (nextKey es above) q) (downFrom at level (e .offset) (e .size) (nextKey es above) s) (answer s) >>= through at level above es)
-  unfolding through overEntries
+  unfolding through walkOver
   through-next at level above e es s = refl
 
-  walk-suc : (level : ℕ) (b : Block) (above : Option (List ℕ)) (s : Found) → (level ≡ 0 → ⊥) → walkOf file q places room from level b above s ≡ through (b .frame .start) (level - 1) above (b .entries) s
+  walk-suc : (level : ℕ) (b : Block) (above : Option (List ℕ)) (s : Walked) → (level ≡ 0 → ⊥) → walkOf file q places room from level b above s ≡ through (b .frame .start) (level - 1) above (b .entries) s
   unfolding through downFrom walkOf
   walk-suc zero b above s h = absurd (h refl)
   walk-suc (suc level) b above s h =
       let one : level ≡ suc level - 1 = omega arith in
       ap (λ (l : ℕ). through (b .frame .start) l above (b .entries) s) one
 
-  pub walk-through : (f : Frame) (b : Block) → blockIn file f ≡ answer b → (f .level ≡ 0 → ⊥) → f .level ≤ 63 → (above : Option (List ℕ)) (s : Found)
+  pub walk-through : (f : Frame) (b : Block) → blockIn file f ≡ answer b → (f .level ≡ 0 → ⊥) → f .level ≤ 63 → (above : Option (List ℕ)) (s : Walked)
       → walkOf file q places room from (f .level) b above s ≡ through (f .start) (f .level - 1) above (b .entries) s
   walk-through f b e index ordinary above s =
       walk-suc (f .level) b above s index ∙ ap (λ (g : Frame). through (g .start) (f .level - 1) above (b .entries) s) (block-frame file f b e index ordinary)
 
 -- what a way through its entries says of the walk down from an index block
 pub walk-ends : (file : List ℕ) (q : Query) (from : ℕ) (f : Frame) (level : ℕ) (above : Bound) (opened₀ results₀ : List ℕ) (p₀ : Progress) → (level ≡ 0 → ⊥) → level ≤ 63 → f .end ≤ length file
-    → (r : Reached) (openedNow resultsNow : List ℕ)
-    → ((all : List Entry) (s : Found) → Entries file (f .start) (f .end) (f .body + 1) all → Holds opened₀ results₀ p₀ s
+    → (r : WalkOutcome) (openedNow resultsNow : List ℕ)
+    → ((all : List Entry) (s : Walked) → Entries file (f .start) (f .end) (f .body + 1) all → ListsHold opened₀ results₀ p₀ s
     → Reaches r openedNow resultsNow (through file q (length opened₀) (length results₀) from (f .start) (level - 1) (boundOf file above) all s))
-    → (b : Block) (s : Found) → blockIn file f ≡ answer b → f .level ≡ level → Holds opened₀ results₀ p₀ s
+    → (b : Block) (s : Walked) → blockIn file f ≡ answer b → f .level ≡ level → ListsHold opened₀ results₀ p₀ s
     → Reaches r openedNow resultsNow (walkOf file q (length opened₀) (length results₀) from level b (boundOf file above) s)
 walk-ends file q from f level above opened₀ results₀ p₀ index ordinary inside r openedNow resultsNow ends b s e here h =
     let some : f .level ≡ 0 → ⊥ = λ z. index (sym here ∙ z) in
@@ -126,10 +126,10 @@ walk-ends file q from f level above opened₀ results₀ p₀ index ordinary ins
 -- ---- a data block
 
 pub walk-leaf : (file : List ℕ) (q : Query) (from : ℕ) (f : Frame) (level : ℕ) (above : Option (List ℕ)) (opened₀ results₀ : List ℕ) (p₀ : Progress) → level ≡ 0
-    → (r : Reached) (resultsNow : List ℕ)
-    → ((openedList : List ℕ) (b : Block) (s : Found) → blockIn file f ≡ answer b → f .level ≡ 0 → Holds openedList results₀ p₀ s
+    → (r : WalkOutcome) (resultsNow : List ℕ)
+    → ((openedList : List ℕ) (b : Block) (s : Walked) → blockIn file f ≡ answer b → f .level ≡ 0 → ListsHold openedList results₀ p₀ s
     → Reaches r openedList resultsNow (addMatches (length results₀) (matching q (b .records)) s))
-    → (b : Block) (s : Found) → blockIn file f ≡ answer b → f .level ≡ level → Holds opened₀ results₀ p₀ s
+    → (b : Block) (s : Walked) → blockIn file f ≡ answer b → f .level ≡ level → ListsHold opened₀ results₀ p₀ s
     → Reaches r opened₀ resultsNow (walkOf file q (length opened₀) (length results₀) from level b above s)
 unfolding walkOf
 walk-leaf file q from f level above opened₀ results₀ p₀ zeroth r resultsNow found b s e here h =

@@ -14,21 +14,22 @@ use Rattle.payload.specs.Payload.{Text, Entry}
 use Rattle.block.specs.Block.{Block, blockIn}
 use Rattle.query.specs.Query.{Query}
 use Rattle.query.specs.Opening.{mayMatch}
-use Rattle.reader.specs.Read.{matching, numbersOf}
-use Rattle.search.specs.declared.SearchAnswer.{SearchAnswer}
+use Rattle.matching.specs.Matching.{matching}
+use Rattle.matching.specs.ResultList.{numbersOf}
+use Rattle.search.specs.declared.Found.{Found}
 
 -- what the walk has opened and found so far: the offsets of the blocks, and the records, both in walk order
-pub record Found : Type 0 where
+pub record Walked : Type 0 where
   pub opened : List ℕ
   pub matches : List Text
 
-unfoldable pub nothing : Found
+unfoldable pub nothing : Walked
 nothing = record { opened = []; matches = [] }
 
-unfoldable pub withOpened : ℕ → Found → Found
+unfoldable pub withOpened : ℕ → Walked → Walked
 withOpened offset s = record { opened = s .opened ++ (offset ∷ []); matches = s .matches }
 
-unfoldable pub withMatch : Text → Found → Found
+unfoldable pub withMatch : Text → Walked → Walked
 withMatch r s = record { opened = s .opened; matches = s .matches ++ (r ∷ []) }
 
 -- The upper bound of an entry's block, where these entries follow it: the key of the next entry in the same index block; the last
@@ -52,47 +53,47 @@ namedBlock file from number place least most offset size = do
   fittingBlock file number place least most size f
 
 -- 26 if the opened list, of so many places, has none left for the block; then the block's tests
-unfoldable pub openBlock : (file : List ℕ) (places from number place least most offset size : ℕ) → Found → Outcome Block
+unfoldable pub openBlock : (file : List ℕ) (places from number place least most offset size : ℕ) → Walked → Outcome Block
 openBlock file places from number place least most offset size s =
     must (ltb (length (s .opened)) places) 26 0 >> namedBlock file from number place least most offset size
 
 -- the matches of a data block on a result list of so many places: 27 at a match that finds no two places left
-unfoldable pub addMatches : (room : ℕ) → List Text → Found → Outcome Found
+unfoldable pub addMatches : (room : ℕ) → List Text → Walked → Outcome Walked
 addMatches room [] s = answer s
 addMatches room (r ∷ rs) s = must (leb (2 * length (s .matches) + 2) room) 27 0 >> addMatches room rs (withMatch r s)
 
 -- the entries of an index block in order: the block of an entry is visited where its bounds admit a match; `above` is the index block's
 -- upper bound
-unfoldable pub overEntries : Query → (visit : Entry → Option (List ℕ) → Found → Outcome Found) (above : Option (List ℕ)) → List Entry → Found → Outcome Found
-overEntries q visit above [] s = answer s
-overEntries q visit above (e ∷ es) s =
-    cond (mayMatch (e .key .bytes) (nextKey es above) q) (visit e (nextKey es above) s) (answer s) >>= overEntries q visit above es
+unfoldable pub walkOver : Query → (visit : Entry → Option (List ℕ) → Walked → Outcome Walked) (above : Option (List ℕ)) → List Entry → Walked → Outcome Walked
+walkOver q visit above [] s = answer s
+walkOver q visit above (e ∷ es) s =
+    cond (mayMatch (e .key .bytes) (nextKey es above) q) (visit e (nextKey es above) s) (answer s) >>= walkOver q visit above es
 
 -- the walk, with so many places on the opened list and on the result list; blocks begin at `from`
 module _ (file : List ℕ) (q : Query) (places room from : ℕ) where
   -- down from an opened block of this level with this upper bound
-  unfoldable pub walkOf : (level : ℕ) (b : Block) (upper : Option (List ℕ)) → Found → Outcome Found
+  unfoldable pub walkOf : (level : ℕ) (b : Block) (upper : Option (List ℕ)) → Walked → Outcome Walked
   walkOf zero b upper s = addMatches room (matching q (b .records)) s
   walkOf (suc level) b upper s =
-      overEntries q
+      walkOver q
       (λ e bound t. openBlock file places from 19 (b .frame .start) level level (e .offset) (e .size) t >>= λ c. walkOf level c bound (withOpened (e .offset) t))
       upper (b .entries) s
 
   -- down from the root, which has no upper bound
-  unfoldable pub walkFrom : (root rootsize : ℕ) → Outcome Found
+  unfoldable pub walkFrom : (root rootsize : ℕ) → Outcome Walked
   walkFrom root rootsize = openBlock file places from 17 0 1 63 root rootsize nothing >>= λ b. walkOf (b .frame .level) b none (withOpened root nothing)
 
 -- the search: refusals 1 to 9, then the walk from the root that the header names
-unfoldable pub searchOf : (file : List ℕ) (q : Query) (places room : ℕ) → Outcome Found
+unfoldable pub searchOf : (file : List ℕ) (q : Query) (places room : ℕ) → Outcome Walked
 searchOf file q places room = headerOf file >>= λ h. walkFrom file q places room (blocksFrom h) (h .root) (h .rootsize)
 
 -- what `search` answers, and what its lists hold
-unfoldable pub searchAnswer : Outcome Found → SearchAnswer
+unfoldable pub searchAnswer : Outcome Walked → Found
 searchAnswer o =
     record { number = numberOf o; place = placeOf o; matches = countOf (λ s. length (s .matches)) o; opened = countOf (λ s. length (s .opened)) o }
 
-unfoldable pub openedList : ℕ → Outcome Found → List ℕ
+unfoldable pub openedList : ℕ → Outcome Walked → List ℕ
 openedList places o = listOf (λ s. s .opened) places o
 
-unfoldable pub resultList : ℕ → Outcome Found → List ℕ
+unfoldable pub resultList : ℕ → Outcome Walked → List ℕ
 resultList room o = listOf (λ s. numbersOf (s .matches)) room o

@@ -4,13 +4,14 @@ ghost use mathlib.Core.Path.{_≡_};
 ghost use mathlib.Core.List.{List};
 ghost use lib.ListN.{length, take};
 ghost use Rattle.outcome.specs.Outcome.{answer};
-ghost use Rattle.outcome.specs.Items.{itemsFrom, part};
+ghost use Rattle.items.specs.Items.{itemsFrom};
+ghost use Rattle.part.specs.Part.{part};
 ghost use Rattle.payload.specs.Payload.{Entry, entryAt};
 ghost use Rattle.query.specs.Query.{queryOf};
 ghost use Rattle.query.specs.Opening.{mayMatch};
 ghost use Rattle.search.specs.Search.{nextKey};
 ghost use Rattle.search.specs.Steps.{boundOf, BoundWithin};
-use payload::TextStep;
+use payload::TextOutcome;
 use payload::text_at;
 
 // An upper bound: where it is given, `size` bytes of the file from `at` on.
@@ -32,8 +33,8 @@ pub fn next_key(file: &[u8], end: usize, next: usize, above: Bound) -> Bound
     }
     let key = text_at(&file[..end], next);
     match key {
-        TextStep::Refused(_) => above,
-        TextStep::Text { at, length } => Bound {
+        TextOutcome::Refused(_) => above,
+        TextOutcome::Answer { at, length } => Bound {
             given: true,
             at,
             size: length,

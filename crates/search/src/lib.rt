@@ -13,17 +13,17 @@ mod opening;
 mod walk;
 
 use crate::bound::Bound;
-use crate::opening::Opening;
+use crate::opening::OpenOutcome;
 use crate::opening::open;
 use crate::walk::Progress;
-use crate::walk::Reached;
+use crate::walk::WalkOutcome;
 use crate::walk::walk;
 use header::Header;
 use header::HeaderOutcome;
 
 // Number and place of a refusal, both 0 without one, how many records match, and how many blocks were opened.
 #[repr(C)]
-pub struct SearchAnswer {
+pub struct Found {
     pub number: u64,
     pub place: u64,
     pub matches: u64,
@@ -40,7 +40,7 @@ pub fn search(
     prefix: &[u8],
     opened: &mut [u64],
     results: &mut [u64],
-) -> SearchAnswer
+) -> Found
     ensures { λ r. ⌜ r ≡ searchAnswer (searchOf (now (file .entry)) (queryOf (now (start .entry)) «stop_given» (now (stop .entry)) (now (prefix .entry))) (length (now (opened .entry))) (length (now (results .entry)))) ⌝ }
     ensures { λ r. ⌜ now (opened .exit) ≡ openedList (length (now (opened .entry))) (searchOf (now (file .entry)) (queryOf (now (start .entry)) «stop_given» (now (stop .entry)) (now (prefix .entry))) (length (now (opened .entry))) (length (now (results .entry)))) ⌝ }
     ensures { λ r. ⌜ now (results .exit) ≡ resultList (length (now (results .entry))) (searchOf (now (file .entry)) (queryOf (now (start .entry)) «stop_given» (now (stop .entry)) (now (prefix .entry))) (length (now (opened .entry))) (length (now (results .entry)))) ⌝ }
@@ -49,16 +49,16 @@ pub fn search(
     output_list::clear(results);
     let reached = search_file(file, start, stop_given, stop, prefix, opened, results);
     match reached {
-        Reached::Going(p) => SearchAnswer {
+        WalkOutcome::Answer(p) => Found {
             number: 0,
             place: 0,
             matches: p.found as u64,
             opened: p.used as u64,
         },
-        Reached::Stopped { number, place } => {
+        WalkOutcome::Refused { number, place } => {
             output_list::clear(opened);
             output_list::clear(results);
-            SearchAnswer {
+            Found {
                 number,
                 place,
                 matches: 0,
@@ -77,17 +77,17 @@ fn search_file(
     prefix: &[u8],
     opened: &mut [u64],
     results: &mut [u64],
-) -> Reached
+) -> WalkOutcome
     requires { ⌜ (now opened ≡ zeros (length (now opened))) × (now results ≡ zeros (length (now results))) ⌝ }
     ensures { λ r. ⌜ Reaches r (now (opened .exit)) (now (results .exit)) (searchOf (now (file .entry)) (queryOf (now (start .entry)) «stop_given» (now (stop .entry)) (now (prefix .entry))) (length (now (opened .entry))) (length (now (results .entry)))) ⌝ }
 {
     let made = Header::read(file);
     match made {
-        HeaderOutcome::Bad(n) => Reached::Stopped {
+        HeaderOutcome::Refused(n) => WalkOutcome::Refused {
             number: n,
             place: 0,
         },
-        HeaderOutcome::Good(h) => search_tree(
+        HeaderOutcome::Answer(h) => search_tree(
             file,
             h,
             start,
@@ -110,15 +110,15 @@ fn search_tree(
     prefix: &[u8],
     opened: &mut [u64],
     results: &mut [u64],
-) -> Reached
+) -> WalkOutcome
     requires { ⌜ (length (now file) ≤ 2 ^ 30) × (blocksFrom h ≤ length (now file)) × (now opened ≡ zeros (length (now opened))) × (now results ≡ zeros (length (now results))) ⌝ }
     ensures { λ r. ⌜ Reaches r (now (opened .exit)) (now (results .exit)) (walkFrom (now (file .entry)) (queryOf (now (start .entry)) «stop_given» (now (stop .entry)) (now (prefix .entry))) (length (now (opened .entry))) (length (now (results .entry))) (blocksFrom h) (h .root) (h .rootsize)) ⌝ }
 {
     let from = Header::AROUND + h.extent as usize;
     let root = open(file, from, 17, 0, 1, 63, h.root, h.rootsize, opened, 0);
     match root {
-        Opening::Refused { number, place } => Reached::Stopped { number, place },
-        Opening::Sound(f) => {
+        OpenOutcome::Refused { number, place } => WalkOutcome::Refused { number, place },
+        OpenOutcome::Answer(f) => {
             let none = Bound {
                 given: false,
                 at: 0,

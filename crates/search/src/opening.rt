@@ -1,10 +1,10 @@
-// Opening a block: every test of one block.
+// OpenOutcome a block: every test of one block.
 ghost use Prim.Native.Nat.{_≤_, _<_};
 ghost use mathlib.Core.Path.{_≡_};
 ghost use lib.ListN.{length};
 ghost use mathlib.Core.List.{List};
 ghost use Rattle.output_list.specs.OutputList.{withNumber};
-ghost use Rattle.search.specs.Search.{Found, fittingBlock, namedBlock, openBlock};
+ghost use Rattle.search.specs.Search.{Walked, fittingBlock, namedBlock, openBlock};
 ghost use Rattle.search.specs.Steps.{openingSaid, frameOf};
 use block::pass::BlockOutcome;
 use block::pass::block_in;
@@ -12,9 +12,9 @@ use framing::Frame;
 use framing::FrameOutcome;
 use framing::sound_frame_at;
 
-pub enum Opening {
+pub enum OpenOutcome {
     // The frame of a block that passed every test.
-    Sound(Frame),
+    Answer(Frame),
     Refused { number: u64, place: u64 },
 }
 
@@ -28,22 +28,22 @@ pub fn named_block(
     most: u8,
     offset: u64,
     size: u64,
-) -> Opening
+) -> OpenOutcome
     ensures { λ r. ⌜ openingSaid r ≡ frameOf (namedBlock (now (file .entry)) from number place least most offset size) ⌝ }
 {
     if offset < from as u64 {
-        return Opening::Refused { number, place };
+        return OpenOutcome::Refused { number, place };
     }
     if file.len() as u64 <= offset {
-        return Opening::Refused { number, place };
+        return OpenOutcome::Refused { number, place };
     }
     let found = sound_frame_at(file, offset as usize);
     match found {
-        FrameOutcome::Refused(n) => Opening::Refused {
+        FrameOutcome::Refused(n) => OpenOutcome::Refused {
             number: n,
             place: offset,
         },
-        FrameOutcome::Found(f) => fitting_block(file, f, number, place, least, most, size),
+        FrameOutcome::Answer(f) => fitting_block(file, f, number, place, least, most, size),
     }
 }
 
@@ -56,27 +56,27 @@ fn fitting_block(
     least: u8,
     most: u8,
     size: u64,
-) -> Opening
+) -> OpenOutcome
     requires { ⌜ (f .body < f .end) × (f .end ≤ length (now file)) ⌝ }
     ensures { λ r. ⌜ openingSaid r ≡ frameOf (fittingBlock (now (file .entry)) number place least most size f) ⌝ }
 {
     let start = f.start as u64;
     if f.size as u64 != size {
-        return Opening::Refused { number, place };
+        return OpenOutcome::Refused { number, place };
     }
     if f.level < least {
-        return Opening::Refused { number, place };
+        return OpenOutcome::Refused { number, place };
     }
     if most < f.level {
-        return Opening::Refused { number, place };
+        return OpenOutcome::Refused { number, place };
     }
     let inside = block_in(file, f);
     match inside {
-        BlockOutcome::Refused(n) => Opening::Refused {
+        BlockOutcome::Refused(n) => OpenOutcome::Refused {
             number: n,
             place: start,
         },
-        BlockOutcome::Sound { frame, records: _ } => Opening::Sound(frame),
+        BlockOutcome::Answer { frame, records: _ } => OpenOutcome::Answer(frame),
     }
 }
 
@@ -92,12 +92,12 @@ pub fn open(
     size: u64,
     opened: &mut [u64],
     used: usize,
-) -> Opening
-    ensures { λ r. ⌜ ((s : Found) → used ≡ length (s .opened) → openingSaid r ≡ frameOf (openBlock (now (file .entry)) (length (now (opened .entry))) from number place least most offset size s)) ⌝ }
+) -> OpenOutcome
+    ensures { λ r. ⌜ ((s : Walked) → used ≡ length (s .opened) → openingSaid r ≡ frameOf (openBlock (now (file .entry)) (length (now (opened .entry))) from number place least most offset size s)) ⌝ }
     ensures { λ _. ⌜ now (opened .exit) ≡ withNumber (now (opened .entry)) used offset ⌝ }
 {
     if !output_list::put(opened, used, offset) {
-        return Opening::Refused {
+        return OpenOutcome::Refused {
             number: 26,
             place: 0,
         };

@@ -6,18 +6,18 @@ ghost use lib.ListN.{length};
 ghost use Rattle.outcome.specs.Outcome.{answer};
 ghost use Rattle.block.specs.Block.{Block, blockIn};
 ghost use Rattle.query.specs.Query.{queryOf};
-ghost use Rattle.reader.specs.Read.{matching};
-ghost use Rattle.search.specs.Search.{Found, addMatches, walkOf};
+ghost use Rattle.matching.specs.Matching.{matching};
+ghost use Rattle.search.specs.Search.{Walked, addMatches, walkOf};
 ghost use Rattle.search.specs.Steps as steps;
 use crate::bound::Bound;
 use crate::bound::admits;
 use crate::bound::next_key;
-use crate::opening::Opening;
+use crate::opening::OpenOutcome;
 use crate::opening::open;
 use framing::Frame;
-use payload::EntryStep;
+use matching::collect_records;
+use payload::EntryOutcome;
 use payload::entry_at;
-use reader::collect::collect_records;
 
 // How many blocks were opened and how many matches were found.
 pub struct Progress {
@@ -25,9 +25,9 @@ pub struct Progress {
     pub found: usize,
 }
 
-pub enum Reached {
-    Going(Progress),
-    Stopped { number: u64, place: u64 },
+pub enum WalkOutcome {
+    Answer(Progress),
+    Refused { number: u64, place: u64 },
 }
 
 // The block that an entry names: where the key stands and how long it is, the upper bound, the block's offset and full size.
@@ -39,7 +39,7 @@ pub struct Child {
     pub size: u64,
 }
 
-pub enum Visited {
+pub enum VisitOutcome {
     // The bounds admit no match.
     Passed,
     // The frame of a block that passed every test.
@@ -60,16 +60,16 @@ fn visit(
     prefix: &[u8],
     opened: &mut [u64],
     used: usize,
-) -> Visited
+) -> VisitOutcome
     requires { ⌜ steps.ChildWithin (now file) child ⌝ }
-    ensures { λ r. ⌜ ((s : Found) → used ≡ length (s .opened) → steps.visitSaid r ≡ steps.visitOf (now (file .entry)) (queryOf (now (start .entry)) «stop_given» (now (stop .entry)) (now (prefix .entry))) child (length (now (opened .entry))) from place level s) ⌝ }
+    ensures { λ r. ⌜ ((s : Walked) → used ≡ length (s .opened) → steps.visitSaid r ≡ steps.visitOf (now (file .entry)) (queryOf (now (start .entry)) «stop_given» (now (stop .entry)) (now (prefix .entry))) child (length (now (opened .entry))) from place level s) ⌝ }
     ensures { λ _. ⌜ now (opened .exit) ≡ steps.visitedList (now (file .entry)) (queryOf (now (start .entry)) «stop_given» (now (stop .entry)) (now (prefix .entry))) child (now (opened .entry)) used ⌝ }
 {
     let key = child.key;
     let length = child.length;
     let upper = child.upper;
     if !admits(file, key, length, upper, start, stop_given, stop, prefix) {
-        return Visited::Passed;
+        return VisitOutcome::Passed;
     }
     let offset = child.offset;
     let size = child.size;
@@ -86,8 +86,8 @@ fn visit(
         used,
     );
     match opening {
-        Opening::Sound(f) => Visited::Opened(f),
-        Opening::Refused { number, place } => Visited::Refused { number, place },
+        OpenOutcome::Answer(f) => VisitOutcome::Opened(f),
+        OpenOutcome::Refused { number, place } => VisitOutcome::Refused { number, place },
     }
 }
 
@@ -101,10 +101,10 @@ fn find(
     prefix: &[u8],
     results: &mut [u64],
     p: Progress,
-) -> Reached
+) -> WalkOutcome
     requires { ⌜ (length (now file) ≤ 2 ^ 30) × (f .body < f .end) × (f .end ≤ length (now file)) × (Prim.Native.Nat._*_ 2 (p .found) ≤ length (now results)) ⌝ }
     ensures { λ r. ⌜ ((openedList : List ℕ) → p .used ≤ length openedList → steps.StaysWithin r (length openedList) (length (now (results .entry)))) ⌝ }
-    ensures { λ r. ⌜ ((openedList : List ℕ) (b : Block) (s : Found) → blockIn (now (file .entry)) f ≡ answer b → f .level ≡ 0 → steps.Holds openedList (now (results .entry)) p s → steps.Reaches r openedList (now (results .exit)) (addMatches (length (now (results .entry))) (matching (queryOf (now (start .entry)) «stop_given» (now (stop .entry)) (now (prefix .entry))) (b .records)) s)) ⌝ }
+    ensures { λ r. ⌜ ((openedList : List ℕ) (b : Block) (s : Walked) → blockIn (now (file .entry)) f ≡ answer b → f .level ≡ 0 → steps.ListsHold openedList (now (results .entry)) p s → steps.Reaches r openedList (now (results .exit)) (addMatches (length (now (results .entry))) (matching (queryOf (now (start .entry)) «stop_given» (now (stop .entry)) (now (prefix .entry))) (b .records)) s)) ⌝ }
 {
     let used = p.used;
     let found = p.found;
@@ -121,12 +121,12 @@ fn find(
         found,
     );
     if results.len() / 2 < many {
-        return Reached::Stopped {
+        return WalkOutcome::Refused {
             number: 27,
             place: 0,
         };
     }
-    Reached::Going(Progress { used, found: many })
+    WalkOutcome::Answer(Progress { used, found: many })
 }
 
 // Walks down from an opened block of this level with the upper bound `above`, behind what was opened and found before.
@@ -143,10 +143,10 @@ pub fn walk(
     opened: &mut [u64],
     results: &mut [u64],
     p: Progress,
-) -> Reached
+) -> WalkOutcome
     requires { ⌜ (length (now file) ≤ 2 ^ 30) × (f .body < f .end) × (f .end ≤ length (now file)) × (level ≤ 63) × steps.BoundWithin (now file) above × steps.HasRoom p (length (now opened)) (length (now results)) ⌝ }
     ensures { λ r. ⌜ steps.StaysWithin r (length (now (opened .entry))) (length (now (results .entry))) ⌝ }
-    ensures { λ r. ⌜ ((b : Block) (s : Found) → blockIn (now (file .entry)) f ≡ answer b → f .level ≡ level → steps.Holds (now (opened .entry)) (now (results .entry)) p s → steps.Reaches r (now (opened .exit)) (now (results .exit)) (walkOf (now (file .entry)) (queryOf (now (start .entry)) «stop_given» (now (stop .entry)) (now (prefix .entry))) (length (now (opened .entry))) (length (now (results .entry))) from level b (steps.boundOf (now (file .entry)) above) s)) ⌝ }
+    ensures { λ r. ⌜ ((b : Block) (s : Walked) → blockIn (now (file .entry)) f ≡ answer b → f .level ≡ level → steps.ListsHold (now (opened .entry)) (now (results .entry)) p s → steps.Reaches r (now (opened .exit)) (now (results .exit)) (walkOf (now (file .entry)) (queryOf (now (start .entry)) «stop_given» (now (stop .entry)) (now (prefix .entry))) (length (now (opened .entry))) (length (now (results .entry))) from level b (steps.boundOf (now (file .entry)) above) s)) ⌝ }
 {
     if level == 0 {
         return find(file, f, start, stop_given, stop, prefix, results, p);
@@ -158,8 +158,8 @@ pub fn walk(
     while place < end {
         let step = entry_at(&file[..end], place);
         match step {
-            EntryStep::Refused(_) => return Reached::Going(so_far),
-            EntryStep::Entry {
+            EntryOutcome::Refused(_) => return WalkOutcome::Answer(so_far),
+            EntryOutcome::Answer {
                 key,
                 length,
                 offset,
@@ -190,12 +190,12 @@ pub fn walk(
                     used,
                 );
                 match visited {
-                    Visited::Passed => {},
-                    Visited::Refused { number, place: p } => return Reached::Stopped {
+                    VisitOutcome::Passed => {},
+                    VisitOutcome::Refused { number, place: p } => return WalkOutcome::Refused {
                         number,
                         place: p,
                     },
-                    Visited::Opened(c) => {
+                    VisitOutcome::Opened(c) => {
                         let p = Progress {
                             used: used + 1,
                             found: so_far.found,
@@ -215,11 +215,9 @@ pub fn walk(
                             p,
                         );
                         match reached {
-                            Reached::Stopped { number, place: p } => return Reached::Stopped {
-                                number,
-                                place: p,
-                            },
-                            Reached::Going(p) => {
+                            WalkOutcome::Refused { number, place: p } =>
+                                return WalkOutcome::Refused { number, place: p },
+                            WalkOutcome::Answer(p) => {
                                 so_far = p;
                             },
                         }
@@ -228,5 +226,5 @@ pub fn walk(
             },
         }
     }
-    Reached::Going(so_far)
+    WalkOutcome::Answer(so_far)
 }

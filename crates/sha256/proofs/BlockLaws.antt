@@ -8,8 +8,8 @@ use native.Mathlib.Numerals.{add-one}
 use native.Mathlib.Omega.{arith}
 use lib.ListN.{length, take, drop, getD, set, length-append, length-take, length-drop, length-set, drop-of-length-le, List·getD-append}
 use lib.Seq.{drop-cons, drop-drop, getD-take, take-all, take-suc, take-suc-set, take-append-le, drop-append-le}
-use Rattle.fixed_width.specs.FixedWidth.{bigEndian, bigBytes, littleBytes}
-use Rattle.fixed_width.proofs.FixedWidthLaws.{bigBytes-length}
+use Rattle.endian.specs.FixedWidth.{bigEndian, bigBytes, littleBytes}
+use Rattle.endian.proofs.FixedWidthLaws.{bigBytes-length}
 use Rattle.sha256.specs.declared.Words.{Words}
 use Rattle.sha256.specs.Sha256.{K, wordsOf, nextWord, extended, rounds, round, compress, compressBlocks, over, digest, add, σ₀, σ₁}
 

@@ -8,7 +8,7 @@ use native.Mathlib.Numerals.{add-one, one-add}
 use native.Mathlib.Omega.{arith}
 use lib.ListN.{length, take, getD, set, replicate, length-append, length-replicate, drop-of-length-le, List·getD-append}
 use lib.Seq.{paste, paste-suc, take-paste, take-length, take-all, getD-append-add}
-use Rattle.fixed_width.specs.FixedWidth.{bigBytes}
+use Rattle.endian.specs.FixedWidth.{bigBytes}
 use Rattle.sha256.specs.Sha256.{padding}
 
 -- A turn and the end of a loop that fills

@@ -4,7 +4,7 @@ use Prim.Native.Nat.{ℕ, zero, suc, _+_, _-_, _*_, _/_, _%_, _^_}
 use mathlib.Core.List.{List, [], _∷_, _++_}
 use lib.ListN.{length, take, drop, getD, replicate}
 use lib.Bits.{bitAnd, bitOr, bitXor}
-use Rattle.fixed_width.specs.FixedWidth.{bigEndian, bigBytes}
+use Rattle.endian.specs.FixedWidth.{bigEndian, bigBytes}
 use Rattle.sha256.specs.declared.Words.{Words}
 
 -- Operations on words (2.2.2, 3.2)

@@ -20,7 +20,7 @@ fn first_words(block: &[u8]) -> [u32; 64]
     let mut w = [0u32; 64];
     let mut t = 0;
     while t < 16 {
-        w[t] = fixed_width::be32_at(block, 4 * t);
+        w[t] = endian::be32_at(block, 4 * t);
         t += 1;
     }
     w
@@ -143,7 +143,7 @@ pub fn digest(hash: Words) -> [u8; 32]
     let mut out = [0u8; 32];
     let mut i = 0;
     while i < 32 {
-        let bytes = fixed_width::be32_bytes(words[i / 4]);
+        let bytes = endian::be32_bytes(words[i / 4]);
         out[i] = bytes[i % 4];
         i += 1;
     }

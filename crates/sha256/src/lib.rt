@@ -124,7 +124,7 @@ fn padding(count: u64) -> Tail
     ensures { λ r. ⌜ (r .len ≤ 72) × (take (r .len) (r .bytes) ≡ sha.padding count) ⌝ }
 {
     let zeros = ((119 - count % 64) % 64) as usize;
-    let bits = fixed_width::be64_bytes(count % 2305843009213693952 * 8);
+    let bits = endian::be64_bytes(count % 2305843009213693952 * 8);
     padded(zeros, bits)
 }
 

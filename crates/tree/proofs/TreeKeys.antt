@@ -6,15 +6,15 @@ use mathlib.Core.List.{List, _∷_, _++_, map, map-append, append-nil, List·Mem
 use Prim.Native.Nat.{ℕ}
 use lib.Dec.{ltb}
 use borrow.Author.Tests.{lt-ltb, le-ltb}
-use Rattle.byte_order.specs.Order.{atMost}
-use Rattle.outcome.specs.Lists.{keep, all}
-use Rattle.outcome.proofs.ListsLaws.{Ascending, keep-append}
-use Rattle.outcome.proofs.RisingLaws.{ascending-right, ascending-apart, ascending-least}
-use Rattle.outcome.proofs.CountLaws.{keep-all, keep-none}
+use Rattle.byte_string.specs.Order.{atMost}
+use Rattle.lists.specs.Lists.{keep, all}
+use Rattle.lists.proofs.ListsLaws.{Ascending, keep-append}
+use Rattle.lists.proofs.RisingLaws.{ascending-right, ascending-apart, ascending-least}
+use Rattle.lists.proofs.CountLaws.{keep-all, keep-none}
 use Rattle.payload.specs.Payload.{Text}
 use Rattle.block.specs.Block.{Block}
 use Rattle.block.specs.Survey.{recordsOf}
-use Rattle.tree.specs.Tree.{levelAt, leaves, under, recordsBefore, keyFits}
+use Rattle.tree.specs.Tree.{blockLevel, leaves, under, recordsBefore, keyFits}
 use Rattle.tree.proofs.TreeLaws.{Tree}
 use Rattle.tree.proofs.TreeWays.{Way, pre, post, records-cut}
 
@@ -42,7 +42,7 @@ front-kept front first back rise =
         le-ltb (r .at) (first .at)
         (ascending-least (first .at) (map (λ u. u .at) back) (ascending-right (map (λ u. u .at) front) (map (λ u. u .at) (first ∷ back)) offsets) (r .at) (Memᴰ·map (λ (u : Text). u .at) m))
 
-module _ (bs : List Block) (root : ℕ) (t : Tree bs root) (walked : Ascending (leaves bs (levelAt bs root) root)) (placed : Ascending (map (λ r. r .at) (recordsOf bs))) where
+module _ (bs : List Block) (root : ℕ) (t : Tree bs root) (walked : Ascending (leaves bs (blockLevel bs root) root)) (placed : Ascending (map (λ r. r .at) (recordsOf bs))) where
   -- the records of the file before the first one that a block leads to
   pub before-first : (level at : ℕ) (w : Way bs root level at) (first : Text) (rest : List Text) → under bs level at ≡ first ∷ rest → recordsBefore bs (first .at) ≡ pre bs root level at w
   unfolding recordsBefore

@@ -9,13 +9,13 @@ use native.Mathlib.Omega.{arith}
 use lib.Dec.{eqb, leb}
 use lib.ListN.{length}
 use borrow.Author.Tests.{eqb-true, eq-eqb, ne-eqb, leb-true, leb-false}
-use Rattle.outcome.specs.Lists.{keep}
-use Rattle.outcome.proofs.ListsLaws.{Ascending, ascending-unique, below-member, flatMap-member, member-flatMap}
-use Rattle.outcome.proofs.ListsLaws.{keep-member, member-keep}
-use Rattle.outcome.proofs.RisingLaws.{some-member, member-some, choose-one}
+use Rattle.lists.specs.Lists.{keep}
+use Rattle.lists.proofs.ListsLaws.{Ascending, ascending-unique, below-member, flatMap-member, member-flatMap}
+use Rattle.lists.proofs.ListsLaws.{keep-member, member-keep}
+use Rattle.lists.proofs.RisingLaws.{some-member, member-some, choose-one}
 use Rattle.payload.specs.Payload.{Entry}
 use Rattle.block.specs.Block.{Block}
-use Rattle.tree.specs.Tree.{entriesOf, recordsAt, levelAt, namings, leaves}
+use Rattle.tree.specs.Tree.{blockEntries, blockRecords, blockLevel, namings, leaves}
 
 -- The ordinary blocks of the list bs form one tree with its root at an offset: what refusals 10 to 17, 19 and 20 leave.
 pub record Tree (bs : List Block) (root : ℕ) : Type 0 where
@@ -37,13 +37,13 @@ pub record Tree (bs : List Block) (root : ℕ) : Type 0 where
   pub rooted : (b : Block) × List·Memᴰ b bs × (b .frame .start ≡ root) × (1 ≤ b .frame .level) × (b .frame .level ≤ 63)
 
 -- the level of a block found by its start
-level-in : (bs : List Block) → Ascending (map (λ b. b .frame .start) bs) → (b : Block) → List·Memᴰ b bs → levelAt bs (b .frame .start) ≡ b .frame .level
-unfolding Ascending levelAt
+level-in : (bs : List Block) → Ascending (map (λ b. b .frame .start) bs) → (b : Block) → List·Memᴰ b bs → blockLevel bs (b .frame .start) ≡ b .frame .level
+unfolding Ascending blockLevel
 level-in [] h b m = absurd (List·Memᴰ·not-nil m)
 level-in (c ∷ bs) h b m = go (List·Memᴰ·cases-cons m) (λ (i : List·Memᴰ b bs). level-in bs (h .1) b i)
   where
-    go : (b ≡ c) ⊎ List·Memᴰ b bs → (List·Memᴰ b bs → levelAt bs (b .frame .start) ≡ b .frame .level)
-        → cond (eqb (c .frame .start) (b .frame .start)) (c .frame .level) (levelAt bs (b .frame .start)) ≡ b .frame .level
+    go : (b ≡ c) ⊎ List·Memᴰ b bs → (List·Memᴰ b bs → blockLevel bs (b .frame .start) ≡ b .frame .level)
+        → cond (eqb (c .frame .start) (b .frame .start)) (c .frame .level) (blockLevel bs (b .frame .start)) ≡ b .frame .level
     go (inl same) rest = rw (eq-eqb (c .frame .start) (b .frame .start) (ap (λ (d : Block). d .frame .start) (sym same))) (ap (λ (d : Block). d .frame .level) (sym same))
     go (inr inside) rest =
         let later = below-member (λ (d : Block). d .frame .start) (c .frame .start) bs (h .0) b inside in
@@ -52,19 +52,19 @@ level-in (c ∷ bs) h b m = go (List·Memᴰ·cases-cons m) (λ (i : List·Mem�
 module _ (bs : List Block) (root : ℕ) (t : Tree bs root) where
   -- ---- what stands at an offset
 
-  pub entries-at : (b : Block) → List·Memᴰ b bs → entriesOf bs (b .frame .start) ≡ b .entries
-  unfolding entriesOf
+  pub entries-at : (b : Block) → List·Memᴰ b bs → blockEntries bs (b .frame .start) ≡ b .entries
+  unfolding blockEntries
   entries-at b m = choose-one (λ c. c .frame .start) (λ c. c .entries) bs (t .rise) b m
 
-  pub records-at : (b : Block) → List·Memᴰ b bs → recordsAt bs (b .frame .start) ≡ b .records
-  unfolding recordsAt
+  pub records-at : (b : Block) → List·Memᴰ b bs → blockRecords bs (b .frame .start) ≡ b .records
+  unfolding blockRecords
   records-at b m = choose-one (λ c. c .frame .start) (λ c. c .records) bs (t .rise) b m
 
   -- blocks with the same start are the same
   pub same-start : (b c : Block) → List·Memᴰ b bs → List·Memᴰ c bs → b .frame .start ≡ c .frame .start → b ≡ c
   same-start b c m n e = ascending-unique (λ d. d .frame .start) bs (t .rise) b c m n e
 
-  pub level-at : (b : Block) → List·Memᴰ b bs → levelAt bs (b .frame .start) ≡ b .frame .level
+  pub level-at : (b : Block) → List·Memᴰ b bs → blockLevel bs (b .frame .start) ≡ b .frame .level
   level-at b m = level-in bs (t .rise) b m
 
   -- ---- up and down
@@ -92,7 +92,7 @@ module _ (bs : List Block) (root : ℕ) (t : Tree bs root) where
     pub sized : block .frame .size ≡ e .size
     pub leveled : block .frame .level ≡ level
 
-  pub child : (b : Block) → List·Memᴰ b bs → (level : ℕ) → b .frame .level ≡ suc level → (e : Entry) → List·Memᴰ e (entriesOf bs (b .frame .start)) → Child level e
+  pub child : (b : Block) → List·Memᴰ b bs → (level : ℕ) → b .frame .level ≡ suc level → (e : Entry) → List·Memᴰ e (blockEntries bs (b .frame .start)) → Child level e
   child b m level p e i =
       let n = t .named b m e (subst (List·Memᴰ e) (entries-at b m) i) in
       let lower = n .4 in
@@ -143,7 +143,7 @@ module _ (bs : List Block) (root : ℕ) (t : Tree bs root) where
   unfolding leaves
   leaves-data zero b m p o i = (b, m, sym (List·Memᴰ·eq-of-singleton i), p)
   leaves-data (suc level) b m p o i =
-      let f = flatMap-member (λ e. leaves bs level (e .offset)) (entriesOf bs (b .frame .start)) o i in
+      let f = flatMap-member (λ e. leaves bs level (e .offset)) (blockEntries bs (b .frame .start)) o i in
       let c = child b m level p (f .0) (f .1) in
       leaves-data level (c .block) (c .member) (c .leveled) o (subst (λ (n : ℕ). List·Memᴰ o (leaves bs level n)) (sym (c .starts)) (f .2))
 
@@ -156,4 +156,4 @@ module _ (bs : List Block) (root : ℕ) (t : Tree bs root) where
       let i = subst (List·Memᴰ (s .0)) (sym (entries-at b m)) (s .1) in
       let c = child b m level p (s .0) i in
       let below = leaves-some level (c .block) (c .member) (c .leveled) (omega arith) in
-      (below .0, member-flatMap (λ e. leaves bs level (e .offset)) (entriesOf bs (b .frame .start)) (s .0) (below .0) i (subst (λ (n : ℕ). List·Memᴰ (below .0) (leaves bs level n)) (c .starts) (below .1)))
+      (below .0, member-flatMap (λ e. leaves bs level (e .offset)) (blockEntries bs (b .frame .start)) (s .0) (below .0) i (subst (λ (n : ℕ). List·Memᴰ (below .0) (leaves bs level n)) (c .starts) (below .1)))

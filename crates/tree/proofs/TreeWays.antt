@@ -7,14 +7,14 @@ use Prim.Native.Nat.{ℕ, zero, suc, _-_, _≤_}
 use native.Mathlib.Omega.{arith}
 use lib.Dec.{eqb}
 use borrow.Author.Tests.{eqb-true, eqb-false, eq-eqb}
-use Rattle.outcome.specs.Lists.{keep}
-use Rattle.outcome.proofs.ListsLaws.{Ascending, flatMap-append}
-use Rattle.outcome.proofs.ListsLaws.{keep-member, member-keep}
-use Rattle.outcome.proofs.RisingLaws.{member-split, split-member, flatMap-same, flatMap-map, flatMap-keep, flatMap-split, ascending-keep, ascending-same, ascending-left, ascending-right}
+use Rattle.lists.specs.Lists.{keep}
+use Rattle.lists.proofs.ListsLaws.{Ascending, flatMap-append}
+use Rattle.lists.proofs.ListsLaws.{keep-member, member-keep}
+use Rattle.lists.proofs.RisingLaws.{member-split, split-member, flatMap-same, flatMap-map, flatMap-keep, flatMap-split, ascending-keep, ascending-same, ascending-left, ascending-right}
 use Rattle.payload.specs.Payload.{Text, Entry}
 use Rattle.block.specs.Block.{Block, isData}
 use Rattle.block.specs.Survey.{recordsOf}
-use Rattle.tree.specs.Tree.{entriesOf, recordsAt, levelAt, leaves, under}
+use Rattle.tree.specs.Tree.{blockEntries, blockRecords, blockLevel, leaves, under}
 use Rattle.tree.proofs.TreeLaws.{Tree, entries-at, records-at, level-at, child, Parent, parent, leaves-data}
 
 regroup : (a f l b z : List ℕ) → a ++ ((f ++ (l ++ b)) ++ z) ≡ (a ++ f) ++ (l ++ (b ++ z))
@@ -25,9 +25,9 @@ regroup a f l b z = simp append-assoc
 -- A way down from the root to the block of this level at an offset: the root itself, or on from an index block by an entry, which stands
 -- in the block between the entries `front` and `back`.
 pub data Way (bs : List Block) (root : ℕ) : (level at : ℕ) → Type 0 where
-  at-root : {level at : ℕ} → level ≡ levelAt bs root → at ≡ root → Way bs root level at
+  at-root : {level at : ℕ} → level ≡ blockLevel bs root → at ≡ root → Way bs root level at
   by-entry : {level at : ℕ} (upper : ℕ) (front : List Entry) (e : Entry) (back : List Entry) → Way bs root (suc level) upper
-      → entriesOf bs upper ≡ front ++ (e ∷ back) → at ≡ e .offset → Way bs root level at
+      → blockEntries bs upper ≡ front ++ (e ∷ back) → at ≡ e .offset → Way bs root level at
 
 -- a turn of a way: the entry that is taken, and those in front of it and behind it
 pub record Turn : Type 0 where
@@ -51,33 +51,33 @@ module _ (bs : List Block) (root : ℕ) where
   leavesBehind level at (by-entry upper front e back w p q) = flatMap (λ x. leaves bs level (x .offset)) back ++ leavesBehind (suc level) upper w
 
   -- the whole walk is what it meets before the block, under it and behind it
-  pub leaves-cut : (level at : ℕ) (w : Way bs root level at) → leaves bs (levelAt bs root) root ≡ leavesBefore level at w ++ (leaves bs level at ++ leavesBehind level at w)
+  pub leaves-cut : (level at : ℕ) (w : Way bs root level at) → leaves bs (blockLevel bs root) root ≡ leavesBefore level at w ++ (leaves bs level at ++ leavesBehind level at w)
   unfolding leaves leavesBefore leavesBehind
-  leaves-cut level at (at-root p q) = sym (append-nil (leaves bs level at) ∙ ap (λ (n : ℕ). leaves bs n at) p ∙ ap (leaves bs (levelAt bs root)) q)
+  leaves-cut level at (at-root p q) = sym (append-nil (leaves bs level at) ∙ ap (λ (n : ℕ). leaves bs n at) p ∙ ap (leaves bs (blockLevel bs root)) q)
   leaves-cut level at (by-entry upper front e back w p q) =
       let step : ℕ → List Entry → List ℕ = λ n. flatMap (λ x. leaves bs n (x .offset)) in
       leaves-cut (suc level) upper w
-      ∙ ap (λ (l : List ℕ). leavesBefore (suc level) upper w ++ (l ++ leavesBehind (suc level) upper w)) (flatMap-split (λ x. leaves bs level (x .offset)) (entriesOf bs upper) front e back p)
+      ∙ ap (λ (l : List ℕ). leavesBefore (suc level) upper w ++ (l ++ leavesBehind (suc level) upper w)) (flatMap-split (λ x. leaves bs level (x .offset)) (blockEntries bs upper) front e back p)
       ∙ regroup (leavesBefore (suc level) upper w) (step level front) (leaves bs level (e .offset)) (step level back) (leavesBehind (suc level) upper w)
       ∙ ap (λ (n : ℕ). (leavesBefore (suc level) upper w ++ step level front) ++ (leaves bs level n ++ (step level back ++ leavesBehind (suc level) upper w))) (sym q)
 
   -- the records before the block at the end of the way, and behind it
   unfoldable pub pre : (level at : ℕ) → Way bs root level at → List Text
-  pre level at w = flatMap (λ o. recordsAt bs o) (leavesBefore level at w)
+  pre level at w = flatMap (λ o. blockRecords bs o) (leavesBefore level at w)
 
   unfoldable pub post : (level at : ℕ) → Way bs root level at → List Text
-  post level at w = flatMap (λ o. recordsAt bs o) (leavesBehind level at w)
+  post level at w = flatMap (λ o. blockRecords bs o) (leavesBehind level at w)
 
-  pub under-cut : (level at : ℕ) (w : Way bs root level at) → under bs (levelAt bs root) root ≡ pre level at w ++ (under bs level at ++ post level at w)
+  pub under-cut : (level at : ℕ) (w : Way bs root level at) → under bs (blockLevel bs root) root ≡ pre level at w ++ (under bs level at ++ post level at w)
   unfolding under pre post
   under-cut level at w =
-      let records : List ℕ → List Text = flatMap (λ o. recordsAt bs o) in
+      let records : List ℕ → List Text = flatMap (λ o. blockRecords bs o) in
       ap records (leaves-cut level at w)
-      ∙ flatMap-append (λ o. recordsAt bs o) (leavesBefore level at w) (leaves bs level at ++ leavesBehind level at w)
-      ∙ ap (λ (l : List Text). records (leavesBefore level at w) ++ l) (flatMap-append (λ o. recordsAt bs o) (leaves bs level at) (leavesBehind level at w))
+      ∙ flatMap-append (λ o. blockRecords bs o) (leavesBefore level at w) (leaves bs level at ++ leavesBehind level at w)
+      ∙ ap (λ (l : List Text). records (leavesBefore level at w) ++ l) (flatMap-append (λ o. blockRecords bs o) (leaves bs level at) (leavesBehind level at w))
 
   -- what the walk meets under the block it meets under the root
-  pub leaves-within : (level at : ℕ) → Way bs root level at → (o : ℕ) → List·Memᴰ o (leaves bs level at) → List·Memᴰ o (leaves bs (levelAt bs root) root)
+  pub leaves-within : (level at : ℕ) → Way bs root level at → (o : ℕ) → List·Memᴰ o (leaves bs level at) → List·Memᴰ o (leaves bs (blockLevel bs root) root)
   leaves-within level at w o m = subst (List·Memᴰ o) (sym (leaves-cut level at w)) (Memᴰ·append-right (leavesBefore level at w) (Memᴰ·append-left (leavesBehind level at w) m))
 
 module _ (bs : List Block) (root : ℕ) (t : Tree bs root) where
@@ -94,18 +94,18 @@ module _ (bs : List Block) (root : ℕ) (t : Tree bs root) where
   pub way-block : (level at : ℕ) → Way bs root level at → Met level at
   way-block level at (at-root p q) =
       let r = t .rooted in
-      let level-is = sym (level-at bs root t (r .0) (r .1)) ∙ ap (levelAt bs) (r .2) ∙ sym p in
+      let level-is = sym (level-at bs root t (r .0) (r .1)) ∙ ap (blockLevel bs) (r .2) ∙ sym p in
       let few = r .4 in
       record { block = r .0; member = r .1; starts = r .2 ∙ sym q; leveled = level-is; few = omega arith }
   way-block level at (by-entry upper front e back w p q) =
       let b = way-block (suc level) upper w in
-      let c = child bs root t (b .block) (b .member) level (b .leveled) e (split-member (entriesOf bs (b .block .frame .start)) front e back (ap (entriesOf bs) (b .starts) ∙ p)) in
+      let c = child bs root t (b .block) (b .member) level (b .leveled) e (split-member (blockEntries bs (b .block .frame .start)) front e back (ap (blockEntries bs) (b .starts) ∙ p)) in
       let few = b .few in
       record { block = c .block; member = c .member; starts = c .starts ∙ sym q; leveled = c .leveled; few = omega arith }
 
   -- its entries
-  pub met-entries : (level at : ℕ) (m : Met level at) → m .block .entries ≡ entriesOf bs at
-  met-entries level at m = sym (entries-at bs root t (m .block) (m .member)) ∙ ap (entriesOf bs) (m .starts)
+  pub met-entries : (level at : ℕ) (m : Met level at) → m .block .entries ≡ blockEntries bs at
+  met-entries level at m = sym (entries-at bs root t (m .block) (m .member)) ∙ ap (blockEntries bs) (m .starts)
 
   -- on from an index block to a block that one of its entries names
   way-on : (c : Block) (q : Parent bs root t c) → Way bs root (q .block .frame .level) (q .block .frame .start) → Way bs root (c .frame .level) (c .frame .start)
@@ -115,7 +115,7 @@ module _ (bs : List Block) (root : ℕ) (t : Tree bs root) where
       (entries-at bs root t (q .block) (q .member) ∙ s .2) (sym (q .names))
 
   way-top : (c : Block) → List·Memᴰ c bs → c .frame .start ≡ root → Way bs root (c .frame .level) (c .frame .start)
-  way-top c m p = at-root (sym (level-at bs root t c m) ∙ ap (levelAt bs) p) p
+  way-top c m p = at-root (sym (level-at bs root t c m) ∙ ap (blockLevel bs) p) p
 
   -- going up from an ordinary block ends at the root, since the level rises with each step
   climb : (steps : ℕ) (c : Block) → List·Memᴰ c bs → c .frame .level ≤ 63 → 63 - c .frame .level ≤ steps → Way bs root (c .frame .level) (c .frame .start)
@@ -141,45 +141,45 @@ module _ (bs : List Block) (root : ℕ) (t : Tree bs root) where
   -- ---- the walk meets the data blocks in file order
 
   -- every data block is met
-  pub data-met : (d : Block) → List·Memᴰ d bs → d .frame .level ≡ 0 → List·Memᴰ (d .frame .start) (leaves bs (levelAt bs root) root)
+  pub data-met : (d : Block) → List·Memᴰ d bs → d .frame .level ≡ 0 → List·Memᴰ (d .frame .start) (leaves bs (blockLevel bs root) root)
   unfolding leaves
   data-met d m p =
       let w = subst (λ (n : ℕ). Way bs root n (d .frame .start)) p (block-way d m (omega arith)) in
       leaves-within bs root 0 (d .frame .start) w (d .frame .start) (List·Memᴰ·head refl)
 
   -- and nothing else is
-  pub met-data : (o : ℕ) → List·Memᴰ o (leaves bs (levelAt bs root) root) → (d : Block) × List·Memᴰ d bs × (d .frame .start ≡ o) × (d .frame .level ≡ 0)
+  pub met-data : (o : ℕ) → List·Memᴰ o (leaves bs (blockLevel bs root) root) → (d : Block) × List·Memᴰ d bs × (d .frame .start ≡ o) × (d .frame .level ≡ 0)
   met-data o m =
       let r = t .rooted in
-      let level-is = sym (level-at bs root t (r .0) (r .1)) ∙ ap (levelAt bs) (r .2) in
-      leaves-data bs root t (levelAt bs root) (r .0) (r .1) level-is o (subst (λ (n : ℕ). List·Memᴰ o (leaves bs (levelAt bs root) n)) (sym (r .2)) m)
+      let level-is = sym (level-at bs root t (r .0) (r .1)) ∙ ap (blockLevel bs) (r .2) in
+      leaves-data bs root t (blockLevel bs root) (r .0) (r .1) level-is o (subst (λ (n : ℕ). List·Memᴰ o (leaves bs (blockLevel bs root) n)) (sym (r .2)) m)
 
-  module _ (walked : Ascending (leaves bs (levelAt bs root) root)) where
+  module _ (walked : Ascending (leaves bs (blockLevel bs root) root)) where
     -- where the offsets in the walk rise (22), walk order is file order
-    pub leaves-file-order : leaves bs (levelAt bs root) root ≡ map (λ b. b .frame .start) (keep (λ b. isData (b .frame .level)) bs)
+    pub leaves-file-order : leaves bs (blockLevel bs root) root ≡ map (λ b. b .frame .start) (keep (λ b. isData (b .frame .level)) bs)
     unfolding isData
     leaves-file-order =
-        ascending-same (leaves bs (levelAt bs root) root) (map (λ b. b .frame .start) (keep (λ b. isData (b .frame .level)) bs)) walked
+        ascending-same (leaves bs (blockLevel bs root) root) (map (λ b. b .frame .start) (keep (λ b. isData (b .frame .level)) bs)) walked
         (ascending-keep (λ b. b .frame .start) (λ b. isData (b .frame .level)) bs (t .rise)) to from
       where
-        to : (o : ℕ) → List·Memᴰ o (leaves bs (levelAt bs root) root) → List·Memᴰ o (map (λ b. b .frame .start) (keep (λ b. isData (b .frame .level)) bs))
+        to : (o : ℕ) → List·Memᴰ o (leaves bs (blockLevel bs root) root) → List·Memᴰ o (map (λ b. b .frame .start) (keep (λ b. isData (b .frame .level)) bs))
         to o m =
             let d = met-data o m in
             Memᴰ·cast (sym (d .2)) (Memᴰ·map (λ (b : Block). b .frame .start) (member-keep (λ b. isData (b .frame .level)) bs (d .0) (d .1) (eq-eqb (d .0 .frame .level) 0 (d .3))))
 
-        from : (o : ℕ) → List·Memᴰ o (map (λ b. b .frame .start) (keep (λ b. isData (b .frame .level)) bs)) → List·Memᴰ o (leaves bs (levelAt bs root) root)
+        from : (o : ℕ) → List·Memᴰ o (map (λ b. b .frame .start) (keep (λ b. isData (b .frame .level)) bs)) → List·Memᴰ o (leaves bs (blockLevel bs root) root)
         from o m =
             let d = Memᴰ·of-map (λ (b : Block). b .frame .start) (keep (λ b. isData (b .frame .level)) bs) m in
             let k = keep-member (λ b. isData (b .frame .level)) bs (d .0) (d .1) in
             Memᴰ·cast (sym (d .2)) (data-met (d .0) (k .0) (eqb-true (d .0 .frame .level) 0 (k .1)))
 
     -- the root leads to all records of the file, in file order
-    pub root-records : under bs (levelAt bs root) root ≡ recordsOf bs
+    pub root-records : under bs (blockLevel bs root) root ≡ recordsOf bs
     unfolding under recordsOf isData
     root-records =
-        ap (flatMap (λ o. recordsAt bs o)) leaves-file-order
-        ∙ flatMap-map (λ o. recordsAt bs o) (λ b. b .frame .start) (keep (λ b. isData (b .frame .level)) bs)
-        ∙ flatMap-same (λ b. recordsAt bs (b .frame .start)) (λ b. b .records) (keep (λ b. isData (b .frame .level)) bs)
+        ap (flatMap (λ o. blockRecords bs o)) leaves-file-order
+        ∙ flatMap-map (λ o. blockRecords bs o) (λ b. b .frame .start) (keep (λ b. isData (b .frame .level)) bs)
+        ∙ flatMap-same (λ b. blockRecords bs (b .frame .start)) (λ b. b .records) (keep (λ b. isData (b .frame .level)) bs)
         (λ (b : Block) (m : List·Memᴰ b (keep (λ b. isData (b .frame .level)) bs)). records-at bs root t b (keep-member (λ b. isData (b .frame .level)) bs b m .0))
         ∙ flatMap-keep (λ b. b .records) (λ b. isData (b .frame .level)) bs none
       where

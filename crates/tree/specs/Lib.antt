@@ -1,4 +1,3 @@
 -- The tree of a file's blocks, and its rules.
 pub mod Tree
 pub mod Stages
-pub mod Fault

@@ -4,15 +4,15 @@ use mathlib.Core.Bool.{Bool, cond}
 use mathlib.Core.List.{List, [], _∷_, flatMap}
 use lib.Dec.{leb, eqb}
 use lib.ListN.{drop}
-use Rattle.byte_order.specs.Order.{atMost, begins}
+use Rattle.byte_string.specs.Order.{atMost, begins}
 use Rattle.sha256.specs.Sha256.{sha256}
 use Rattle.outcome.specs.Outcome.{Outcome, answer, _>>=_, _>>_, must}
-use Rattle.outcome.specs.Items.{part}
-use Rattle.outcome.specs.Lists.{keep, any, all}
+use Rattle.part.specs.Part.{part}
+use Rattle.lists.specs.Lists.{keep, any, all}
 use Rattle.header.specs.declared.Header.{Header}
 use Rattle.block.specs.Block.{Block, isData}
 use Rattle.block.specs.Survey.{ordinary, isRoot}
-use Rattle.tree.specs.Tree.{levelAt, names, namings, leaves, under, keyFits}
+use Rattle.tree.specs.Tree.{blockLevel, names, namings, leaves, under, keyFits}
 
 -- a rule for each block in file order: the first that breaks it is the place
 unfoldable pub each : (Block → Bool) → (number : ℕ) → List Block → Outcome (Unit {0})
@@ -59,7 +59,7 @@ unfoldable pub treeOf : List ℕ → Header → List Block → Outcome (Unit {0}
 treeOf file h bs = do
   each (entriesFit bs) 19 (ordinary bs)
   each (namedRightly bs (h .root)) 20 (ordinary bs)
-  ascending 0 (leaves bs (levelAt bs (h .root)) (h .root))
+  ascending 0 (leaves bs (blockLevel bs (h .root)) (h .root))
   neighbours (keep (λ b. isData (b .frame .level)) bs)
   each (keysFit bs) 24 (ordinary bs)
   must (begins (sha256 (payloads file bs)) (drop 40 file)) 25 0

@@ -5,8 +5,8 @@ use mathlib.Core.Bool.{Bool, true, _&&_, cond}
 use mathlib.Core.List.{List, [], _∷_, flatMap}
 use lib.Dec.{ltb, eqb}
 use lib.ListN.{length}
-use Rattle.byte_order.specs.Order.{atMost}
-use Rattle.outcome.specs.Lists.{keep, any, all}
+use Rattle.byte_string.specs.Order.{atMost}
+use Rattle.lists.specs.Lists.{keep, any, all}
 use Rattle.payload.specs.Payload.{Text, Entry}
 use Rattle.block.specs.Block.{Block}
 use Rattle.block.specs.Survey.{ordinary, recordsOf}
@@ -14,15 +14,15 @@ use Rattle.block.specs.Survey.{ordinary, recordsOf}
 -- ---- the block at an offset
 
 -- the entries, the records and the level of the block that starts at an offset; no entries, no records and level 0 where none starts there
-unfoldable pub entriesOf : List Block → ℕ → List Entry
-entriesOf bs at = flatMap (λ b. cond (eqb (b .frame .start) at) (b .entries) []) bs
+unfoldable pub blockEntries : List Block → ℕ → List Entry
+blockEntries bs at = flatMap (λ b. cond (eqb (b .frame .start) at) (b .entries) []) bs
 
-unfoldable pub recordsAt : List Block → ℕ → List Text
-recordsAt bs at = flatMap (λ b. cond (eqb (b .frame .start) at) (b .records) []) bs
+unfoldable pub blockRecords : List Block → ℕ → List Text
+blockRecords bs at = flatMap (λ b. cond (eqb (b .frame .start) at) (b .records) []) bs
 
-unfoldable pub levelAt : List Block → ℕ → ℕ
-levelAt [] at = 0
-levelAt (b ∷ bs) at = cond (eqb (b .frame .start) at) (b .frame .level) (levelAt bs at)
+unfoldable pub blockLevel : List Block → ℕ → ℕ
+blockLevel [] at = 0
+blockLevel (b ∷ bs) at = cond (eqb (b .frame .start) at) (b .frame .level) (blockLevel bs at)
 
 -- ---- names
 
@@ -40,11 +40,11 @@ namings bs at = length (keep (λ e. eqb (e .offset) at) (flatMap (λ b. b .entri
 -- the offsets of the data blocks met going down from the block of this level at an offset, in entry order
 unfoldable pub leaves : List Block → (level at : ℕ) → List ℕ
 leaves bs zero at = at ∷ []
-leaves bs (suc level) at = flatMap (λ e. leaves bs level (e .offset)) (entriesOf bs at)
+leaves bs (suc level) at = flatMap (λ e. leaves bs level (e .offset)) (blockEntries bs at)
 
 -- the records that the block leads to: its own for a data block, those of the blocks named by its entries for an index block
 unfoldable pub under : List Block → (level at : ℕ) → List Text
-under bs level at = flatMap (λ o. recordsAt bs o) (leaves bs level at)
+under bs level at = flatMap (λ o. blockRecords bs o) (leaves bs level at)
 
 -- ---- the key rule
 

@@ -37,8 +37,8 @@ reading s =
     (number (sevens (take (n + 1) s)) (n + 1))))
 
 -- what an answer of `read_number` says
-unfoldable pub meaning : Number → Reading
-meaning (Value value used) = number value used
-meaning CutOff = cutOff
-meaning TooWide = refused 11
-meaning NotShortest = refused 12
+unfoldable pub readingSaid : Number → Reading
+readingSaid (Value value used) = number value used
+readingSaid CutOff = cutOff
+readingSaid TooWide = refused 11
+readingSaid NotShortest = refused 12

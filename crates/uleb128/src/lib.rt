@@ -1,6 +1,6 @@
 // Reading a number of the format (uleb128) at the front of a part of a slice.
 ghost use mathlib.Core.Path.{_≡_};
-ghost use Rattle.uleb128.specs.Number.{reading, meaning};
+ghost use Rattle.uleb128.specs.Number.{reading, readingSaid};
 
 // What stands at the front of the part.
 pub enum Number {
@@ -16,7 +16,7 @@ pub enum Number {
 
 // The number at the front of the part, which may end anywhere.
 pub fn read_number(part: &[u8]) -> Number
-    ensures { λ r. ⌜ meaning r ≡ reading (now (part .entry)) ⌝ }
+    ensures { λ r. ⌜ readingSaid r ≡ reading (now (part .entry)) ⌝ }
 {
     let mut value: u64 = 0;
     let mut scale: u64 = 1;

@@ -9,9 +9,9 @@ ghost use Rattle.reader.specs.Read.{readOf, readAnswer, readList};
 ghost use Rattle.record.specs.Record.{isWithin, partStart, partLength};
 ghost use Rattle.checker.specs.Check.{checkOf, checkAnswer};
 ghost use Rattle.search.specs.Search.{searchOf, searchAnswer, openedList, resultList};
-use checker::CheckAnswer;
+use checker::Checked;
 use reader::ReadAnswer;
-use search::SearchAnswer;
+use search::Found;
 
 // A part of the file: the offset of its first byte, and its length.
 #[repr(C)]
@@ -38,7 +38,7 @@ pub extern "C" fn zs_read(
 
 // Checks the file (`checker::check`).
 #[no_mangle]
-pub extern "C" fn zs_check(file: &[u8], work: &mut [u64]) -> CheckAnswer
+pub extern "C" fn zs_check(file: &[u8], work: &mut [u64]) -> Checked
     ensures { λ r. ⌜ r ≡ checkAnswer (checkOf (now (file .entry)) (length (now (work .entry)))) ⌝ }
     ensures { λ r. ⌜ now (work .exit) ≡ zeros (length (now (work .entry))) ⌝ }
 {
@@ -55,7 +55,7 @@ pub extern "C" fn zs_search(
     prefix: &[u8],
     opened: &mut [u64],
     results: &mut [u64],
-) -> SearchAnswer
+) -> Found
     ensures { λ r. ⌜ r ≡ searchAnswer (searchOf (now (file .entry)) (queryOf (now (start .entry)) «stop_given» (now (stop .entry)) (now (prefix .entry))) (length (now (opened .entry))) (length (now (results .entry)))) ⌝ }
     ensures { λ r. ⌜ now (opened .exit) ≡ openedList (length (now (opened .entry))) (searchOf (now (file .entry)) (queryOf (now (start .entry)) «stop_given» (now (stop .entry)) (now (prefix .entry))) (length (now (opened .entry))) (length (now (results .entry)))) ⌝ }
     ensures { λ r. ⌜ now (results .exit) ≡ resultList (length (now (results .entry))) (searchOf (now (file .entry)) (queryOf (now (start .entry)) «stop_given» (now (stop .entry)) (now (prefix .entry))) (length (now (opened .entry))) (length (now (results .entry)))) ⌝ }

@@ -3,7 +3,7 @@ use mathlib.Core.Path.{sym, ap, _∙_}
 use borrow.Author.Needs.{needs}
 use denote.Ref.{now}
 use lib.ListN.{length}
-use Rattle.header.specs.Header.{meaning}
+use Rattle.header.specs.Header.{headerSaid}
 use Rattle.checker.specs.Check.{checkOf}
 use Rattle.checker.proofs.CheckLaws.{told, check-header}
 use Rattle.checker.proofs.check_file.Statement.{statement}
@@ -22,20 +22,20 @@ enum-known-made-2 : tie.Need-enum-known-made-2
 enum-known-made-2 c = search needs
 
 check-blocks-requires : tie.Need-check-blocks-requires
-unfolding meaning
+unfolding headerSaid
 check-blocks-requires c κs =
     let read = c .before .before .before .before .read in
     let made2 = c .before .before .made2 in
-    sym (read .ensures) ∙ ap meaning (made2 .given .1)
+    sym (read .ensures) ∙ ap headerSaid (made2 .given .1)
 
 returns : tie.Need-returns
-unfolding meaning
+unfolding headerSaid
 returns c =
     let args = c .before .before .before .before .before .before .before .args in
     let read = c .before .before .before .before .read in
     let made = c .before .before .made in
     told (checkOf (now (args .file)) (length (now (args .work)))) _ _ (check-header (now (args .file)) (length (now (args .work))) _ _ (sym
-    (read .ensures) ∙ ap meaning (made .given .1))) _ (c .refusal .ensures)
+    (read .ensures) ∙ ap headerSaid (made .given .1))) _ (c .refusal .ensures)
 
 same-length : tie.Need-same-length
 same-length c = search needs

@@ -1,7 +1,7 @@
 -- `block::framing::crc_right` meets its contract: both sides of the comparison are those of the definition. Assumes nothing.
 use mathlib.Core.Path.{ap₂}
 use lib.Dec.{eqb}
-use Rattle.outcome.specs.Items.{part}
+use Rattle.part.specs.Part.{part}
 use Rattle.framing.specs.Frame.{crcRight}
 use borrow.Author.Needs.{needs}
 use Rattle.framing.proofs.crc_right.Statement.{statement}

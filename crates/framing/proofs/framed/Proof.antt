@@ -1,25 +1,25 @@
 -- `block::framing::framed` meets its contract: each return is one case of the two rules. Assumes nothing.
 use mathlib.Core.Path.{sym}
 use native.Mathlib.Omega.{arith}
-use Rattle.framing.specs.Answers.{frame}
+use Rattle.framing.specs.Answers.{frameSaid}
 use Rattle.framing.proofs.FrameLaws.{framed-empty, framed-long, framed-found}
 use borrow.Author.Needs.{needs}
 use Rattle.framing.proofs.framed.Statement.{statement}
 use Rattle.framing.proofs.framed.Tie as tie
 
 returns : tie.Need-returns
-unfolding frame
+unfolding frameSaid
 returns c = sym (framed-empty _ _ _ (c .if1 .taken))
 
 sub-left : tie.Need-sub-left
 sub-left c = search needs
 
 returns-2 : tie.Need-returns-2
-unfolding frame
+unfolding frameSaid
 returns-2 c = sym (framed-long _ _ _ (c .before .if1 .left) (omega arith))
 
 returns-3 : tie.Need-returns-3
-unfolding frame
+unfolding frameSaid
 returns-3 c =
     let if1 = c .before .before .if1 in
     sym (framed-long _ _ _ (if1 .left) (omega arith))
@@ -37,7 +37,7 @@ shared-slice-read-t12 : tie.Need-shared-slice-read-t12
 shared-slice-read-t12 c = search needs
 
 returns-4 : tie.Need-returns-4
-unfolding frame
+unfolding frameSaid
 returns-4 c =
     let if1 = c .before .before .before .if1 in
     sym (framed-found _ _ _ (if1 .left) (omega arith))

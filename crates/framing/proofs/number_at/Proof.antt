@@ -3,17 +3,17 @@ use mathlib.Core.Path.{sym, ap, _∙_}
 use native.Mathlib.Omega.{arith}
 use lib.ListN.{length-take, length-drop}
 use denote.Ref.{now}
-use Rattle.uleb128.specs.Number.{meaning}
+use Rattle.uleb128.specs.Number.{readingSaid}
 use Rattle.uleb128.specs.declared.Number.{Number}
 use Rattle.framing.specs.Frame.{readAs}
-use Rattle.framing.specs.Answers.{number}
+use Rattle.framing.specs.Answers.{numberSaid}
 use Rattle.framing.proofs.FrameLaws.{number-found, number-past, value-used}
 use borrow.Author.Needs.{needs}
 use Rattle.framing.proofs.number_at.Statement.{statement}
 use Rattle.framing.proofs.number_at.Tie as tie
 
 returns : tie.Need-returns
-unfolding number
+unfolding numberSaid
 returns c place =
     let args = c .before .before .args in
     sym (number-past _ place (now (args .s)) (args .at) (omega arith))
@@ -54,35 +54,35 @@ enum-told-3 : tie.Need-enum-told-3
 enum-told-3 c = search needs
 
 returns-2 : tie.Need-returns-2
-unfolding number readAs meaning
+unfolding numberSaid readAs readingSaid
 returns-2 c place =
     let args = c .before .before .before .before .before .before .before .args in
     let read-number = c .before .before .before .read-number in
-    ap (λ (n : Number). readAs (args .cut) place (args .at) (meaning n)) (sym (c .before .read .given .1)) ∙ number-found (args .cut) place
+    ap (λ (n : Number). readAs (args .cut) place (args .at) (readingSaid n)) (sym (c .before .read .given .1)) ∙ number-found (args .cut) place
     (now (args .s)) (args .at) (read-number .result) (read-number .ensures)
 
 returns-3 : tie.Need-returns-3
-unfolding number readAs meaning
+unfolding numberSaid readAs readingSaid
 returns-3 c place =
     let args = c .before .before .before .before .before .before .args in
     let read-number = c .before .before .read-number in
-    ap (λ (n : Number). readAs (args .cut) place (args .at) (meaning n)) (sym (c .enum-told .given .1)) ∙ number-found (args .cut) place
+    ap (λ (n : Number). readAs (args .cut) place (args .at) (readingSaid n)) (sym (c .enum-told .given .1)) ∙ number-found (args .cut) place
     (now (args .s)) (args .at) (read-number .result) (read-number .ensures)
 
 returns-4 : tie.Need-returns-4
-unfolding number readAs meaning
+unfolding numberSaid readAs readingSaid
 returns-4 c place =
     let args = c .before .before .before .before .before .before .args in
     let read-number = c .before .before .read-number in
-    ap (λ (n : Number). readAs (args .cut) place (args .at) (meaning n)) (sym (c .enum-told2 .given .1)) ∙ number-found (args .cut) place
+    ap (λ (n : Number). readAs (args .cut) place (args .at) (readingSaid n)) (sym (c .enum-told2 .given .1)) ∙ number-found (args .cut) place
     (now (args .s)) (args .at) (read-number .result) (read-number .ensures)
 
 returns-5 : tie.Need-returns-5
-unfolding number readAs meaning
+unfolding numberSaid readAs readingSaid
 returns-5 c place =
     let args = c .before .before .before .before .before .before .args in
     let read-number = c .before .before .read-number in
-    ap (λ (n : Number). readAs (args .cut) place (args .at) (meaning n)) (sym (c .enum-told3 .given .1)) ∙ number-found (args .cut) place
+    ap (λ (n : Number). readAs (args .cut) place (args .at) (readingSaid n)) (sym (c .enum-told3 .given .1)) ∙ number-found (args .cut) place
     (now (args .s)) (args .at) (read-number .result) (read-number .ensures)
 
 pub number-at-spec : {M : Type 1} → statement M

@@ -1,10 +1,10 @@
--- `block::framing::sound_frame_at` meets its contract: the frame, then the rule of its CRC. Assumes nothing.
+-- `block::framing::sound_frame_at` meets its contract: the frameSaid, then the rule of its CRC. Assumes nothing.
 use mathlib.Core.Path.{sym, ap, _∙_}
 use native.Mathlib.Omega.{arith}
 use denote.Ref.{now}
 use Rattle.outcome.proofs.OutcomeLaws.{bind-refused}
 use Rattle.framing.specs.Frame.{frameAt, soundFrameAt}
-use Rattle.framing.specs.Answers.{frame}
+use Rattle.framing.specs.Answers.{frameSaid}
 use Rattle.framing.proofs.FrameLaws.{frame⇒Framed, sound-frame, unsound-frame}
 use borrow.Author.Needs.{needs}
 use Rattle.framing.proofs.sound_frame_at.Statement.{statement}
@@ -20,37 +20,37 @@ enum-known-found-2 : tie.Need-enum-known-found-2
 enum-known-found-2 c = search needs
 
 crc-right-requires : tie.Need-crc-right-requires
-unfolding frame
+unfolding frameSaid
 crc-right-requires c κs =
     let args = c .before .before .before .before .before .args in
     let frame-at = c .before .before .before .frame-at in
-    let at = args .at in let f = frame⇒Framed (now (args .file)) at _ (sym (frame-at .ensures) ∙ ap (frame at)
+    let at = args .at in let f = frame⇒Framed (now (args .file)) at _ (sym (frame-at .ensures) ∙ ap (frameSaid at)
     (c .before .found2 .given .1)) in omega arith
 
 returns : tie.Need-returns
-unfolding frame soundFrameAt
+unfolding frameSaid soundFrameAt
 returns c =
     let args = c .before .before .before .before .before .args in
     let frame-at = c .before .before .before .frame-at in
-    let at = args .at in sym (bind-refused (frameAt (now (args .file)) at) _ _ _ (sym (frame-at .ensures) ∙ ap (frame at)
+    let at = args .at in sym (bind-refused (frameAt (now (args .file)) at) _ _ _ (sym (frame-at .ensures) ∙ ap (frameSaid at)
     (c .before .found .given .1)))
 
 returns-2 : tie.Need-returns-2
-unfolding frame
+unfolding frameSaid
 returns-2 c =
     let args = c .before .before .before .before .before .before .before .args in
     let frame-at = c .before .before .before .before .before .frame-at in
     let found2 = c .before .before .before .found2 in
-    let at = args .at in sym (sound-frame (now (args .file)) at _ (sym (frame-at .ensures) ∙ ap (frame at) (found2 .given .1)) (sym
+    let at = args .at in sym (sound-frame (now (args .file)) at _ (sym (frame-at .ensures) ∙ ap (frameSaid at) (found2 .given .1)) (sym
     (c .before .crc-right .ensures) ∙ c .if1 .taken))
 
 returns-3 : tie.Need-returns-3
-unfolding frame
+unfolding frameSaid
 returns-3 c =
     let args = c .before .before .before .before .before .before .before .args in
     let frame-at = c .before .before .before .before .before .frame-at in
     let found2 = c .before .before .before .found2 in
-    let at = args .at in sym (unsound-frame (now (args .file)) at _ (sym (frame-at .ensures) ∙ ap (frame at) (found2 .given .1)) (sym
+    let at = args .at in sym (unsound-frame (now (args .file)) at _ (sym (frame-at .ensures) ∙ ap (frameSaid at) (found2 .given .1)) (sym
     (c .before .crc-right .ensures) ∙ c .if1 .left))
 
 pub sound-frame-at-spec : {M : Type 1} → statement M

@@ -3,8 +3,8 @@
 use mathlib.Core.Path.{sym}
 use native.Mathlib.Omega.{arith}
 use borrow.Author.Needs.{needs}
-use Rattle.header.specs.Header.{H, numberAt}
-use Rattle.outcome.specs.Items.{part}
+use Rattle.header.specs.Header.{H, fieldAt}
+use Rattle.part.specs.Part.{part}
 use Rattle.header.proofs.RuleLaws.{holdsHeader⁻¹, headerCrcRight-by}
 use Rattle.header.proofs.crc_right.Statement.{statement}
 use Rattle.header.proofs.crc_right.Tie as tie
@@ -13,7 +13,7 @@ le64-at-requires : tie.Need-le64-at-requires
 le64-at-requires c κs = search needs
 
 add-end : tie.Need-add-end
-unfolding H numberAt part
+unfolding H fieldAt part
 add-end c =
     let pre = c .before .before .pre in
     let held = holdsHeader⁻¹ _ (pre) in omega arith
@@ -28,7 +28,7 @@ part-checksum-start : tie.Need-part-checksum-start
 part-checksum-start c = search needs
 
 part-checksum-end : tie.Need-part-checksum-end
-unfolding H numberAt part
+unfolding H fieldAt part
 part-checksum-end c =
     let pre = c .before .before .before .pre in
     let held = holdsHeader⁻¹ _ (pre) in omega arith
@@ -37,7 +37,7 @@ checksum-requires : tie.Need-checksum-requires
 checksum-requires c κs = search needs
 
 returns : tie.Need-returns
-unfolding H numberAt part
+unfolding H fieldAt part
 returns c =
     let le64-at2 = c .before .before .le64-at2 in
     let le64-at = c .before .before .before .le64-at in

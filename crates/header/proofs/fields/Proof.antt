@@ -8,9 +8,9 @@ use native.Mathlib.Omega.{arith}
 use lib.ListN.{length, drop}
 use borrow.Author.Needs.{needs}
 use borrow.Author.Tests.{not-true, not-false}
-use Rattle.byte_order.specs.Order.{begins}
-use Rattle.outcome.specs.Items.{part}
-use Rattle.header.specs.Header.{H, M, codecNone, numberAt, isMetadata, meaning}
+use Rattle.byte_string.specs.Order.{begins}
+use Rattle.part.specs.Part.{part}
+use Rattle.header.specs.Header.{H, M, codecNone, fieldAt, isMetadata, headerSaid}
 use Rattle.header.proofs.RuleLaws.{metadata-within, codec-lent, metadata-lent, fields-codec, fields-total, fields-metadata, fields-good, numbersOf}
 use Rattle.header.proofs.fields.Statement.{statement}
 use Rattle.header.proofs.fields.Tie as tie
@@ -42,7 +42,7 @@ codec c =
     c .begins-with .ensures ∙ codec-lent (args .file .now)
 
 returns : tie.Need-returns
-unfolding meaning
+unfolding headerSaid
 returns c = sym (fields-codec _ (sym (codec (c .before)) ∙ not-true _ (c .if1 .taken)))
 
 le64-at-requires : tie.Need-le64-at-requires
@@ -53,14 +53,14 @@ codec-none : (c : tie.Else1) → begins codecNone (drop 72 (c .before .before .b
 codec-none c = sym (codec (c .before)) ∙ not-false _ (c .if1 .left)
 
 returns-2 : tie.Need-returns-2
-unfolding meaning numberAt part
+unfolding headerSaid fieldAt part
 returns-2 c = sym (fields-total _ (codec-none (c .before .before)) (λ same. c .if2 .taken (c .before .le64-at .ensures ∙ same)))
 
 le64-at-requires-2 : tie.Need-le64-at-requires-2
 le64-at-requires-2 c κs = search needs
 
 add-end : tie.Need-add-end
-unfolding H M numberAt part
+unfolding H M fieldAt part
 add-end c =
     let before = c .before .before .before .before .before .before .before .before in
     omega (arith, within (before))
@@ -72,7 +72,7 @@ part-is-metadata-start : tie.Need-part-is-metadata-start
 part-is-metadata-start c = search needs
 
 part-is-metadata-end : tie.Need-part-is-metadata-end
-unfolding H M numberAt part
+unfolding H M fieldAt part
 part-is-metadata-end c =
     let before = c .before .before .before .before .before .before .before .before in
     omega (arith, within (before))
@@ -81,20 +81,20 @@ is-metadata-requires : tie.Need-is-metadata-requires
 is-metadata-requires c κs = search needs
 
 -- the total length is the file's
-total : (c : tie.Else2) → let file = c .before .before .before .before .before .before .before .args .file .now in numberAt file 32 ≡ length file
-unfolding numberAt part
+total : (c : tie.Else2) → let file = c .before .before .before .before .before .before .before .args .file .now in fieldAt file 32 ≡ length file
+unfolding fieldAt part
 total c = sym (c .before .le64-at .ensures) ∙ c .if2 .left
 
 -- the test of the metadata, over the part that is lent
 metadata : (c : tie.After-is-metadata) → let file = c .before .before .before .before .before .before .before .before .before .before .args .file .now in c .is-metadata .result ≡ isMetadata (part file 96 (M file))
-unfolding M numberAt part
+unfolding M fieldAt part
 metadata c =
     let args = c .before .before .before .before .before .before .before .before .before .before .args in
     let le64-at2 = c .before .before .le64-at2 in
     c .is-metadata .ensures ∙ metadata-lent (args .file .now) _ (le64-at2 .ensures)
 
 returns-3 : tie.Need-returns-3
-unfolding meaning
+unfolding headerSaid
 returns-3 c =
     let before = c .before .before .before .before .before .before in
     let the-before = c .before .before .before .before in
@@ -110,7 +110,7 @@ le64-at-requires-5 : tie.Need-le64-at-requires-5
 le64-at-requires-5 c κs = search needs
 
 returns-4 : tie.Need-returns-4
-unfolding meaning H M numberAt part numbersOf
+unfolding headerSaid H M fieldAt part numbersOf
 returns-4 c =
     let b = c .before .before .before in
     let le64-at3 = c .before .before .le64-at3 in

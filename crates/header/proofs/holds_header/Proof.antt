@@ -3,8 +3,8 @@
 use mathlib.Core.Path.{sym}
 use native.Mathlib.Omega.{arith}
 use borrow.Author.Needs.{needs}
-use Rattle.header.specs.Header.{H, numberAt}
-use Rattle.outcome.specs.Items.{part}
+use Rattle.header.specs.Header.{H, fieldAt}
+use Rattle.part.specs.Part.{part}
 use Rattle.header.proofs.RuleLaws.{holdsHeader-short, holdsHeader-long}
 use Rattle.header.proofs.holds_header.Statement.{statement}
 use Rattle.header.proofs.holds_header.Tie as tie
@@ -19,7 +19,7 @@ sub-result : tie.Need-sub-result
 sub-result c = search needs
 
 returns-2 : tie.Need-returns-2
-unfolding H numberAt part
+unfolding H fieldAt part
 returns-2 c = rw (c .le64-at .ensures) (sym (holdsHeader-long _ (omega arith)))
 
 pub holds-header-spec : {M : Type 1} → statement M

@@ -1,4 +1,4 @@
--- `block::payload::entries_at` meets its contract. The loop's invariant is `Scanned`: the entries seen, their count, whether they rise, and
+-- `block::payloadSaid::entries_at` meets its contract. The loop's invariant is `Scanned`: the entries seen, their count, whether they rise, and
 -- the last one. Assumes nothing.
 use mathlib.Core.Path.{refl, sym, ap, _∙_}
 use Prim.Native.Nat.{_+_, _-_, _≤_}
@@ -7,7 +7,7 @@ use borrow.Author.Needs.{needs}
 use denote.Ref.{now}
 use lib.ListN.{length}
 use Rattle.payload.specs.Payload.{entryAt, entriesAt}
-use Rattle.payload.specs.Answers.{entry, payload, textIn}
+use Rattle.payload.specs.Answers.{entrySaid, payloadSaid, textIn}
 use Rattle.payload.proofs.PayloadLaws.{entry⇒Entered, within-told}
 use Rattle.payload.proofs.ScanLaws.{Scanned, scanned-start, scanned-more, scanned-empty, scanned-refused, scanned-unsorted, scanned-sound}
 use Rattle.payload.proofs.entries_at.Statement.{statement}
@@ -20,7 +20,7 @@ abbrev μ-loop : tie.MeasureT-loop
 μ-loop s from at₀ count₀ rising₀ last₀ size₀ at count rising last size = length s - at
 
 returns : tie.Need-returns Inv-loop μ-loop
-unfolding payload entriesAt
+unfolding payloadSaid entriesAt
 returns c place =
     let args = c .before .before .args in
     sym (scanned-empty (λ p. entryAt p (now (args .s))) (λ e. e .key) (now (args .s)) (args .from) 21 (c .if1 .taken) place)
@@ -37,7 +37,7 @@ enum-known-step : tie.Need-enum-known-step Inv-loop μ-loop
 enum-known-step c = search needs
 
 returns-2 : tie.Need-returns-2 Inv-loop μ-loop
-unfolding payload entriesAt entry
+unfolding payloadSaid entriesAt entrySaid
 returns-2 c place =
     let args = c .before .before .before .before .before .before .before .before .args in
     let if1 = c .before .before .before .before .before .before .if1 in
@@ -45,18 +45,18 @@ returns-2 c place =
     let loop-test = c .before .before .before .before .loop-test in
     let entry-at = c .before .before .before .entry-at in
     sym (scanned-refused (λ p. entryAt p (now (args .s))) (λ e. e .key) (now (args .s)) (args .from) 21 _ _ _ _ _ (if1 .left) (loop .inv)
-    (loop-test .taken) _ place (sym (entry-at .ensures .0 place) ∙ ap (entry place (now (args .s))) (c .before .step .given .1)))
+    (loop-test .taken) _ place (sym (entry-at .ensures .0 place) ∙ ap (entrySaid place (now (args .s))) (c .before .step .given .1)))
 
 enum-known-step-2 : tie.Need-enum-known-step-2 Inv-loop μ-loop
 enum-known-step-2 c = search needs
 
 still-rising-requires : tie.Need-still-rising-requires Inv-loop μ-loop
-unfolding entry
+unfolding entrySaid
 still-rising-requires c κs =
     let entry-at = c .before .before .before .entry-at in
     let args = c .before .before .before .before .before .before .before .before .args in
     let loop = c .before .before .before .before .before .loop in
-    let e = (sym (entry-at .ensures .0 0) ∙ ap (entry 0 (now (args .s))) (c .before .step2 .given .1)) in let t = entry⇒Entered 0 (now
+    let e = (sym (entry-at .ensures .0 0) ∙ ap (entrySaid 0 (now (args .s))) (c .before .step2 .given .1)) in let t = entry⇒Entered 0 (now
     (args .s)) (loop .at) _ e in let forward = t .forward in let within = t .within in let inside : c .before .step2 .given .0 .0 +
     c .before .step2 .given .0 .1 .0 ≤ length (now (args .s)) = within-told _ _ _ _ _ _ _ (c .before .step2 .given .1)
     (entry-at .ensures .1) in let p = loop .inv in let l = p .last-within in omega arith
@@ -68,32 +68,32 @@ add-count c =
     let p = loop .inv in let few = p .few in let within = p .within in omega (arith, good)
 
 loop-less : tie.Need-loop-less Inv-loop μ-loop
-unfolding entry
+unfolding entrySaid
 loop-less c =
     let entry-at = c .before .before .before .before .entry-at in
     let args = c .before .before .before .before .before .before .before .before .before .args in
     let step2 = c .before .before .step2 in
     let loop = c .before .before .before .before .before .before .loop in
-    let e = (sym (entry-at .ensures .0 0) ∙ ap (entry 0 (now (args .s))) (step2 .given .1)) in let t = entry⇒Entered 0 (now (args .s))
+    let e = (sym (entry-at .ensures .0 0) ∙ ap (entrySaid 0 (now (args .s))) (step2 .given .1)) in let t = entry⇒Entered 0 (now (args .s))
     (loop .at) _ e in let forward = t .forward in let within = t .within in let inside : step2 .given .0 .0 + step2 .given .0 .1 .0 ≤ length
     (now (args .s)) = within-told _ _ _ _ _ _ _ (step2 .given .1) (entry-at .ensures .1) in omega arith
 
 loop-again : tie.Need-loop-again Inv-loop μ-loop
-unfolding entry textIn
+unfolding entrySaid textIn
 loop-again c =
     let entry-at = c .before .before .before .before .entry-at in
     let args = c .before .before .before .before .before .before .before .before .before .args in
     let step2 = c .before .before .step2 in
     let loop = c .before .before .before .before .before .before .loop in
     let loop-test = c .before .before .before .before .before .loop-test in
-    let e = (sym (entry-at .ensures .0 0) ∙ ap (entry 0 (now (args .s))) (step2 .given .1)) in let t = entry⇒Entered 0 (now (args .s))
+    let e = (sym (entry-at .ensures .0 0) ∙ ap (entrySaid 0 (now (args .s))) (step2 .given .1)) in let t = entry⇒Entered 0 (now (args .s))
     (loop .at) _ e in let forward = t .forward in let within = t .within in let inside : step2 .given .0 .0 + step2 .given .0 .1 .0 ≤ length
     (now (args .s)) = within-told _ _ _ _ _ _ _ (step2 .given .1) (entry-at .ensures .1) in scanned-more (λ p. entryAt p (now (args .s))) (λ
     e. e .key) (now (args .s)) (args .from) _ _ _ _ _ (loop .inv) (loop-test .taken) _ _ _ _ (λ place. sym (entry-at .ensures .0 place) ∙ ap
-    (entry place (now (args .s))) (step2 .given .1)) refl (omega arith) (omega arith) (omega arith) _ (c .still-rising .ensures)
+    (entrySaid place (now (args .s))) (step2 .given .1)) refl (omega arith) (omega arith) (omega arith) _ (c .still-rising .ensures)
 
 returns-3 : tie.Need-returns-3 Inv-loop μ-loop
-unfolding payload entriesAt
+unfolding payloadSaid entriesAt
 returns-3 c place =
     let args = c .before .before .before .before .before .args in
     let if1 = c .before .before .before .if1 in
@@ -102,7 +102,7 @@ returns-3 c place =
     (c .before .loop-test .left) (c .if2 .taken) place)
 
 returns-4 : tie.Need-returns-4 Inv-loop μ-loop
-unfolding payload entriesAt
+unfolding payloadSaid entriesAt
 returns-4 c place =
     let args = c .before .before .before .before .before .args in
     let if1 = c .before .before .before .if1 in

@@ -1,8 +1,8 @@
 -- `block::payload::still_rising` meets its contract. Assumes nothing.
 use mathlib.Core.Path.{_∙_, ap₂}
 use borrow.Author.Needs.{needs}
-use Rattle.byte_order.specs.Order.{atMost}
-use Rattle.outcome.specs.Items.{part}
+use Rattle.byte_string.specs.Order.{atMost}
+use Rattle.part.specs.Part.{part}
 use Rattle.payload.proofs.ScanLaws.{still, no-longer, lent}
 use Rattle.payload.proofs.still_rising.Statement.{statement}
 use Rattle.payload.proofs.still_rising.Tie as tie

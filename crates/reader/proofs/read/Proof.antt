@@ -3,7 +3,7 @@ use mathlib.Core.Path.{sym, ap, _∙_}
 use borrow.Author.Needs.{needs}
 use denote.Ref.{now}
 use lib.ListN.{length}
-use Rattle.header.specs.Header.{meaning}
+use Rattle.header.specs.Header.{headerSaid}
 use Rattle.header.proofs.HeaderLaws.{blocks-within}
 use Rattle.query.specs.Query.{queryOf}
 use Rattle.reader.proofs.ReadLaws.{told-refusal, header-refuses, still-zeros, read-behind}
@@ -26,13 +26,13 @@ enum-known-made-2 : tie.Need-enum-known-made-2
 enum-known-made-2 c = search needs
 
 read-blocks-requires : tie.Need-read-blocks-requires
-unfolding meaning
+unfolding headerSaid
 read-blocks-requires c κs =
     let args = c .before .before .before .before .before .before .before .before .before .before .before .before .before .before .args in
     let read = c .before .before .before .before .read in
     let made2 = c .before .before .made2 in
     let clear = c .before .before .before .before .before .before .before .clear in (
-      blocks-within (now (args .file)) _ (sym (read .ensures) ∙ ap meaning (made2 .given .1)),
+      blocks-within (now (args .file)) _ (sym (read .ensures) ∙ ap headerSaid (made2 .given .1)),
       still-zeros (now (args .results)) _
           (clear .ensures),
     )
@@ -41,21 +41,21 @@ same-length : tie.Need-same-length
 same-length c = search needs
 
 returns : tie.Need-returns
-unfolding meaning
+unfolding headerSaid
 returns c =
     let args = c .before .before .before .before .before .before .before .before .before .before .before .before .before .before .args in
     let read = c .before .before .before .before .read in
     let made = c .before .before .made in
     let clear = c .before .before .before .before .before .before .before .clear in
     told-refusal _ _ _ _ (header-refuses (now (args .file)) (queryOf (now (args .start)) (args .stop-given) (now (args .stop)) (now
-    (args .prefix))) (length (now (args .results))) _ _ (sym (read .ensures) ∙ ap meaning (made .given .1))) _ _ (c .refusal .ensures)
+    (args .prefix))) (length (now (args .results))) _ _ (sym (read .ensures) ∙ ap headerSaid (made .given .1))) _ _ (c .refusal .ensures)
     (clear .ensures)
 
 same-length-2 : tie.Need-same-length-2
 same-length-2 c = search needs
 
 returns-2 : tie.Need-returns-2
-unfolding meaning
+unfolding headerSaid
 returns-2 c =
     let args = c .before .before .before .before .before .before .before .before .before .before .before .before .before .before .before .before .before .args in
     let clear = c .before .before .before .before .before .before .before .before .before .before .clear in
@@ -63,7 +63,7 @@ returns-2 c =
     let made2 = c .before .before .before .before .before .made2 in
     let read-blocks = c .before .before .read-blocks in
     read-behind (now (args .results)) _ (clear .ensures) (now (args .file)) (queryOf (now (args .start)) (args .stop-given) (now
-    (args .stop)) (now (args .prefix))) _ (sym (read .ensures) ∙ ap meaning (made2 .given .1)) _ _ (read-blocks .ensures)
+    (args .stop)) (now (args .prefix))) _ (sym (read .ensures) ∙ ap headerSaid (made2 .given .1)) _ _ (read-blocks .ensures)
 
 pub read-spec : {M : Type 1} → statement M
 read-spec =

@@ -5,7 +5,7 @@ use borrow.Author.Needs.{needs}
 use denote.Ref.{now}
 use lib.ListN.{length}
 use Rattle.header.specs.Header.{blocksFrom}
-use Rattle.block.specs.Answers.{survey}
+use Rattle.block.specs.Answers.{surveySaid}
 use Rattle.query.specs.Query.{queryOf}
 use Rattle.reader.proofs.ReadLaws.{read-refused, read-overflow, read-fit}
 use Rattle.reader.proofs.read_blocks.Statement.{statement}
@@ -43,7 +43,7 @@ same-length : tie.Need-same-length
 same-length c = search needs
 
 returns : tie.Need-returns
-unfolding survey blocksFrom
+unfolding surveySaid blocksFrom
 returns c =
     let args = c .before .before .before .before .before .before .before .before .before .before .before .before .before .before .before .before .before .before .args in
     let pre = c .before .before .before .before .before .before .before .before .before .before .before .before .before .before .before .before .before .before .pre in
@@ -53,24 +53,24 @@ returns c =
     let if1 = c .before .before .before .before .before .if1 in
     let clear = c .before .before .before .clear in
     read-overflow (now (args .file)) (queryOf (now (args .start)) (args .stop-given) (now (args .stop)) (now (args .prefix))) (length (now
-    (args .results))) (args .h) (now (args .results)) (pre .1) _ _ (collect .ensures) _ (sym (the-survey .ensures) ∙ ap survey
+    (args .results))) (args .h) (now (args .results)) (pre .1) _ _ (collect .ensures) _ (sym (the-survey .ensures) ∙ ap surveySaid
     (enum-told .given .1)) (if1 .taken) _ _ (c .refusal2 .ensures) (clear .ensures)
 
 returns-2 : tie.Need-returns-2
-unfolding survey blocksFrom
+unfolding surveySaid blocksFrom
 returns-2 c =
     let args = c .before .before .before .before .before .before .before .before .before .before .args in
     let the-survey = c .before .before .before .before .survey in
     let stage = c .before .before .stage in
     let pre = c .before .before .before .before .before .before .before .before .before .before .pre in
     read-refused (now (args .file)) (queryOf (now (args .start)) (args .stop-given) (now (args .stop)) (now (args .prefix))) (length (now
-    (args .results))) (args .h) _ _ (sym (the-survey .ensures) ∙ ap survey (stage .given .1)) _ _ (c .refusal .ensures) (pre .1)
+    (args .results))) (args .h) _ _ (sym (the-survey .ensures) ∙ ap surveySaid (stage .given .1)) _ _ (c .refusal .ensures) (pre .1)
 
 same-length-2 : tie.Need-same-length-2
 same-length-2 c = search needs
 
 returns-3 : tie.Need-returns-3
-unfolding survey blocksFrom
+unfolding surveySaid blocksFrom
 returns-3 c =
     let args = c .before .before .before .before .before .before .before .before .before .before .before .before .before .args in
     let pre = c .before .before .before .before .before .before .before .before .before .before .before .before .before .pre in
@@ -78,7 +78,7 @@ returns-3 c =
     let the-survey = c .before .before .before .before .before .before .before .survey in
     let enum-told = c .before .before .before .before .before .enum-told in
     read-fit (now (args .file)) (queryOf (now (args .start)) (args .stop-given) (now (args .stop)) (now (args .prefix))) (length (now
-    (args .results))) (args .h) (now (args .results)) (pre .1) _ _ (collect .ensures) _ (sym (the-survey .ensures) ∙ ap survey
+    (args .results))) (args .h) (now (args .results)) (pre .1) _ _ (collect .ensures) _ (sym (the-survey .ensures) ∙ ap surveySaid
     (enum-told .given .1)) (c .if1 .left)
 
 pub read-blocks-spec : {M : Type 1} → statement M

@@ -5,7 +5,7 @@ use borrow.Author.Needs.{needs}
 use mathlib.Core.Path.{sym, ap, _∙_}
 use lib.ListN.{length}
 use Rattle.query.specs.Query.{queryOf}
-use Rattle.header.specs.Header.{meaning}
+use Rattle.header.specs.Header.{headerSaid}
 use Rattle.header.proofs.HeaderLaws.{is-header, blocks-within}
 use Rattle.search.proofs.SearchLaws.{header-refuses, header-accepts}
 use Rattle.search.proofs.search_file.Statement.{statement}
@@ -21,26 +21,26 @@ enum-known-made-2 : tie.Need-enum-known-made-2
 enum-known-made-2 c = search needs
 
 search-tree-requires : tie.Need-search-tree-requires
-unfolding meaning
+unfolding headerSaid
 search-tree-requires c κs =
     let args = c .before .before .before .before .before .before .before .before .before .before .before .before .args in
     let read = c .before .before .before .before .before .read in
     let made2 = c .before .before .before .made2 in
     let pre = c .before .before .before .before .before .before .before .before .before .before .before .before .pre in (
-      is-header (now (args .file)) _ (sym (read .ensures) ∙ ap meaning (made2 .given .1)) .small,
+      is-header (now (args .file)) _ (sym (read .ensures) ∙ ap headerSaid (made2 .given .1)) .small,
       blocks-within (now (args .file)) _ (sym
-          (read .ensures) ∙ ap meaning (made2 .given .1)),
+          (read .ensures) ∙ ap headerSaid (made2 .given .1)),
       pre .0,
       pre .1,
     )
 
 returns : tie.Need-returns
-unfolding meaning
+unfolding headerSaid
 returns c =
     let args = c .before .before .before .before .before .before .before .before .before .before .args in
     let read = c .before .before .before .read in
     header-refuses (now (args .file)) (queryOf (now (args .start)) (args .stop-given) (now (args .stop)) (now (args .prefix))) (length (now
-    (args .opened))) (length (now (args .results))) _ _ _ _ (sym (read .ensures) ∙ ap meaning (c .before .made .given .1))
+    (args .opened))) (length (now (args .results))) _ _ _ _ (sym (read .ensures) ∙ ap headerSaid (c .before .made .given .1))
 
 same-length : tie.Need-same-length
 same-length c = search needs
@@ -49,14 +49,14 @@ same-length-2 : tie.Need-same-length-2
 same-length-2 c = search needs
 
 returns-2 : tie.Need-returns-2
-unfolding meaning
+unfolding headerSaid
 returns-2 c =
     let args = c .before .before .before .before .before .before .before .before .before .before .before .before .before .before .before .before .before .args in
     let read = c .before .before .before .before .before .before .before .before .before .before .read in
     let made2 = c .before .before .before .before .before .before .before .before .made2 in
     let search-tree = c .before .before .before .before .search-tree in
     header-accepts (now (args .file)) (queryOf (now (args .start)) (args .stop-given) (now (args .stop)) (now (args .prefix))) (length (now
-    (args .opened))) (length (now (args .results))) _ _ _ (sym (read .ensures) ∙ ap meaning (made2 .given .1)) _ (search-tree .ensures)
+    (args .opened))) (length (now (args .results))) _ _ _ (sym (read .ensures) ∙ ap headerSaid (made2 .given .1)) _ (search-tree .ensures)
 
 pub search-file-spec : {M : Type 1} → statement M
 search-file-spec =

@@ -6,7 +6,7 @@ use Prim.Native.Nat.{_-_}
 use native.Mathlib.Omega.{arith}
 use lib.ListN.{length, getD}
 use denote.Ref.{now}
-use Rattle.uleb128.specs.Number.{meaning}
+use Rattle.uleb128.specs.Number.{readingSaid}
 use Rattle.uleb128.proofs.PassedLaws.{Passed, passed-start, passed-step, digit-fits, passed-value, passed-long, passed-wide, passed-cut}
 use Rattle.uleb128.proofs.read_number.Statement.{statement}
 use Rattle.uleb128.proofs.read_number.Tie as tie
@@ -29,7 +29,7 @@ cast-b c =
     omega (arith, c .shared-slice-known .given (loop .n))
 
 returns : tie.Need-returns Inv-loop μ-loop
-unfolding meaning
+unfolding readingSaid
 returns c =
     let loop = c .before .before .before .before .before .loop in
     let loop-test = c .before .before .before .before .loop-test in
@@ -53,7 +53,7 @@ add-t14 : tie.Need-add-t14 Inv-loop μ-loop
 add-t14 c = omega arith
 
 returns-2 : tie.Need-returns-2 Inv-loop μ-loop
-unfolding meaning
+unfolding readingSaid
 returns-2 c =
     let loop = c .before .before .before .before .loop in
     let loop-test = c .before .before .before .loop-test in
@@ -61,7 +61,7 @@ returns-2 c =
     passed-value _ _ _ (loop .n) (loop .inv) (loop-test .taken) (c .before .if1 .taken) (inr (w .left))) (c .if2 .came))
 
 returns-3 : tie.Need-returns-3 Inv-loop μ-loop
-unfolding meaning
+unfolding readingSaid
 returns-3 c =
     let loop = c .before .before .before .before .loop in
     let loop-test = c .before .before .before .loop-test in
@@ -105,7 +105,7 @@ loop-again c =
     (c .if4 .left)
 
 returns-4 : tie.Need-returns-4 Inv-loop μ-loop
-unfolding meaning
+unfolding readingSaid
 returns-4 c =
     sym (passed-cut _ _ _ (c .before .loop .n) (c .before .loop .inv) (c .loop-test .left))
 

@@ -1,10 +1,10 @@
--- `block::pass::block_in` meets its contract: the level says which tests a payload has. Assumes nothing.
+-- `blockSaid::pass::block_in` meets its contract: the level says which tests a payloadSaid has. Assumes nothing.
 use mathlib.Core.Path.{sym, ap, _∙_}
 use borrow.Author.Needs.{needs}
 use denote.Ref.{now}
 use lib.Seq.{length-take-le}
-use Rattle.block.specs.Answers.{block}
-use Rattle.payload.specs.Answers.{payload}
+use Rattle.block.specs.Answers.{blockSaid}
+use Rattle.payload.specs.Answers.{payloadSaid}
 use Rattle.block.proofs.BlockLaws.{data-sound, data-unsound, index-sound, index-unsound, reserved-sound}
 use Rattle.block.proofs.pass.block_in.Statement.{statement}
 use Rattle.block.proofs.pass.block_in.Tie as tie
@@ -13,7 +13,7 @@ add-from : tie.Need-add-from
 add-from c = search needs
 
 returns : tie.Need-returns
-unfolding block
+unfolding blockSaid
 returns c = sym (reserved-sound _ _ (c .if1 .taken))
 
 slice-aggregate-records-at : tie.Need-slice-aggregate-records-at
@@ -47,41 +47,41 @@ enum-told : tie.Need-enum-told
 enum-told c = search needs
 
 returns-2 : tie.Need-returns-2
-unfolding block payload
+unfolding blockSaid payloadSaid
 returns-2 c =
     let args = c .before .before .before .before .before .before .before .before .before .args in
     let if2 = c .before .before .before .before .before .if2 in
     let records-at = c .before .before .before .records-at in
-    sym (data-unsound (now (args .file)) (args .f) _ _ (if2 .taken) (sym (records-at .ensures (args .f .start)) ∙ ap (payload
+    sym (data-unsound (now (args .file)) (args .f) _ _ (if2 .taken) (sym (records-at .ensures (args .f .start)) ∙ ap (payloadSaid
     (args .f .start)) (c .before .items .given .1)))
 
 returns-3 : tie.Need-returns-3
-unfolding block payload
+unfolding blockSaid payloadSaid
 returns-3 c =
     let args = c .before .before .before .before .before .before .before .before .before .args in
     let if2 = c .before .before .before .before .before .if2 in
     let records-at = c .before .before .before .records-at in
-    sym (data-sound (now (args .file)) (args .f) _ (if2 .taken) (sym (records-at .ensures (args .f .start)) ∙ ap (payload (args .f .start))
+    sym (data-sound (now (args .file)) (args .f) _ (if2 .taken) (sym (records-at .ensures (args .f .start)) ∙ ap (payloadSaid (args .f .start))
     (c .before .items2 .given .1)))
 
 returns-4 : tie.Need-returns-4
-unfolding block payload
+unfolding blockSaid payloadSaid
 returns-4 c =
     let args = c .before .before .before .before .before .before .before .before .before .args in
     let if2 = c .before .before .before .before .before .if2 in
     let if1 = c .before .before .before .before .before .before .if1 in
     let entries-at = c .before .before .before .entries-at in
-    sym (index-unsound (now (args .file)) (args .f) _ _ (if2 .left) (if1 .left) (sym (entries-at .ensures (args .f .start)) ∙ ap (payload
+    sym (index-unsound (now (args .file)) (args .f) _ _ (if2 .left) (if1 .left) (sym (entries-at .ensures (args .f .start)) ∙ ap (payloadSaid
     (args .f .start)) (c .before .items3 .given .1)))
 
 returns-5 : tie.Need-returns-5
-unfolding block payload
+unfolding blockSaid payloadSaid
 returns-5 c =
     let args = c .before .before .before .before .before .before .before .before .args in
     let if2 = c .before .before .before .before .if2 in
     let if1 = c .before .before .before .before .before .if1 in
     let entries-at = c .before .before .entries-at in
-    sym (index-sound (now (args .file)) (args .f) _ (if2 .left) (if1 .left) (sym (entries-at .ensures (args .f .start)) ∙ ap (payload
+    sym (index-sound (now (args .file)) (args .f) _ (if2 .left) (if1 .left) (sym (entries-at .ensures (args .f .start)) ∙ ap (payloadSaid
     (args .f .start)) (c .enum-told .given .1)))
 
 pub block-in-spec : {M : Type 1} → statement M

@@ -4,13 +4,13 @@ use mathlib.Core.Path.{_≡_, sym, _∙_}
 use mathlib.Core.Bool.{true}
 use borrow.Author.Needs.{needs}
 use borrow.Author.Tests.{not-true, not-false}
-use Rattle.header.specs.Header.{magic, unfinishedMagic, holdsHeader, headerCrcRight, holdsMetadata, meaning}
+use Rattle.header.specs.Header.{magic, unfinishedMagic, holdsHeader, headerCrcRight, holdsMetadata, headerSaid}
 use Rattle.header.proofs.RuleLaws.{header-long, header-unfinished, header-magic, Opened, header-cut, header-crc, header-room, header-fields}
 use Rattle.header.proofs.Header.read.Statement.{statement}
 use Rattle.header.proofs.Header.read.Tie as tie
 
 returns : tie.Need-returns
-unfolding meaning
+unfolding headerSaid
 returns c = sym (header-long _ (c .if1 .taken))
 
 slice-aggregate-begins-with : tie.Need-slice-aggregate-begins-with
@@ -20,7 +20,7 @@ begins-with-requires : tie.Need-begins-with-requires
 begins-with-requires c κs = search needs
 
 returns-2 : tie.Need-returns-2
-unfolding meaning unfinishedMagic
+unfolding headerSaid unfinishedMagic
 returns-2 c =
     let if1 = c .before .before .before .if1 in
     sym (header-unfinished _ (if1 .left) (sym (c .before .begins-with .ensures) ∙ c .if2 .taken))
@@ -32,7 +32,7 @@ begins-with-requires-2 : tie.Need-begins-with-requires-2
 begins-with-requires-2 c κs = search needs
 
 returns-3 : tie.Need-returns-3
-unfolding meaning unfinishedMagic magic
+unfolding headerSaid unfinishedMagic magic
 returns-3 c =
     let b = c .before .before .before in
     sym
@@ -54,7 +54,7 @@ holds-header-requires : tie.Need-holds-header-requires
 holds-header-requires c κs = search needs
 
 returns-4 : tie.Need-returns-4
-unfolding meaning
+unfolding headerSaid
 returns-4 c = sym (header-cut _ (opened (c .before .before)) (sym (c .before .holds-header .ensures) ∙ not-true _ (c .if4 .taken)))
 
 -- the header data lie within the file
@@ -65,7 +65,7 @@ crc-right-requires : tie.Need-crc-right-requires
 crc-right-requires c κs = held c
 
 returns-5 : tie.Need-returns-5
-unfolding meaning
+unfolding headerSaid
 returns-5 c =
     let before = c .before .before .before .before in
     sym (header-crc _ (opened (before)) (held (c .before .before)) (sym (c .before .crc-right .ensures) ∙ not-true _ (c .if5 .taken)))
@@ -78,7 +78,7 @@ holds-metadata-requires : tie.Need-holds-metadata-requires
 holds-metadata-requires c κs = search needs
 
 returns-6 : tie.Need-returns-6
-unfolding meaning
+unfolding headerSaid
 returns-6 c =
     let b = c .before .before in
     sym

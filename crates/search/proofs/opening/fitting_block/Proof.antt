@@ -1,9 +1,9 @@
--- `search::opening::fitting_block` meets its contract: size and level, then the block in the frame.
+-- `search::opening::fitting_block` meets its contract: size and level, then the blockSaid in the frame.
 -- Assumes nothing.
 use mathlib.Core.Path.{sym, ap, _∙_}
 use borrow.Author.Needs.{needs}
 use denote.Ref.{now}
-use Rattle.block.specs.Answers.{block}
+use Rattle.block.specs.Answers.{blockSaid}
 use Rattle.search.specs.Steps.{openingSaid}
 use Rattle.search.proofs.OpeningLaws.{fitting-size, fitting-low, fitting-high, fitting-unsound, fitting-sound}
 use Rattle.search.proofs.opening.fitting_block.Statement.{statement}
@@ -42,7 +42,7 @@ enum-known-inside-2 : tie.Need-enum-known-inside-2
 enum-known-inside-2 c = search needs
 
 returns-4 : tie.Need-returns-4
-unfolding openingSaid block
+unfolding openingSaid blockSaid
 returns-4 c =
     let args = c .before .before .before .before .before .before .before .before .before .before .args in
     let if1 = c .before .before .before .before .before .before .before .before .if1 in
@@ -50,10 +50,10 @@ returns-4 c =
     let if3 = c .before .before .before .before .if3 in
     let block-in = c .before .before .before .block-in in
     fitting-unsound (now (args .file)) (args .number) (args .place) (args .least) (args .most) (args .size) (args .f) (if1 .left)
-    (if2 .left) (if3 .left) _ _ (sym (block-in .ensures) ∙ ap (block (args .f .start)) (c .before .inside .given .1))
+    (if2 .left) (if3 .left) _ _ (sym (block-in .ensures) ∙ ap (blockSaid (args .f .start)) (c .before .inside .given .1))
 
 returns-5 : tie.Need-returns-5
-unfolding openingSaid block
+unfolding openingSaid blockSaid
 returns-5 c =
     let args = c .before .before .before .before .before .before .before .before .before .before .args in
     let if1 = c .before .before .before .before .before .before .before .before .if1 in
@@ -61,7 +61,7 @@ returns-5 c =
     let if3 = c .before .before .before .before .if3 in
     let block-in = c .before .before .before .block-in in
     fitting-sound (now (args .file)) (args .number) (args .place) (args .least) (args .most) (args .size) (args .f) (if1 .left) (if2 .left)
-    (if3 .left) _ _ (sym (block-in .ensures) ∙ ap (block (args .f .start)) (c .before .inside2 .given .1))
+    (if3 .left) _ _ (sym (block-in .ensures) ∙ ap (blockSaid (args .f .start)) (c .before .inside2 .given .1))
 
 pub fitting-block-spec : {M : Type 1} → statement M
 fitting-block-spec =

@@ -1,9 +1,9 @@
--- `search::opening::named_block` meets its contract: the offset, the frame there, then the block in it.
+-- `search::opening::named_block` meets its contract: the offset, the frameSaid there, then the block in it.
 -- Assumes nothing.
 use mathlib.Core.Path.{sym, ap, _∙_}
 use borrow.Author.Needs.{needs}
 use denote.Ref.{now}
-use Rattle.framing.specs.Answers.{frame}
+use Rattle.framing.specs.Answers.{frameSaid}
 use Rattle.block.proofs.BlockLaws.{frame-bounds}
 use Rattle.search.specs.Steps.{openingSaid}
 use Rattle.search.proofs.OpeningLaws.{named-before, named-behind, named-unsound, named-sound}
@@ -34,25 +34,25 @@ enum-known-found-2 : tie.Need-enum-known-found-2
 enum-known-found-2 c = search needs
 
 fitting-block-requires : tie.Need-fitting-block-requires
-unfolding frame
+unfolding frameSaid
 fitting-block-requires c κs =
     let args = c .before .before .before .before .before .before .before .args in
     let sound-frame-at = c .before .before .before .sound-frame-at in
-    frame-bounds (now (args .file)) (args .offset) _ (sym (sound-frame-at .ensures) ∙ ap (frame (args .offset))
+    frame-bounds (now (args .file)) (args .offset) _ (sym (sound-frame-at .ensures) ∙ ap (frameSaid (args .offset))
     (c .before .found2 .given .1))
 
 returns-3 : tie.Need-returns-3
-unfolding openingSaid frame
+unfolding openingSaid frameSaid
 returns-3 c =
     let args = c .before .before .before .before .before .before .before .args in
     let if1 = c .before .before .before .before .before .if1 in
     let if2 = c .before .before .before .before .if2 in
     let sound-frame-at = c .before .before .before .sound-frame-at in
     named-unsound (now (args .file)) (args .from) (args .number) (args .place) (args .least) (args .most) (args .offset) (args .size)
-    (if1 .left) (if2 .left) _ _ (sym (sound-frame-at .ensures) ∙ ap (frame (args .offset)) (c .before .found .given .1))
+    (if1 .left) (if2 .left) _ _ (sym (sound-frame-at .ensures) ∙ ap (frameSaid (args .offset)) (c .before .found .given .1))
 
 returns-4 : tie.Need-returns-4
-unfolding frame
+unfolding frameSaid
 returns-4 c =
     let args = c .before .before .before .before .before .before .before .before .args in
     let if1 = c .before .before .before .before .before .before .if1 in
@@ -60,7 +60,7 @@ returns-4 c =
     let sound-frame-at = c .before .before .before .before .sound-frame-at in
     let found2 = c .before .before .found2 in
     named-sound (now (args .file)) (args .from) (args .number) (args .place) (args .least) (args .most) (args .offset) (args .size)
-    (if1 .left) (if2 .left) _ _ (sym (sound-frame-at .ensures) ∙ ap (frame (args .offset)) (found2 .given .1)) (c .fitting-block .ensures)
+    (if1 .left) (if2 .left) _ _ (sym (sound-frame-at .ensures) ∙ ap (frameSaid (args .offset)) (found2 .given .1)) (c .fitting-block .ensures)
 
 pub named-block-spec : {M : Type 1} → statement M
 named-block-spec =

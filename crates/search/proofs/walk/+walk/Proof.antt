@@ -7,7 +7,7 @@ use borrow.Author.Needs.{needs}
 use denote.Ref.{now}
 use lib.ListN.{take}
 use lib.Seq.{length-take-le}
-use Rattle.payload.specs.Answers.{entry}
+use Rattle.payload.specs.Answers.{entrySaid}
 use Rattle.payload.proofs.PayloadLaws.{within-told}
 use Rattle.query.specs.Query.{queryOf}
 use Rattle.search.specs.Steps.{HasRoom}
@@ -97,7 +97,7 @@ walk-same-length-3 : (t : ℕ) → walk-lts.Need-same-length-3 (calls t) (walk-a
 walk-same-length-3 t c = search needs
 
 walk-returns-2 : (t : ℕ) → walk-lts.Need-returns-2 (calls t) (walk-at t) walk.Post walk-Inv-loop walk-μ-loop
-unfolding entry
+unfolding entrySaid
 walk-returns-2 t c =
     let loop = c .before .before .before .before .before .loop in
     let args = c .before .before .before .before .before .before .before .before .before .before .before .before .before .before .args in
@@ -109,7 +109,7 @@ walk-returns-2 t c =
       walk-ends (now (args .file)) (queryOf (now (args .start)) (args .stop-given)
           (now (args .stop)) (now (args .prefix))) (args .from) (args .f) (args .level) (args .above) (now (args .opened)) (now (args .results))
           (args .p) (if1 .left) (pre .1 .3) (pre .1 .2) _ _ _ (onward-refused _ _ _ _ _ _ _ _ _ _ _ _ _ _ _ (loop .inv) (loop-test .taken) _ _
-          (sym (entry-at .ensures .0 (args .f .start)) ∙ ap (entry (args .f .start) (take (args .f .end) (now (args .file))))
+          (sym (entry-at .ensures .0 (args .f .start)) ∙ ap (entrySaid (args .f .start) (take (args .f .end) (now (args .file))))
           (c .enum-told .given .1))),
     )
 
@@ -137,17 +137,17 @@ walk-enum-told-2 : (t : ℕ) → walk-lts.Need-enum-told-2 (calls t) (walk-at t)
 walk-enum-told-2 t c = search needs
 
 walk-loop-less : (t : ℕ) → walk-lts.Need-loop-less (calls t) (walk-at t) walk.Post walk-Inv-loop walk-μ-loop
-unfolding entry
+unfolding entrySaid
 walk-loop-less t c =
     let args = c .before .before .before .before .before .before .before .before .before .before .before .before .before .before .before .before .before .before .before .before .before .before .args in
     let entry-at = c .before .before .before .before .before .before .before .before .before .before .entry-at in
     let step = c .before .before .before .before .before .before .before .before .step in
     let loop-test = c .before .before .before .before .before .before .before .before .before .before .before .before .loop-test in
-    entry-closer (now (args .file)) (args .f .start) (args .f .end) _ _ _ _ _ _ (sym (entry-at .ensures .0 (args .f .start)) ∙ ap (entry
+    entry-closer (now (args .file)) (args .f .start) (args .f .end) _ _ _ _ _ _ (sym (entry-at .ensures .0 (args .f .start)) ∙ ap (entrySaid
     (args .f .start) (take (args .f .end) (now (args .file)))) (step .given .1)) (loop-test .taken)
 
 walk-loop-again : (t : ℕ) → walk-lts.Need-loop-again (calls t) (walk-at t) walk.Post walk-Inv-loop walk-μ-loop
-unfolding entry
+unfolding entrySaid
 walk-loop-again t c =
     let loop = c .before .before .before .before .before .before .before .before .before .before .before .before .before .loop in
     let loop-test = c .before .before .before .before .before .before .before .before .before .before .before .before .loop-test in
@@ -158,7 +158,7 @@ walk-loop-again t c =
     let next-key = c .before .before .before .before .before .before .next-key in
     let visit = c .before .before .before .before .visit in
     onward-passed _ _ _ _ _ _ _ _ _ _ _ _ _ _ _ (loop .inv) (loop-test .taken) _ _ _ _ _ (sym (entry-at .ensures .0 (args .f .start)) ∙ ap
-    (entry (args .f .start) (take (args .f .end) (now (args .file)))) (step .given .1)) (pre .1 .2) (within-told _ _ _ _ _ _ _
+    (entrySaid (args .f .start) (take (args .f .end) (now (args .file)))) (step .given .1)) (pre .1 .2) (within-told _ _ _ _ _ _ _
     (step .given .1) (entry-at .ensures .1)) _ (next-key .ensures .1) _ (visit .ensures .0) _ (visit .ensures .1) (c .enum-told2 .given .1)
 
 walk-enum-known-visited : (t : ℕ) → walk-lts.Need-enum-known-visited (calls t) (walk-at t) walk.Post walk-Inv-loop walk-μ-loop
@@ -171,7 +171,7 @@ walk-same-length-5 : (t : ℕ) → walk-lts.Need-same-length-5 (calls t) (walk-a
 walk-same-length-5 t c = search needs
 
 walk-returns-3 : (t : ℕ) → walk-lts.Need-returns-3 (calls t) (walk-at t) walk.Post walk-Inv-loop walk-μ-loop
-unfolding entry
+unfolding entrySaid
 walk-returns-3 t c =
     let args = c .before .before .before .before .before .before .before .before .before .before .before .before .before .before .before .before .before .before .before .before .before .before .before .args in
     let if1 = c .before .before .before .before .before .before .before .before .before .before .before .before .before .before .before .before .if1 in
@@ -186,7 +186,7 @@ walk-returns-3 t c =
       walk-ends (now (args .file)) (queryOf (now (args .start)) (args .stop-given) (now (args .stop)) (now
           (args .prefix))) (args .from) (args .f) (args .level) (args .above) (now (args .opened)) (now (args .results)) (args .p) (if1 .left)
           (pre .1 .3) (pre .1 .2) _ _ _ (onward-unopened _ _ _ _ _ _ _ _ _ _ _ _ _ _ _ (loop .inv) (loop-test .taken) _ _ _ _ _ (sym
-          (entry-at .ensures .0 (args .f .start)) ∙ ap (entry (args .f .start) (take (args .f .end) (now (args .file)))) (step .given .1))
+          (entry-at .ensures .0 (args .f .start)) ∙ ap (entrySaid (args .f .start) (take (args .f .end) (now (args .file)))) (step .given .1))
           (pre .1 .2) (within-told _ _ _ _ _ _ _ (step .given .1) (entry-at .ensures .1)) _ (next-key .ensures .1) _ (visit .ensures .0) _
           (visit .ensures .1) _ _ (c .before .visited .given .1) _ _),
     )
@@ -195,7 +195,7 @@ walk-enum-known-visited-2 : (t : ℕ) → walk-lts.Need-enum-known-visited-2 (ca
 walk-enum-known-visited-2 t c = search needs
 
 walk-add-t44 : (t : ℕ) → walk-lts.Need-add-t44 (calls t) (walk-at t) walk.Post walk-Inv-loop walk-μ-loop
-unfolding entry
+unfolding entrySaid
 walk-add-t44 t c =
     let loop = c .before .before .before .before .before .before .before .before .before .before .before .before .before .before .loop in
     let loop-test = c .before .before .before .before .before .before .before .before .before .before .before .before .before .loop-test in
@@ -207,7 +207,7 @@ walk-add-t44 t c =
     let visit = c .before .before .before .before .before .visit in
     let good = c .before .before .before .before .before .before .before .before .before .before .before .before .before .before .before .before .before .before .before .before .before .before .before .good in
     let few = child-place _ _ _ _ _ _ _ _ _ _ _ _ _ _ _ (loop .inv) (loop-test .taken) _ _ _ _ _ (sym (entry-at .ensures .0
-    (args .f .start)) ∙ ap (entry (args .f .start) (take (args .f .end) (now (args .file)))) (step .given .1)) (pre .1 .2) (within-told _ _
+    (args .f .start)) ∙ ap (entrySaid (args .f .start) (take (args .f .end) (now (args .file)))) (step .given .1)) (pre .1 .2) (within-told _ _
     _ _ _ _ _ (step .given .1) (entry-at .ensures .1)) _ (next-key .ensures .1) _ (visit .ensures .0) _ (visit .ensures .1) _
     (c .before .visited2 .given .1) in omega (arith, good)
 
@@ -217,7 +217,7 @@ walk-sub-walk t c =
     let some = if1 .left in omega arith
 
 walk-walk-requires : (t : ℕ) → walk-lts.Need-walk-requires (calls t) (walk-at t) walk.Post walk-Inv-loop walk-μ-loop
-unfolding entry
+unfolding entrySaid
 walk-walk-requires t c κs =
     let pre = c .before .before .before .before .before .before .before .before .before .before .before .before .before .before .before .before .before .before .before .before .before .before .before .before .before .pre in
     let if1 = c .before .before .before .before .before .before .before .before .before .before .before .before .before .before .before .before .before .before .if1 in
@@ -232,7 +232,7 @@ walk-walk-requires t c κs =
     let me = pre .0 in let some = if1 .left in (
       omega arith,
       child-asks _ _ _ _ _ _ _ _ _ _ _ _ _ _ _ (loop .inv) (loop-test .taken) _ _ _ _
-          _ (sym (entry-at .ensures .0 (args .f .start)) ∙ ap (entry (args .f .start) (take (args .f .end) (now (args .file)))) (step .given .1))
+          _ (sym (entry-at .ensures .0 (args .f .start)) ∙ ap (entrySaid (args .f .start) (take (args .f .end) (now (args .file)))) (step .given .1))
           (pre .1 .2) (within-told _ _ _ _ _ _ _ (step .given .1) (entry-at .ensures .1)) _ (next-key .ensures .1) _ (visit .ensures .0) _
           (visit .ensures .1) _ (visited2 .given .1) (pre .1 .0) (pre .1 .3) (next-key .ensures .0),
     )
@@ -254,7 +254,7 @@ walk-same-length-7 t c =
     walk .kept .1 .1 .1 .1 .1 .1 .1 .1 .1 .1 .0 ∙ loop .inv .wide
 
 walk-returns-4 : (t : ℕ) → walk-lts.Need-returns-4 (calls t) (walk-at t) walk.Post walk-Inv-loop walk-μ-loop
-unfolding entry
+unfolding entrySaid
 walk-returns-4 t c =
     let args = c .before .before .before .before .before .before .before .before .before .before .before .before .before .before .before .before .before .before .before .before .before .before .before .before .before .before .before .before .before .before .before .before .before .args in
     let if1 = c .before .before .before .before .before .before .before .before .before .before .before .before .before .before .before .before .before .before .before .before .before .before .before .before .before .before .if1 in
@@ -271,7 +271,7 @@ walk-returns-4 t c =
       walk-ends (now (args .file)) (queryOf (now (args .start)) (args .stop-given) (now (args .stop)) (now
           (args .prefix))) (args .from) (args .f) (args .level) (args .above) (now (args .opened)) (now (args .results)) (args .p) (if1 .left)
           (pre .1 .3) (pre .1 .2) _ _ _ (onward-stopped _ _ _ _ _ _ _ _ _ _ _ _ _ _ _ (loop .inv) (loop-test .taken) _ _ _ _ _ (sym
-          (entry-at .ensures .0 (args .f .start)) ∙ ap (entry (args .f .start) (take (args .f .end) (now (args .file)))) (step .given .1))
+          (entry-at .ensures .0 (args .f .start)) ∙ ap (entrySaid (args .f .start) (take (args .f .end) (now (args .file)))) (step .given .1))
           (pre .1 .2) (within-told _ _ _ _ _ _ _ (step .given .1) (entry-at .ensures .1)) _ (next-key .ensures .1) _ (visit .ensures .0) _
           (visit .ensures .1) _ (visited2 .given .1) _ _ _ (walk .ensures .1) _ _ (c .before .reached .given .1)),
     )
@@ -280,17 +280,17 @@ walk-enum-known-reached-2 : (t : ℕ) → walk-lts.Need-enum-known-reached-2 (ca
 walk-enum-known-reached-2 t c = search needs
 
 walk-loop-less-2 : (t : ℕ) → walk-lts.Need-loop-less-2 (calls t) (walk-at t) walk.Post walk-Inv-loop walk-μ-loop
-unfolding entry
+unfolding entrySaid
 walk-loop-less-2 t c =
     let args = c .before .before .before .before .before .before .before .before .before .before .before .before .before .before .before .before .before .before .before .before .before .before .before .before .before .before .before .before .before .before .before .before .before .args in
     let entry-at = c .before .before .before .before .before .before .before .before .before .before .before .before .before .before .before .before .before .before .before .before .before .entry-at in
     let step = c .before .before .before .before .before .before .before .before .before .before .before .before .before .before .before .before .before .before .before .step in
     let loop-test = c .before .before .before .before .before .before .before .before .before .before .before .before .before .before .before .before .before .before .before .before .before .before .before .loop-test in
-    entry-closer (now (args .file)) (args .f .start) (args .f .end) _ _ _ _ _ _ (sym (entry-at .ensures .0 (args .f .start)) ∙ ap (entry
+    entry-closer (now (args .file)) (args .f .start) (args .f .end) _ _ _ _ _ _ (sym (entry-at .ensures .0 (args .f .start)) ∙ ap (entrySaid
     (args .f .start) (take (args .f .end) (now (args .file)))) (step .given .1)) (loop-test .taken)
 
 walk-loop-again-2 : (t : ℕ) → walk-lts.Need-loop-again-2 (calls t) (walk-at t) walk.Post walk-Inv-loop walk-μ-loop
-unfolding entry
+unfolding entrySaid
 walk-loop-again-2 t c =
     let loop = c .before .before .before .before .before .before .before .before .before .before .before .before .before .before .before .before .before .before .before .before .before .before .before .before .loop in
     let loop-test = c .before .before .before .before .before .before .before .before .before .before .before .before .before .before .before .before .before .before .before .before .before .before .before .loop-test in
@@ -303,7 +303,7 @@ walk-loop-again-2 t c =
     let visited2 = c .before .before .before .before .before .before .before .before .before .before .before .visited2 in
     let walk = c .before .before .before .before .before .before .before .walk in
     onward-more _ _ _ _ _ _ _ _ _ _ _ _ _ _ _ (loop .inv) (loop-test .taken) _ _ _ _ _ (sym (entry-at .ensures .0 (args .f .start)) ∙ ap
-    (entry (args .f .start) (take (args .f .end) (now (args .file)))) (step .given .1)) (pre .1 .2) (within-told _ _ _ _ _ _ _
+    (entrySaid (args .f .start) (take (args .f .end) (now (args .file)))) (step .given .1)) (pre .1 .2) (within-told _ _ _ _ _ _ _
     (step .given .1) (entry-at .ensures .1)) _ (next-key .ensures .1) _ (visit .ensures .0) _ (visit .ensures .1) _ (visited2 .given .1) _ _
     _ (walk .ensures .1) _ (c .before .reached2 .given .1) (walk .ensures .0) (walk .kept .1 .1 .1 .1 .1 .1 .1 .1 .1 .0)
     (walk .kept .1 .1 .1 .1 .1 .1 .1 .1 .1 .1 .0)

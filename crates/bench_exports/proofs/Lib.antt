@@ -1,0 +1,2 @@
+-- Laws of what the benchmark calls.
+pub mod DigestLaws

@@ -1,0 +1,2 @@
+-- The meaning of what the benchmark calls.
+pub mod Digest

@@ -1,0 +1,2 @@
+-- Laws of the hash over the payloads of the data blocks.
+pub mod HashLaws

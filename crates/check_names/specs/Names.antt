@@ -1,0 +1,66 @@
+-- Refusals 19 and 20 on the work list: which entries were seen, as counts in the words.
+use Prim.Native.Nat.{ℕ, zero, suc, _+_, _*_, _/_, _^_, _≤_, _<_}
+use mathlib.Core.Path.{_≡_}
+use mathlib.Core.Bool.{Bool, true, false, cond}
+use mathlib.Core.List.{List, _++_, flatMap}
+use lib.Dec.{ltb, eqb}
+use lib.ListN.{length, getD}
+use Rattle.outcome.specs.Outcome.{Outcome, answer, _>>_}
+use Rattle.lists.specs.Lists.{keep, all}
+use Rattle.payload.specs.Payload.{Entry}
+use Rattle.block.specs.Block.{Block, blocksAt}
+use Rattle.block.specs.Survey.{ordinary}
+use Rattle.outcome.specs.declared.Refusal.{Refusal}
+use Rattle.outcome.specs.Refusal.{refusalOf}
+use Rattle.tree.specs.Tree.{names}
+use Rattle.tree.specs.Stages.{each, entriesFit, namedRightly}
+use Rattle.check_names.specs.Starts.{startsOf}
+
+-- 19, then 20
+unfoldable pub namingOf : List Block → (root : ℕ) → Outcome (Unit {0})
+namingOf bs root = each (entriesFit bs) 19 (ordinary bs) >> each (namedRightly bs root) 20 (ordinary bs)
+
+-- ---- the words
+
+-- how many of these entries name the offset
+unfoldable pub timesNamed : List Entry → ℕ → ℕ
+timesNamed seen at = length (keep (λ e. eqb (e .offset) at) seen)
+
+-- 2 for two or more
+unfoldable pub upToTwo : ℕ → ℕ
+upToTwo zero = 0
+upToTwo (suc zero) = 1
+upToTwo (suc (suc n)) = 2
+
+-- the word of a start, where these entries were seen
+unfoldable pub wordOf : List Entry → ℕ → ℕ
+wordOf seen at = at + 2 ^ 30 * upToTwo (timesNamed seen at)
+
+-- a word with one more naming
+unfoldable pub marked : ℕ → ℕ
+marked word = cond (ltb (word / 2 ^ 30) 2) (word + 2 ^ 30) word
+
+-- the first n words are those of the file's ordinary blocks, where these entries were seen
+pub record Kept (file : List ℕ) (from : ℕ) (bs : List Block) (seen : List Entry) (work : List ℕ) (n : ℕ) : Type 0 where
+  pub short : length file ≤ 2 ^ 30
+  pub read : blocksAt file from ≡ answer bs
+  pub many : length (startsOf bs) ≡ n
+  pub words : (i : ℕ) → i < n → getD work i 0 ≡ wordOf seen (getD (startsOf bs) i 0)
+
+-- ---- what the passes answer
+
+-- for one entry: the index of the word whose block it names, or n where it names none that fits
+pub record Named (bs : List Block) (level : ℕ) (e : Entry) (n r : ℕ) : Type 0 where
+  pub fits : r < n → names bs level e ≡ true
+  pub placed : r < n → getD (startsOf bs) r 0 ≡ e .offset
+  pub unfit : n ≤ r → names bs level e ≡ false
+
+-- for some entries of a block of this level: whether all name a fitting block; if so, all are seen
+pub record EntriesSeen (file : List ℕ) (from : ℕ) (bs : List Block) (level : ℕ) (seen es : List Entry) (work : List ℕ) (n : ℕ) (r : Bool) : Type 0 where
+  pub fit : r ≡ all (names bs level) es
+  pub kept : r ≡ true → Kept file from bs (seen ++ es) work n
+
+-- for all blocks: 19; if all fit, all entries are seen
+pub record AllSeen (file : List ℕ) (from : ℕ) (bs : List Block) (work : List ℕ) (n : ℕ) (r : Refusal) : Type 0 where
+  pub fault : refusalOf r ≡ each (entriesFit bs) 19 (ordinary bs)
+  pub kept : r .number ≡ 0 → Kept file from bs (flatMap (λ b. b .entries) (ordinary bs)) work n

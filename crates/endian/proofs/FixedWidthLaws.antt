@@ -1,0 +1,232 @@
+-- Laws of numbers of a fixed width, for any width and in either order of the bytes.
+-- A law about the highest byte first comes from the one about the lowest first by `reverse`. Assumes nothing.
+use mathlib.Core.Path.{_≡_, refl, sym, ap, _∙_}
+use mathlib.Core.List.{List, [], _∷_, _++_, reverse, reverseAux, reverse-append, reverse-reverse}
+use Prim.Native.Nat.{ℕ, zero, suc, _+_, _*_, _/_, _%_, _^_, _-_, _<_, _≤_, zero-le, suc-le-suc}
+use native.Mathlib.Nat.{add-comm, add-sub-cancel-left, mul-comm, pow-suc, zero-add, suc-add, one-le-pow, pow-le-pow-right}
+use native.Mathlib.Nat.{le-refl, lt-of-lt-of-le, le-of-suc-le-suc, not-suc-le-zero}
+use native.Mathlib.Nat.{div-div-eq-div-mul, div-one, mod-lt, mod-eq-of-lt, mod-one}
+use native.Mathlib.Numerals.{add-one}
+use native.Mathlib.Omega.{arith}
+use lib.Arith.{mod-mul}
+use lib.Dec.{lit<}
+use lib.ListN.{length, getD, take, drop, length-take, length-drop, length-reverse, drop-of-length-le}
+use lib.Seq.{take-all, take-nil, take-suc, drop-cons, getD-take, getD-drop}
+use Rattle.endian.specs.FixedWidth.{littleEndian, bigEndian, littleBytes, bigBytes}
+
+-- Lists of bytes
+
+-- every element is below 256
+abbrev pub Bytes : List ℕ → Type 0
+Bytes l = (k : ℕ) → k < length l → getD l k 0 < 256
+
+pub Bytes-nil : Bytes []
+Bytes-nil k h = absurd (not-suc-le-zero h)
+
+pub Bytes-cons : (b : ℕ) (bs : List ℕ) → b < 256 → Bytes bs → Bytes (b ∷ bs)
+Bytes-cons b bs hb hbs zero h = hb
+Bytes-cons b bs hb hbs (suc k) h = hbs k (le-of-suc-le-suc h)
+
+pub Bytes-tail : (b : ℕ) (bs : List ℕ) → Bytes (b ∷ bs) → Bytes bs
+Bytes-tail b bs h k p = h (suc k) (suc-le-suc p)
+
+pub Bytes-take : (n : ℕ) (l : List ℕ) → Bytes l → Bytes (take n l)
+Bytes-take n l h k p =
+    let q = rw length-take at p in
+    rw (getD-take n l k 0 (omega arith)) (h k (omega arith))
+
+pub Bytes-drop : (n : ℕ) (l : List ℕ) → Bytes l → Bytes (drop n l)
+Bytes-drop n l h k p =
+    let q = rw length-drop at p in
+    rw getD-drop (h (n + k) (omega arith))
+
+Bytes-reverseAux : (l r : List ℕ) → Bytes l → Bytes r → Bytes (reverseAux l r)
+Bytes-reverseAux [] r hl hr = hr
+Bytes-reverseAux (b ∷ bs) r hl hr =
+    Bytes-reverseAux bs (b ∷ r) (Bytes-tail b bs hl) (Bytes-cons b r (hl zero (suc-le-suc zero-le)) hr)
+
+pub Bytes-reverse : (l : List ℕ) → Bytes l → Bytes (reverse l)
+Bytes-reverse l h = Bytes-reverseAux l [] h Bytes-nil
+
+-- The number of a list of bytes
+
+-- bytes behind others count 256 ^ the number of those others
+pub littleEndian-append : (xs ys : List ℕ) → littleEndian (xs ++ ys) ≡ littleEndian xs + 256 ^ length xs * littleEndian ys
+unfolding littleEndian
+littleEndian-append [] ys = omega arith
+littleEndian-append (x ∷ xs) ys = rw (littleEndian-append xs ys, pow-suc) (omega arith)
+
+pub bigEndian-append : (xs ys : List ℕ) → bigEndian (xs ++ ys) ≡ bigEndian xs * 256 ^ length ys + bigEndian ys
+unfolding bigEndian
+bigEndian-append xs ys = rw (reverse-append, littleEndian-append, length-reverse) (omega arith)
+
+-- one byte more at the end
+pub bigEndian-snoc : (xs : List ℕ) (x : ℕ) → bigEndian (xs ++ (x ∷ [])) ≡ bigEndian xs * 256 + x
+unfolding bigEndian littleEndian
+bigEndian-snoc xs x = rw bigEndian-append (omega arith)
+
+-- n bytes are a number below 256 ^ n
+pub littleEndian-lt : (l : List ℕ) → Bytes l → littleEndian l < 256 ^ length l
+unfolding littleEndian
+littleEndian-lt [] h = lit< tt
+littleEndian-lt (b ∷ bs) h =
+    let below = littleEndian-lt bs (Bytes-tail b bs h) in
+    let first = h zero (suc-le-suc zero-le) in
+    rw pow-suc (omega arith)
+
+pub bigEndian-lt : (l : List ℕ) → Bytes l → bigEndian l < 256 ^ length l
+unfolding bigEndian
+bigEndian-lt l h = rw length-reverse at (littleEndian-lt (reverse l) (Bytes-reverse l h))
+
+-- and at most n bytes too
+pub littleEndian-lt-within : (n : ℕ) (l : List ℕ) → Bytes l → length l ≤ n → littleEndian l < 256 ^ n
+littleEndian-lt-within n l h few = lt-of-lt-of-le (littleEndian-lt l h) (pow-le-pow-right (lit< tt) few)
+
+pub bigEndian-lt-within : (n : ℕ) (l : List ℕ) → Bytes l → length l ≤ n → bigEndian l < 256 ^ n
+bigEndian-lt-within n l h few = lt-of-lt-of-le (bigEndian-lt l h) (pow-le-pow-right (lit< tt) few)
+
+pub bigEndian-take-lt : (n : ℕ) (l : List ℕ) → Bytes l → (i : ℕ) → i ≤ n → bigEndian (take i l) < 256 ^ n
+bigEndian-take-lt n l h i few = bigEndian-lt-within n (take i l) (Bytes-take i l h) (rw length-take (omega arith))
+
+pub littleEndian-drop-lt : (n : ℕ) (l : List ℕ) → Bytes l → (i : ℕ) → length l ≤ n + i → littleEndian (drop i l) < 256 ^ n
+littleEndian-drop-lt n l h i few = littleEndian-lt-within n (drop i l) (Bytes-drop i l h) (rw length-drop (omega arith))
+
+-- Reading byte after byte
+
+-- from the front: the byte at i comes behind those before it
+pub bigEndian-take-more : (l : List ℕ) (i : ℕ) → i < length l
+    → bigEndian (take (i + 1) l) ≡ bigEndian (take i l) * 256 + getD l i 0
+bigEndian-take-more l i h = rw (add-one, take-suc l i 0) (bigEndian-snoc (take i l) (getD l i 0))
+
+-- from the end: the byte before i comes in front of those from i on
+pub littleEndian-drop-less : (l : List ℕ) (i : ℕ) → 0 < i → i ≤ length l
+    → littleEndian (drop (i - 1) l) ≡ littleEndian (drop i l) * 256 + getD l (i - 1) 0
+unfolding littleEndian
+littleEndian-drop-less l zero none h = absurd (not-suc-le-zero none)
+littleEndian-drop-less l (suc i) some h =
+    let before : suc i - 1 ≡ i = omega arith in
+    rw (before, drop-cons l i 0) (omega arith)
+
+-- Reading n bytes from a position on
+
+-- nothing is there
+pub part-none : (s : List ℕ) (at n : ℕ) → length s ≤ at → take n (drop at s) ≡ []
+part-none s at n h = rw (drop-of-length-le s h) (take-nil n)
+
+-- all n are there
+pub part-whole : (s : List ℕ) (at n : ℕ) → take (at + n - at) (drop at s) ≡ take n (drop at s)
+part-whole s at n = rw add-sub-cancel-left
+
+-- fewer are there
+pub part-rest : (s : List ℕ) (at n : ℕ) → length s - at ≤ n → take (length s - at) (drop at s) ≡ take n (drop at s)
+part-rest s at n h =
+    let rest = length-drop at s in
+    take-all (length s - at) (drop at s) (omega arith) ∙ sym (take-all n (drop at s) (omega arith))
+
+pub bigEndian-part-lt : (n : ℕ) (s : List ℕ) → Bytes s → (at : ℕ) → bigEndian (take n (drop at s)) < 256 ^ n
+bigEndian-part-lt n s h at = bigEndian-take-lt n (drop at s) (Bytes-drop at s h) n (le-refl n)
+
+-- The bytes of a number
+
+pub littleBytes-length : (n x : ℕ) → length (littleBytes n x) ≡ n
+unfolding littleBytes
+littleBytes-length zero x = refl
+littleBytes-length (suc n) x = ap suc (littleBytes-length n _)
+
+pub bigBytes-length : (n x : ℕ) → length (bigBytes n x) ≡ n
+unfolding bigBytes
+bigBytes-length n x = length-reverse (littleBytes n x) ∙ littleBytes-length n x
+
+pub littleBytes-Bytes : (n x : ℕ) → Bytes (littleBytes n x)
+unfolding littleBytes
+littleBytes-Bytes zero x = Bytes-nil
+littleBytes-Bytes (suc n) x =
+    Bytes-cons (x % 256) (littleBytes n _) (mod-lt x (lit< tt)) (littleBytes-Bytes n _)
+
+pub bigBytes-Bytes : (n x : ℕ) → Bytes (bigBytes n x)
+unfolding bigBytes
+bigBytes-Bytes n x = Bytes-reverse (littleBytes n x) (littleBytes-Bytes n x)
+
+-- m + n bytes are the lowest m, and n of what is above them
+pub littleBytes-add : (m n x : ℕ) → littleBytes (m + n) x ≡ littleBytes m x ++ littleBytes n (x / 256 ^ m)
+unfolding littleBytes
+littleBytes-add zero n x = rw (zero-add, div-one)
+littleBytes-add (suc m) n x =
+    rw (suc-add, pow-suc, mul-comm (256 ^ m) 256, ← div-div-eq-div-mul)
+    (ap (λ (l : List ℕ). x % 256 ∷ l) (littleBytes-add m n (x / 256)))
+
+pub bigBytes-add : (m n x : ℕ) → bigBytes (m + n) x ≡ bigBytes m (x / 256 ^ n) ++ bigBytes n x
+unfolding bigBytes
+bigBytes-add m n x =
+    rw (add-comm m n, littleBytes-add n m x) (reverse-append (littleBytes n x) (littleBytes m (x / 256 ^ n)))
+
+-- There and back
+
+-- the number of the lowest n bytes
+pub littleEndian-littleBytes : (n x : ℕ) → littleEndian (littleBytes n x) ≡ x % 256 ^ n
+unfolding littleEndian littleBytes
+littleEndian-littleBytes zero x = sym (mod-one x)
+littleEndian-littleBytes (suc n) x =
+    let parts = mod-mul x {m = 256 ^ n} {c = 256} (one-le-pow n 256 (lit< tt)) (lit< tt) in
+    rw (littleEndian-littleBytes n (x / 256), pow-suc, parts) (omega arith)
+
+pub bigEndian-bigBytes : (n x : ℕ) → bigEndian (bigBytes n x) ≡ x % 256 ^ n
+unfolding bigEndian bigBytes
+bigEndian-bigBytes n x = rw reverse-reverse (littleEndian-littleBytes n x)
+
+-- the bytes of the number of a list of bytes
+pub littleBytes-littleEndian : (l : List ℕ) → Bytes l → littleBytes (length l) (littleEndian l) ≡ l
+unfolding littleEndian littleBytes
+littleBytes-littleEndian [] h = refl
+littleBytes-littleEndian (b ∷ bs) h =
+    let first = h zero (suc-le-suc zero-le) in
+    let low : (b + 256 * littleEndian bs) % 256 ≡ b = omega arith in
+    let high : (b + 256 * littleEndian bs) / 256 ≡ littleEndian bs = omega arith in
+    rw (low, high, littleBytes-littleEndian bs (Bytes-tail b bs h))
+
+pub bigBytes-bigEndian : (l : List ℕ) → Bytes l → bigBytes (length l) (bigEndian l) ≡ l
+unfolding bigEndian bigBytes
+bigBytes-bigEndian l h =
+    let back = littleBytes-littleEndian (reverse l) (Bytes-reverse l h) in
+    ap reverse (rw length-reverse at back) ∙ reverse-reverse l
+
+-- only the lowest n bytes of a number count
+pub littleBytes-mod : (n x : ℕ) → littleBytes n (x % 256 ^ n) ≡ littleBytes n x
+littleBytes-mod n x =
+    let back = littleBytes-littleEndian (littleBytes n x) (littleBytes-Bytes n x) in
+    rw (littleBytes-length, littleEndian-littleBytes) at back
+
+pub bigBytes-mod : (n x : ℕ) → bigBytes n (x % 256 ^ n) ≡ bigBytes n x
+unfolding bigBytes
+bigBytes-mod n x = ap reverse (littleBytes-mod n x)
+
+-- numbers of n bytes with the same bytes are the same
+pub littleBytes-injective : (n x y : ℕ) → x < 256 ^ n → y < 256 ^ n → littleBytes n x ≡ littleBytes n y → x ≡ y
+littleBytes-injective n x y hx hy same =
+    let values = sym (littleEndian-littleBytes n x) ∙ ap littleEndian same ∙ littleEndian-littleBytes n y in
+    sym (mod-eq-of-lt hx) ∙ values ∙ mod-eq-of-lt hy
+
+pub bigBytes-injective : (n x y : ℕ) → x < 256 ^ n → y < 256 ^ n → bigBytes n x ≡ bigBytes n y → x ≡ y
+bigBytes-injective n x y hx hy same =
+    let values = sym (bigEndian-bigBytes n x) ∙ ap bigEndian same ∙ bigEndian-bigBytes n y in
+    sym (mod-eq-of-lt hx) ∙ values ∙ mod-eq-of-lt hy
+
+-- The widths that the code writes
+
+-- below 256 ^ 4, the highest of four bytes needs no remainder
+pub bigBytes-four : (x : ℕ) → x < 256 ^ 4 → bigBytes 4 x ≡ x / 16777216 ∷ x / 65536 % 256 ∷ x / 256 % 256 ∷ x % 256 ∷ []
+unfolding bigBytes littleBytes
+bigBytes-four x h =
+    let a : x / 256 / 256 / 256 % 256 ≡ x / 16777216 = omega arith in
+    let b : x / 256 / 256 % 256 ≡ x / 65536 % 256 = omega arith in
+    rw (a, b)
+
+-- eight bytes are four and four
+pub bigBytes-eight : (x : ℕ) → bigBytes 8 x ≡ bigBytes 4 (x / 4294967296) ++ bigBytes 4 (x % 4294967296)
+bigBytes-eight x = bigBytes-add 4 4 x ∙ ap (λ (l : List ℕ). bigBytes 4 (x / 4294967296) ++ l) (sym (bigBytes-mod 4 x))
+
+-- a list of four bytes written out element by element, in front of others
+pub bigBytes-four-elements : (l : List ℕ) (x : ℕ) → l ≡ bigBytes 4 x → (r : List ℕ)
+    → getD l 0 0 ∷ getD l 1 0 ∷ getD l 2 0 ∷ getD l 3 0 ∷ r ≡ bigBytes 4 x ++ r
+unfolding bigBytes littleBytes
+bigBytes-four-elements l x e r = rw e

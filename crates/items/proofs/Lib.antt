@@ -1,0 +1,3 @@
+-- Laws of items that follow one another.
+pub mod ItemsLaws
+pub mod RefusalItemsLaws

@@ -1,0 +1,2 @@
+-- Items that follow one another.
+pub mod Items

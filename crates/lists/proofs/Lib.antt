@@ -1,0 +1,4 @@
+-- Laws of lists.
+pub mod ListsLaws
+pub mod RisingLaws
+pub mod CountLaws

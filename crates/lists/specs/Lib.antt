@@ -1,0 +1,2 @@
+-- Lists: the elements that pass a test, and whether any or all do.
+pub mod Lists

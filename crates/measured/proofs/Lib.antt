@@ -1,2 +1,0 @@
--- Laws of what is measured.
-pub mod MeasuredLaws

@@ -1,2 +1,0 @@
--- The meaning of what is measured.
-pub mod Measured

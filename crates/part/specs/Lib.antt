@@ -1,0 +1,2 @@
+-- A part of a byte string.
+pub mod Part

@@ -1,0 +1,14 @@
+-- The check accepts exactly the files that keep the rules.
+pub mod FillLaws
+pub mod ItemRuleLaws
+pub mod SortedLaws
+pub mod HeaderRuleLaws
+pub mod BlockRuleLaws
+pub mod StageLaws
+pub mod TiledLaws
+pub mod OrderedLaws
+pub mod TreeRuleLaws
+pub mod AcceptLaws
+pub mod PlacesLaws
+pub mod CheckTheorems
+pub mod SmallestFile

@@ -1,0 +1,2 @@
+-- The rules of the format.
+pub mod Rules

@@ -1,0 +1,2 @@
+-- The definitions answer every example.
+pub mod Examples

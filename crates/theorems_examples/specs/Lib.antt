@@ -1,0 +1,2 @@
+-- The examples, as one table.
+pub mod Examples

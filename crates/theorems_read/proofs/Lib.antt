@@ -1,0 +1,2 @@
+-- What reading front to back gives.
+pub mod ReadTheorems

@@ -1,0 +1,164 @@
+-- Theorems about reading a file front to back, over the definitions that the contract of `read` cites.
+-- Assumes nothing.
+use mathlib.Core.Path.{_≡_, refl, sym, ap, ap₂, _∙_, subst}
+use mathlib.Core.Bool.{Bool, true, false}
+use mathlib.Core.List.{List, _∷_, _++_, List·Memᴰ}
+use Prim.Native.Nat.{ℕ, _+_, _*_, _≤_, _<_}
+use native.Mathlib.Omega.{arith}
+use lib.Dec.{leb}
+use lib.ListN.{length, getD, length-append}
+use borrow.Author.Tests.{leb-true, leb-false}
+use Rattle.output_list.specs.OutputList.{padded, zeros}
+use Rattle.output_list.proofs.OutputListLaws.{length-zeros, length-padded, getD-padded}
+use Rattle.outcome.specs.Outcome.{Outcome, answer, refused}
+use Rattle.part.specs.Part.{part}
+use Rattle.outcome.proofs.OutcomeLaws.{answer-injective, answer-not-refused, bind⁻¹, kept⁻¹}
+use Rattle.header.specs.declared.Header.{Header}
+use Rattle.header.specs.Header.{headerOf, blocksFrom}
+use Rattle.header.proofs.HeaderLaws.{blocks-within}
+use Rattle.payload.specs.Payload.{Text}
+use Rattle.block.specs.Block.{Block, blocksAt}
+use Rattle.block.specs.Survey.{recordsOf}
+use Rattle.query.specs.Query.{Query, matches}
+use Rattle.matching.specs.Matching.{matching}
+use Rattle.matching.specs.ResultList.{numbersOf}
+use Rattle.reader.specs.Read.{readBlocks, readOf, readAnswer, readList}
+use Rattle.record.specs.Record.{recordOf}
+use Rattle.record.proofs.RecordLaws.{within-of, record-within}
+use Rattle.matching.proofs.MatchLaws.{matching-member, member-matching}
+use Rattle.matching.proofs.StoreLaws.{length-numbers, numbers-pair}
+use Rattle.reader.proofs.ReadLaws.{answer-of-refusal, list-of-refusal, answer-of-matches, list-of-matches, blocks-refused, blocks-fit, blocks-overflow, header-accepts}
+use Rattle.reader.proofs.PlaceLaws.{LaidOut, blocks-laid, matching-laid, laid-part, laid-rising, laid-member}
+
+module _ (file : List ℕ) (q : Query) (room : ℕ) where
+  -- ---- what an answer says: header and blocks are accepted, and the matches have two places each
+
+  pub record IsRead (ms : List Text) : Type 0 where
+    pub header : Header
+    pub blocks : List Block
+    pub header-accepted : headerOf file ≡ answer header
+    pub blocks-accepted : blocksAt file (blocksFrom header) ≡ answer blocks
+    pub matches-are : ms ≡ matching q (recordsOf blocks)
+    pub room-enough : 2 * length ms ≤ room
+
+  pub is-read : (ms : List Text) → readOf file q room ≡ answer ms → IsRead ms
+  unfolding readOf readBlocks
+  is-read ms e =
+      let first = bind⁻¹ (headerOf file) (readBlocks file q room) ms e in
+      let second = bind⁻¹ (blocksAt file (blocksFrom (first .0))) _ ms (first .2) in
+      let third = kept⁻¹ (leb (2 * length (matching q (recordsOf (second .0)))) room) 27 0 _ ms (second .2) in
+      go (first .0) (second .0) (first .1) (second .1) (leb-true _ room (third .0)) (answer-injective (matching q (recordsOf (second .0))) ms (third .1))
+    where
+      go : (h : Header) (bs : List Block) → headerOf file ≡ answer h → blocksAt file (blocksFrom h) ≡ answer bs → 2 * length (matching q (recordsOf bs)) ≤ room → matching q (recordsOf bs) ≡ ms → IsRead ms
+      go h bs a b fits same =
+          record {
+            header = h;
+            blocks = bs;
+            header-accepted = a;
+            blocks-accepted = b;
+            matches-are = sym same;
+            room-enough = subst (λ (l : List Text). 2 * length l ≤ room) same fits;
+          }
+
+  -- ---- demand 1: the answer, and the list at exit, for all inputs
+
+  -- after a refusal its number and place are reported, no match is counted, and the list is all zeros
+  pub read-refusal : (number place : ℕ) → readOf file q room ≡ refused number place
+      → (readAnswer (readOf file q room) ≡ record { number = number; place = place; matches = 0 }) × (readList room (readOf file q room) ≡ zeros room)
+  read-refusal number place e = (answer-of-refusal (readOf file q room) number place e, list-of-refusal room (readOf file q room) number place e)
+
+  -- without one number and place are 0, the matches are counted, and the list is their pairs and then zeros
+  pub read-answer : (ms : List Text) → readOf file q room ≡ answer ms
+      → (readAnswer (readOf file q room) ≡ record { number = 0; place = 0; matches = length ms }) × (readList room (readOf file q room) ≡ padded room (numbersOf ms))
+  read-answer ms e = (answer-of-matches (readOf file q room) ms e, list-of-matches room (readOf file q room) ms e)
+
+  -- the list keeps its length
+  pub read-length : length (readList room (readOf file q room)) ≡ room
+  read-length = go (readOf file q room) refl
+    where
+      go : (o : Outcome (List Text)) → readOf file q room ≡ o → length (readList room (readOf file q room)) ≡ room
+      go (answer ms) e =
+          let enough = is-read ms e .room-enough in
+          let numbers = length-numbers ms in
+          ap length (read-answer ms e .1) ∙ length-padded room (numbersOf ms) (omega arith)
+      go (refused number place) e = ap length (read-refusal number place e .1) ∙ length-zeros room
+
+  -- ---- demand 2: which records are found
+
+  module _ (h : Header) (header-accepted : headerOf file ≡ answer h) where
+    -- the header's refusals come first (`header-refuses`), then those of the block stage
+    pub read-unsound : (number place : ℕ) → blocksAt file (blocksFrom h) ≡ refused number place → readOf file q room ≡ refused number place
+    read-unsound number place e = header-accepts file q room h header-accepted ∙ blocks-refused file q room h number place e
+
+    module _ (bs : List Block) (blocks-accepted : blocksAt file (blocksFrom h) ≡ answer bs) where
+      -- with two places for each match reading gives exactly the records that match
+      pub read-whole : 2 * length (matching q (recordsOf bs)) ≤ room → readOf file q room ≡ answer (matching q (recordsOf bs))
+      read-whole fits = header-accepts file q room h header-accepted ∙ blocks-fit file q room h bs blocks-accepted fits
+
+      -- 27 exactly if the list has fewer than two places for each match
+      pub read-27 : room < 2 * length (matching q (recordsOf bs)) → readOf file q room ≡ refused 27 0
+      read-27 many = header-accepts file q room h header-accepted ∙ blocks-overflow file q room h bs blocks-accepted many
+
+      pub read-27⁻¹ : (number place : ℕ) → readOf file q room ≡ refused number place → room < 2 * length (matching q (recordsOf bs))
+      read-27⁻¹ number place e = go (leb (2 * length (matching q (recordsOf bs))) room) refl
+        where
+          go : (b : Bool) → leb (2 * length (matching q (recordsOf bs))) room ≡ b → room < 2 * length (matching q (recordsOf bs))
+          go true p = absurd (answer-not-refused (matching q (recordsOf bs)) number place (sym (read-whole (leb-true _ room p)) ∙ e))
+          go false p = leb-false (2 * length (matching q (recordsOf bs))) room p
+
+      -- the matches are the records that match
+      pub found : (ms : List Text) → readOf file q room ≡ answer ms → ms ≡ matching q (recordsOf bs)
+      found ms e = go (leb (2 * length (matching q (recordsOf bs))) room) refl
+        where
+          go : (b : Bool) → leb (2 * length (matching q (recordsOf bs))) room ≡ b → ms ≡ matching q (recordsOf bs)
+          go true p = answer-injective ms (matching q (recordsOf bs)) (sym e ∙ read-whole (leb-true _ room p))
+          go false p = absurd (answer-not-refused ms 27 0 (sym e ∙ read-27 (leb-false (2 * length (matching q (recordsOf bs))) room p)))
+
+      -- a record is found exactly if it is a record of the file and matches; `matching-keeps` and `matching-append` say in which order and how often
+      pub found⇒matches : (ms : List Text) → readOf file q room ≡ answer ms → (r : Text) → List·Memᴰ r ms → List·Memᴰ r (recordsOf bs) × (matches q (r .bytes) ≡ true)
+      found⇒matches ms e r m = matching-member q r (recordsOf bs) (subst (List·Memᴰ r) (found ms e) m)
+
+      pub matches⇒found : (ms : List Text) → readOf file q room ≡ answer ms → (r : Text) → List·Memᴰ r (recordsOf bs) → matches q (r .bytes) ≡ true → List·Memᴰ r ms
+      matches⇒found ms e r m fits = subst (List·Memᴰ r) (sym (found ms e)) (member-matching q r (recordsOf bs) m fits)
+
+  -- ---- where the records lie
+
+  -- the matches lie in the file behind the header, one behind the other
+  read-laid : (ms : List Text) (r : IsRead ms) → LaidOut file (blocksFrom (r .header)) ms (length file)
+  read-laid ms r =
+      let from = blocksFrom (r .header) in
+      let records = blocks-laid file from (r .blocks) (r .blocks-accepted) (blocks-within file (r .header) (r .header-accepted)) in
+      subst (λ (l : List Text). LaidOut file from l (length file)) (sym (r .matches-are)) (matching-laid file q (recordsOf (r .blocks)) from (length file) records)
+
+  -- the pair of each match: the offset of its first byte and its length. The record that is handed back for a pair is the match.
+  pub read-pair : (xs : List Text) (m : Text) (ys : List Text) → readOf file q room ≡ answer (xs ++ m ∷ ys)
+      → (list : List ℕ) → list ≡ readList room (readOf file q room)
+      → (getD list (2 * length xs) 0 ≡ m .at) × (getD list (2 * length xs + 1) 0 ≡ length (m .bytes)) × (recordOf file (getD list (2 * length xs) 0) (getD list (2 * length xs + 1) 0) ≡ m .bytes)
+  read-pair xs m ys e list is =
+      let pair = numbers-pair xs m ys in
+      let first : getD list (2 * length xs) 0 ≡ m .at = place (2 * length xs) (omega (arith, more)) ∙ pair .0 in
+      let second : getD list (2 * length xs + 1) 0 ≡ length (m .bytes) = place (2 * length xs + 1) (omega (arith, more)) ∙ pair .1 in
+      (first, second, ap₂ (recordOf file) first second ∙ handed)
+    where
+      more : length (numbersOf (xs ++ m ∷ ys)) ≡ 2 * (length xs + length (m ∷ ys))
+      more = length-numbers (xs ++ m ∷ ys) ∙ ap (λ (n : ℕ). 2 * n) (length-append xs (m ∷ ys))
+
+      place : (i : ℕ) → i < length (numbersOf (xs ++ m ∷ ys)) → getD list i 0 ≡ getD (numbersOf (xs ++ m ∷ ys)) i 0
+      place i h = ap (λ (l : List ℕ). getD l i 0) (is ∙ read-answer (xs ++ m ∷ ys) e .1) ∙ getD-padded room (numbersOf (xs ++ m ∷ ys)) i h
+
+      handed : recordOf file (m .at) (length (m .bytes)) ≡ m .bytes
+      handed =
+          let laid = read-laid (xs ++ m ∷ ys) (is-read (xs ++ m ∷ ys) e) in
+          let p = laid-part file xs m ys _ (length file) laid in
+          record-within file (m .at) (length (m .bytes)) (within-of file (m .at) (length (m .bytes)) (p .1)) ∙ p .2
+
+  -- offsets rise strictly, and no match overlaps another
+  pub read-rising : (xs : List Text) (m : Text) (ys : List Text) (n : Text) (zs : List Text) → readOf file q room ≡ answer (xs ++ m ∷ (ys ++ n ∷ zs)) → m .at + length (m .bytes) < n .at
+  read-rising xs m ys n zs e =
+      let ms = xs ++ m ∷ (ys ++ n ∷ zs) in
+      laid-rising file xs m ys n zs _ (length file) (read-laid ms (is-read ms e))
+
+-- the part of the file at the offset and of the length of each record is the record's bytes
+pub record-bytes : (file : List ℕ) (h : Header) (bs : List Block) → headerOf file ≡ answer h → blocksAt file (blocksFrom h) ≡ answer bs
+    → (r : Text) → List·Memᴰ r (recordsOf bs) → (r .at + length (r .bytes) ≤ length file) × (part file (r .at) (length (r .bytes)) ≡ r .bytes)
+record-bytes file h bs a b r m = laid-member file r (recordsOf bs) (blocksFrom h) (length file) (blocks-laid file (blocksFrom h) bs b (blocks-within file h a)) m

@@ -1,0 +1,1 @@
+// What reading front to back gives. There is no code.

@@ -1,0 +1,20 @@
+-- The search of an accepted file.
+pub mod Events
+pub mod EventsLaws
+pub mod SearchEvents
+pub mod SearchFinds
+pub mod SearchRoom
+pub mod SearchReads
+-- The search on any bytes.
+pub mod WalkSteps
+pub mod SearchTheorems
+pub mod WalkGrows
+pub mod SearchLocal
+-- The blocks that the search opens: exactly those of the rule, and few in vain.
+pub mod KeptLaws
+pub mod RuleWays
+pub mod OpenedExactly
+pub mod LeadsLaws
+pub mod TwoInVain
+pub mod OpenedFile
+pub mod Demand3

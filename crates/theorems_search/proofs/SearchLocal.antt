@@ -1,0 +1,140 @@
+-- A search that is answered depends only on the file's length, its header and the blocks on the opened list.
+-- Assumes nothing.
+use mathlib.Core.Path.{_≡_, refl, sym, ap, _∙_}
+use mathlib.Core.Bool.{Bool, true, false, _&&_, cond}
+use mathlib.Core.List.{List, [], _∷_, List·Memᴰ, List·Memᴰ·head, Memᴰ·append-right}
+use mathlib.Core.Option.{Option, none}
+use Prim.Native.Nat.{ℕ, zero, suc}
+use lib.Dec.{leb, ltb, eqb}
+use lib.ListN.{length}
+use Rattle.outcome.specs.Outcome.{Outcome, answer, _>>=_}
+use Rattle.part.specs.Part.{part}
+use Rattle.outcome.proofs.OutcomeLaws.{answer-injective, bind-answer, bind⁻¹, kept}
+use Rattle.header.specs.declared.Header.{Header}
+use Rattle.header.specs.Header.{headerOf, blocksFrom}
+use Rattle.header.proofs.HeaderLaws.{header-local}
+use Rattle.framing.specs.declared.Frame.{Frame}
+use Rattle.framing.specs.Frame.{soundFrameAt}
+use Rattle.payload.specs.Payload.{Entry}
+use Rattle.block.specs.Block.{Block, blockIn, blockAt}
+use Rattle.block.proofs.BlockLaws.{block⇒BlockRead}
+use Rattle.block.proofs.LocalLaws.{block-local}
+use Rattle.query.specs.Query.{Query}
+use Rattle.query.specs.Opening.{mayMatch}
+use Rattle.search.specs.Search.{Walked, nothing, withOpened, nextKey, fittingBlock, namedBlock, openBlock, walkOver, walkOf, walkFrom, searchOf, searchAnswer, openedList, resultList}
+use Rattle.theorems_search.specs.Locality.{SameWhereOpened}
+use Rattle.theorems_search.proofs.WalkSteps.{named⁻¹, named-block, open⁻¹}
+use Rattle.theorems_search.proofs.WalkGrows.{Grown, grown-member, over-grows, opens-grow, walk-grows}
+
+module _ (file other : List ℕ) (long : length other ≡ length file) where
+  -- the same bytes in the block at an offset, and in every block opened so far
+  abbrev Alike : ℕ → Type 0
+  Alike offset = (b : Block) → blockAt file offset ≡ answer b → part other offset (b .frame .size) ≡ part file offset (b .frame .size)
+
+  abbrev AllAlike : Walked → Type 0
+  AllAlike s = (offset : ℕ) → List·Memᴰ offset (s .opened) → Alike offset
+
+  alike-before : (s t : Walked) → Grown s t → AllAlike t → AllAlike s
+  alike-before s t g alike offset m = alike offset (grown-member s t g offset m)
+
+  -- ---- one block
+
+  pub named-local : (from number place least most offset size : ℕ) (c : Block)
+      → namedBlock file from number place least most offset size ≡ answer c → Alike offset → namedBlock other from number place least most offset size ≡ answer c
+  unfolding namedBlock fittingBlock
+  named-local from number place least most offset size c e alike =
+      let n = named⁻¹ file from number place least most offset size c e in
+      let here = named-block file from least most offset size c n in
+      let there = block⇒BlockRead other offset c (block-local file other offset c here long (alike c here)) in
+      let frame = answer-injective (n .frame) (c .frame) (sym (n .sound) ∙ block⇒BlockRead file offset c here .sound) in
+      kept (leb from offset && ltb offset (length other)) number place _ (ap (λ (k : ℕ). leb from offset && ltb offset k) long ∙ n .placed)
+      ∙ bind-answer (soundFrameAt other offset) (fittingBlock other number place least most size) (c .frame) (there .sound)
+      ∙ kept (fits (c .frame)) number place (blockIn other (c .frame)) (ap fits (sym frame) ∙ n .fitting)
+      ∙ there .inside
+    where
+      fits : Frame → Bool
+      fits f = eqb (f .size) size && (leb least (f .level) && leb (f .level) most)
+
+  pub open-local : (places from number place least most offset size : ℕ) (s : Walked) (c : Block)
+      → openBlock file places from number place least most offset size s ≡ answer c → Alike offset → openBlock other places from number place least most offset size s ≡ answer c
+  unfolding openBlock
+  open-local places from number place least most offset size s c e alike =
+      let o = open⁻¹ file places from number place least most offset size s c e in
+      kept (ltb (length (s .opened)) places) 26 0 (namedBlock other from number place least most offset size) (o .0)
+      ∙ named-local from number place least most offset size c (o .1) alike
+
+  -- a block is opened, and the walk goes on from it
+  opens-local : (places from number place least most offset size : ℕ) (here there : Block → Walked → Outcome Walked)
+      → ((c : Block) (s t : Walked) → here c s ≡ answer t → Grown s t)
+      → ((c : Block) (s t : Walked) → here c s ≡ answer t → AllAlike t → there c s ≡ answer t)
+      → (s t : Walked) → (openBlock file places from number place least most offset size s >>= λ c. here c (withOpened offset s)) ≡ answer t → AllAlike t
+      → (openBlock other places from number place least most offset size s >>= λ c. there c (withOpened offset s)) ≡ answer t
+  unfolding withOpened
+  opens-local places from number place least most offset size here there grows same s t e alike =
+      let first = bind⁻¹ (openBlock file places from number place least most offset size s) (λ c. here c (withOpened offset s)) t e in
+      let now = grown-member (withOpened offset s) t (grows (first .0) (withOpened offset s) t (first .2)) offset (Memᴰ·append-right (s .opened) (List·Memᴰ·head refl)) in
+      bind-answer (openBlock other places from number place least most offset size s) (λ c. there c (withOpened offset s)) (first .0)
+      (open-local places from number place least most offset size s (first .0) (first .1) (alike offset now))
+      ∙ same (first .0) (withOpened offset s) t (first .2) alike
+
+  -- ---- the walk
+
+  over-local : (q : Query) (here there : Entry → Option (List ℕ) → Walked → Outcome Walked) (above : Option (List ℕ))
+      → ((e : Entry) (bound : Option (List ℕ)) (s t : Walked) → here e bound s ≡ answer t → Grown s t)
+      → ((e : Entry) (bound : Option (List ℕ)) (s t : Walked) → here e bound s ≡ answer t → AllAlike t → there e bound s ≡ answer t)
+      → (es : List Entry) (s t : Walked) → walkOver q here above es s ≡ answer t → AllAlike t → walkOver q there above es s ≡ answer t
+  unfolding walkOver
+  over-local q here there above grows same [] s t a alike = a
+  over-local q here there above grows same (e ∷ es) s t a alike =
+      let bound = nextKey es above in
+      let first = bind⁻¹ (cond (mayMatch (e .key .bytes) bound q) (here e bound s) (answer s)) (walkOver q here above es) t a in
+      let before = alike-before (first .0) t (over-grows q here above grows es (first .0) t (first .2)) alike in
+      bind-answer (cond (mayMatch (e .key .bytes) bound q) (there e bound s) (answer s)) (walkOver q there above es) (first .0)
+      (one (mayMatch (e .key .bytes) bound q) (first .0) (first .1) before)
+      ∙ over-local q here there above grows same es (first .0) t (first .2) alike
+    where
+      one : (b : Bool) (u : Walked) → cond b (here e (nextKey es above) s) (answer s) ≡ answer u → AllAlike u → cond b (there e (nextKey es above) s) (answer s) ≡ answer u
+      one true u p before = same e (nextKey es above) s u p before
+      one false u p before = p
+
+  module _ (q : Query) (places room from : ℕ) where
+    pub walk-local : (level : ℕ) (b : Block) (upper : Option (List ℕ)) (s t : Walked)
+        → walkOf file q places room from level b upper s ≡ answer t → AllAlike t → walkOf other q places room from level b upper s ≡ answer t
+    unfolding walkOf
+    walk-local zero b upper s t e alike = e
+    walk-local (suc level) b upper s t e alike =
+        over-local q _ _ upper
+        (λ x bound. opens-grow file places from 19 (b .frame .start) level level (x .offset) (x .size) (λ c. walkOf file q places room from level c bound) (λ c. walk-grows file q places room from level c bound))
+        (λ x bound. opens-local places from 19 (b .frame .start) level level (x .offset) (x .size) (λ c. walkOf file q places room from level c bound) (λ c. walkOf other q places room from level c bound)
+        (λ c. walk-grows file q places room from level c bound) (λ c. walk-local level c bound))
+        (b .entries) s t e alike
+
+    pub walkFrom-local : (root rootsize : ℕ) (t : Walked) → walkFrom file q places room from root rootsize ≡ answer t → AllAlike t → walkFrom other q places room from root rootsize ≡ answer t
+    unfolding walkFrom
+    walkFrom-local root rootsize t e alike =
+        opens-local places from 17 0 1 63 root rootsize (λ b. walkOf file q places room from (b .frame .level) b none) (λ b. walkOf other q places room from (b .frame .level) b none)
+        (λ c. walk-grows file q places room from (c .frame .level) c none) (λ c. walk-local (c .frame .level) c none) nothing t e alike
+
+-- ---- the search
+
+module _ (file other : List ℕ) (q : Query) (places room : ℕ) (s : Walked) (found : searchOf file q places room ≡ answer s) (same : SameWhereOpened file other s) where
+  -- Locality: such a file gets the same answer.
+  pub search-local : searchOf other q places room ≡ answer s
+  unfolding searchOf
+  search-local = let read = bind⁻¹ (headerOf file) (walk file) s found in go (read .0) (read .1) (read .2)
+    where
+      walk : List ℕ → Header → Outcome Walked
+      walk f h = walkFrom f q places room (blocksFrom h) (h .root) (h .rootsize)
+
+      go : (h : Header) → headerOf file ≡ answer h → walk file h ≡ answer s → (headerOf other >>= walk other) ≡ answer s
+      go h has-header walked =
+          bind-answer (headerOf other) (walk other) h (header-local file other h has-header (same .long) (same .header))
+          ∙ walkFrom-local file other (same .long) q places room (blocksFrom h) (h .root) (h .rootsize) s walked (same .blocks)
+
+  -- so the answer and every place of both lists are the same
+  pub search-local-answer : (searchAnswer (searchOf other q places room) ≡ searchAnswer (searchOf file q places room))
+      × (openedList places (searchOf other q places room) ≡ openedList places (searchOf file q places room))
+      × (resultList room (searchOf other q places room) ≡ resultList room (searchOf file q places room))
+  search-local-answer =
+      let equal = search-local ∙ sym found in
+      (ap searchAnswer equal, ap (openedList places) equal, ap (resultList room) equal)

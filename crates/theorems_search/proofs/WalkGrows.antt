@@ -1,0 +1,63 @@
+-- The lists of the walk only grow: what it has opened and found it keeps, and puts more behind it.
+-- Assumes nothing.
+use mathlib.Core.Path.{_≡_, refl, sym, ap, _∙_, subst}
+use mathlib.Core.List.{List, [], _∷_, _++_, append-nil, append-assoc, List·Memᴰ, Memᴰ·append-left}
+use mathlib.Core.Option.{Option}
+use Prim.Native.Nat.{ℕ}
+use Rattle.outcome.specs.Outcome.{Outcome, answer, _>>=_}
+use Rattle.payload.specs.Payload.{Text, Entry}
+use Rattle.block.specs.Block.{Block}
+use Rattle.query.specs.Query.{Query}
+use Rattle.search.specs.Search.{Walked, withOpened, withMatch, openBlock, addMatches, walkOver, walkOf}
+use Rattle.theorems_search.proofs.WalkSteps.{over-keeps, matches-keep, opens-keep, walk-keeps}
+
+-- t has all that s has, in its order, and more behind it
+pub record Grown (s t : Walked) : Type 0 where
+  pub more-opened : List ℕ
+  pub opened-are : t .opened ≡ s .opened ++ more-opened
+  pub more-matches : List Text
+  pub matches-are : t .matches ≡ s .matches ++ more-matches
+
+pub grown-none : (s : Walked) → Grown s s
+grown-none s = record { more-opened = []; opened-are = sym (append-nil (s .opened)); more-matches = []; matches-are = sym (append-nil (s .matches)) }
+
+pub grown-further : (s t u : Walked) → Grown s t → Grown t u → Grown s u
+grown-further s t u g h =
+    record {
+      more-opened = g .more-opened ++ h .more-opened;
+      opened-are = h .opened-are ∙ ap (λ (l : List ℕ). l ++ h .more-opened) (g .opened-are) ∙ append-assoc (s .opened) (g .more-opened) (h .more-opened);
+      more-matches = g .more-matches ++ h .more-matches;
+      matches-are = h .matches-are ∙ ap (λ (l : List Text). l ++ h .more-matches) (g .matches-are) ∙ append-assoc (s .matches) (g .more-matches) (h .more-matches);
+    }
+
+pub grown-opened : (offset : ℕ) (s : Walked) → Grown s (withOpened offset s)
+unfolding withOpened
+grown-opened offset s = record { more-opened = offset ∷ []; opened-are = refl; more-matches = []; matches-are = sym (append-nil (s .matches)) }
+
+pub grown-match : (r : Text) (s : Walked) → Grown s (withMatch r s)
+unfolding withMatch
+grown-match r s = record { more-opened = []; opened-are = sym (append-nil (s .opened)); more-matches = r ∷ []; matches-are = refl }
+
+-- what was opened stays opened
+pub grown-member : (s t : Walked) → Grown s t → (offset : ℕ) → List·Memᴰ offset (s .opened) → List·Memᴰ offset (t .opened)
+grown-member s t g offset m = subst (List·Memᴰ offset) (sym (g .opened-are)) (Memᴰ·append-left (g .more-opened) m)
+
+-- ---- the walk
+
+pub matches-grow : (room : ℕ) (rs : List Text) (s t : Walked) → addMatches room rs s ≡ answer t → Grown s t
+matches-grow room = matches-keep Grown grown-none grown-further room (λ r s free. grown-match r s)
+
+pub over-grows : (q : Query) (visit : Entry → Option (List ℕ) → Walked → Outcome Walked) (above : Option (List ℕ))
+    → ((e : Entry) (bound : Option (List ℕ)) (s t : Walked) → visit e bound s ≡ answer t → Grown s t)
+    → (es : List Entry) (s t : Walked) → walkOver q visit above es s ≡ answer t → Grown s t
+over-grows = over-keeps Grown grown-none grown-further
+
+pub opens-grow : (file : List ℕ) (places from number place least most offset size : ℕ) (next : Block → Walked → Outcome Walked)
+    → ((c : Block) (s t : Walked) → next c s ≡ answer t → Grown s t)
+    → (s t : Walked) → (openBlock file places from number place least most offset size s >>= λ c. next c (withOpened offset s)) ≡ answer t → Grown s t
+opens-grow file places = opens-keep Grown grown-none grown-further file places (λ offset c s free read. grown-opened offset s)
+
+pub walk-grows : (file : List ℕ) (q : Query) (places room from level : ℕ) (b : Block) (upper : Option (List ℕ)) (s t : Walked)
+    → walkOf file q places room from level b upper s ≡ answer t → Grown s t
+walk-grows file q places room from =
+    walk-keeps Grown grown-none grown-further file places (λ offset c s free read. grown-opened offset s) room (λ r s free. grown-match r s) q from

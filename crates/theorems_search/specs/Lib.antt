@@ -1,0 +1,3 @@
+-- What is claimed of the search.
+pub mod Index
+pub mod Locality

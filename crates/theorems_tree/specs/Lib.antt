@@ -1,0 +1,2 @@
+-- All blocks of a file in walk order.
+pub mod Preorder
