@@ -1,4 +1,4 @@
--- `matching::collect_records` meets its contract. The loop's invariant is `RecordsCollected`: going on from here gives what the whole gives.
+-- `collect_records` meets its contract. The loop's invariant is `RecordsCollected`: going on from here gives what the whole gives.
 -- Assumes nothing.
 use mathlib.Core.Path.{sym, ap, _∙_}
 use Prim.Native.Nat.{_-_}

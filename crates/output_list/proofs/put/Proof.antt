@@ -1,4 +1,4 @@
--- `output_list::put` meets its contract: the place lies within the list exactly where there is room.
+-- `put` meets its contract: the place lies within the list exactly where there is room.
 -- Assumes nothing.
 use native.Mathlib.Omega.{arith}
 use borrow.Author.Needs.{needs}

@@ -1,4 +1,4 @@
--- `output_list::put_pair` meets its contract: both places lie within the list exactly where there is room. Assumes nothing.
+-- `put_pair` meets its contract: both places lie within the list exactly where there is room. Assumes nothing.
 use native.Mathlib.Omega.{arith}
 use borrow.Author.Needs.{needs}
 use denote.Ref.{now}

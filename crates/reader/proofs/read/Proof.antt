@@ -1,4 +1,4 @@
--- `reader::read` meets its contract: the header, then the blocks, over a list that was cleared. Assumes nothing.
+-- `read` meets its contract: the header, then the blocks, over a list that was cleared. Assumes nothing.
 use mathlib.Core.Path.{sym, ap, _∙_}
 use borrow.Author.Needs.{needs}
 use denote.Ref.{now}

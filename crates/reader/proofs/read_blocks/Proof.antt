@@ -1,4 +1,4 @@
--- `reader::read_blocks` meets its contract: each way out is one law of `ReadLaws`. Assumes nothing.
+-- `read_blocks` meets its contract: each way out is one law of `ReadLaws`. Assumes nothing.
 use mathlib.Core.Path.{sym, ap, _∙_}
 use native.Mathlib.Omega.{arith}
 use borrow.Author.Needs.{needs}

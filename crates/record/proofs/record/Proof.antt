@@ -1,4 +1,4 @@
--- `record::record` meets its contract: a part that lies within is lent, or the empty part at 0. Assumes nothing.
+-- `record` meets its contract: a part that lies within is lent, or the empty part at 0. Assumes nothing.
 use mathlib.Core.Path.{sym, _∙_}
 use native.Mathlib.Omega.{arith}
 use borrow.Author.Needs.{needs}

@@ -1,4 +1,4 @@
--- `reader::laid::collect` meets its contract. The loop's invariant is `FramesCollected`: going on from here gives what the whole gives.
+-- `collect` meets its contract. The loop's invariant is `FramesCollected`: going on from here gives what the whole gives.
 -- Assumes nothing.
 use mathlib.Core.Path.{sym, ap, _∙_}
 use Prim.Native.Nat.{_-_, _^_}

@@ -1,4 +1,4 @@
--- `test_archives::lists::room` meets its contract: the smaller of two numbers is at most the length. Assumes nothing.
+-- `room` meets its contract: the smaller of two numbers is at most the length. Assumes nothing.
 use native.Mathlib.Omega.{arith}
 use Rattle.io.proofs.Counting.{counts}
 use Rattle.test_archives.proofs.lists.room.Statement.{statement}
