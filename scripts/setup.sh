@@ -1,6 +1,6 @@
 #!/bin/sh
-# Installs what cli/ needs on a Debian 12 machine, and only what is missing; with --bench also what bench/ compares with.
-# apt-get isn't called at all where nothing is missing.
+# Installs what cli/ and scripts/ need on a Debian 12 machine, and only what is missing; with --bench also what bench/ compares with.
+# apt-get isn't called at all where nothing is missing. Warns where the Rattle toolchain isn't the one that the file `toolchain` names.
 set -eu
 
 missing=""
@@ -18,7 +18,7 @@ have() {
     command -v "$1" >/dev/null 2>&1 || [ -x "${CARGO_HOME:-$HOME/.cargo}/bin/$1" ]
 }
 
-# The crates that the command uses: arguments, mapped files, signs of life.
+# The crates that the command uses: arguments, mapped files, a progress line on a terminal.
 need librust-clap-dev
 need librust-clap-derive-dev
 need librust-memmap2-dev
@@ -44,6 +44,8 @@ have rustc || need rustc
 have cc || need gcc
 # What a linker and C programs need; gcc only recommends it.
 need libc6-dev
+# scripts/check-claims is written in it.
+have python3 || need python3
 
 if [ -n "$missing" ]; then
     as_root=""
@@ -54,6 +56,13 @@ if [ -n "$missing" ]; then
     # Word splitting is meant: each word is a package.
     # shellcheck disable=SC2086
     $as_root env DEBIAN_FRONTEND=noninteractive apt-get install -y --no-install-recommends $missing
+fi
+
+# The proofs were last checked with this toolchain. Another may do as well, so a difference is no failure.
+known=$(cat "$(dirname "$0")/../toolchain")
+found=$(rt version 2>/dev/null) || found="none"
+if [ "$found" != "$known" ]; then
+    echo "setup: warning: the Rattle toolchain here is '$found'; the proofs were checked with '$known'" >&2
 fi
 
 # Other releases of Debian bring other versions, which cli/ isn't written for.
