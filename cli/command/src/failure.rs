@@ -3,7 +3,7 @@
 use std::io::Write;
 use std::path::Path;
 
-use crate::refusals::{said, Refusal};
+use crate::refusals::Refusal;
 
 /// The exit status. The worst of several is the greatest.
 #[derive(Clone, Copy, Debug, PartialEq, Eq, PartialOrd, Ord)]
@@ -34,11 +34,21 @@ impl Failure {
     }
 
     /// The line for a person, if there is anything to say.
-    pub fn said_of(&self, file: &Path) -> Option<String> {
+    pub fn describe(&self, file: &Path) -> Option<String> {
         match self {
-            Failure::Refused(refusal) => Some(format!("{}: {}", file.display(), said(refusal))),
+            Failure::Refused(refusal) => {
+                Some(format!("{}: {}", file.display(), refusal.describe()))
+            }
             Failure::Trouble(words) => Some(words.clone()),
             Failure::ReaderGone => None,
+        }
+    }
+
+    /// What to do about a refusal.
+    pub fn advice(&self) -> Option<&'static str> {
+        match self {
+            Failure::Refused(refusal) => refusal.advice(),
+            Failure::Trouble(_) | Failure::ReaderGone => None,
         }
     }
 

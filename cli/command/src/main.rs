@@ -57,8 +57,11 @@ fn reported(file: &Path, outcome: Result<(), Failure>) -> Status {
     match outcome {
         Ok(()) => Status::Answered,
         Err(failure) => {
-            if let Some(reason) = failure.said_of(file) {
+            if let Some(reason) = failure.describe(file) {
                 complain(&reason);
+            }
+            if let Some(advice) = failure.advice() {
+                complain(&format!("what to do: {advice}"));
             }
             failure.status()
         }

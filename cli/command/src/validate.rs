@@ -35,7 +35,7 @@ fn verdict(file: &Path) -> Result<(), Failure> {
             counted(contents.blocks, "block", "blocks"),
         )),
         Err(failure) => {
-            if let (Failure::Refused(_), Some(line)) = (&failure, failure.said_of(file)) {
+            if let (Failure::Refused(_), Some(line)) = (&failure, failure.describe(file)) {
                 output::print(&format!("{line}\n"))?;
             }
             Err(failure)

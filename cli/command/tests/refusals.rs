@@ -25,7 +25,8 @@ fn a_flipped_bit_is_refused_with_its_place() {
     for command in ["dump", "info", "explain"] {
         let run = zs(&[command, &file]);
         assert_eq!((run.status, run.out.len()), (1, 0));
-        assert_eq!(run.err, format!("zs: {line}"));
+        let advice = "zs: what to do: get an undamaged copy of the file\n";
+        assert_eq!(run.err, format!("zs: {line}{advice}"));
     }
 }
 

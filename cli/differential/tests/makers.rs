@@ -6,6 +6,7 @@ use zs_differential::damage::{repair, Repair};
 use zs_differential::drawing::drawing;
 use zs_differential::faults::{faulty, NUMBERS};
 use zs_differential::shapes::shape;
+use zs_library::refusals::{numbers, Call};
 use zs_reference::maker::random::Random;
 use zs_reference::maker::{Content, Entry, Image, Target};
 use zs_reference::reader::check;
@@ -103,6 +104,13 @@ fn note_records(image: &Image, seen: &mut Seen) {
             before = records.last().cloned();
         }
     }
+}
+
+#[test]
+fn every_refusal_of_a_file_has_its_fault() {
+    // 1 takes a file above 2^30 bytes, 18 a short work list.
+    let due = numbers(Call::Check).filter(|number| ![1, 18].contains(number));
+    assert_eq!(due.collect::<Vec<_>>(), NUMBERS);
 }
 
 #[test]

@@ -2,6 +2,8 @@
 //! the contracts of the functions behind them hold for every slice, so nothing is asked of the caller.
 #![warn(missing_docs)]
 
+pub mod refusals;
+
 use std::fs::File;
 use std::io;
 
