@@ -133,7 +133,7 @@ fn record(file: &[u8], offset: u64, length: u64) -> Outcome {
     let given = library::record(file, offset, length);
     let mut outcome = Outcome::of(u64::from(!within), 0);
     outcome.same("part's offset", due_offset, given.offset);
-    outcome.same("part's length", due_length, given.size);
+    outcome.same("part's length", due_length, given.length);
     let given = library::within(file, offset, length);
     outcome.same("within", u64::from(within), u64::from(given));
     let due = file.get(due_offset as usize..(due_offset + due_length) as usize);

@@ -67,7 +67,7 @@ pub struct Part {
     /// The offset of its first byte.
     pub offset: u64,
     /// Its length.
-    pub size: u64,
+    pub length: u64,
 }
 
 // As include/zs.h has them. The structs above are C's: 64-bit numbers in this order.
@@ -101,8 +101,8 @@ extern "C" {
         results: *mut u64,
         results_len: usize,
     ) -> Found;
-    fn zs_record(file: *const u8, file_len: usize, offset: u64, size: u64) -> Part;
-    fn zs_within(file: *const u8, file_len: usize, offset: u64, size: u64) -> bool;
+    fn zs_record(file: *const u8, file_len: usize, offset: u64, length: u64) -> Part;
+    fn zs_within(file: *const u8, file_len: usize, offset: u64, length: u64) -> bool;
 }
 
 /// Checks the file. `work` needs a place for each ordinary block and is all zeros afterwards.
@@ -157,25 +157,25 @@ pub fn search(file: &[u8], query: &Query, opened: &mut [u64], results: &mut [u64
     }
 }
 
-/// Where the part lies; offset and size 0 where it isn't within the file.
-pub fn record(file: &[u8], offset: u64, size: u64) -> Part {
+/// Where the part lies; offset and length 0 where it isn't within the file.
+pub fn record(file: &[u8], offset: u64, length: u64) -> Part {
     // SAFETY: the pointer comes with the length of the slice it is taken from.
-    unsafe { zs_record(file.as_ptr(), file.len(), offset, size) }
+    unsafe { zs_record(file.as_ptr(), file.len(), offset, length) }
 }
 
 /// That very part of the file; its empty part at 0 where the part isn't within the file.
-pub fn bytes(file: &[u8], offset: u64, size: u64) -> &[u8] {
-    let part = record(file, offset, size);
-    let (start, length) = (part.offset as usize, part.size as usize);
-    file.get(start..)
-        .and_then(|behind| behind.get(..length))
+pub fn bytes(file: &[u8], offset: u64, length: u64) -> &[u8] {
+    let part = record(file, offset, length);
+    let from_start = file.get(part.offset as usize..);
+    from_start
+        .and_then(|rest| rest.get(..part.length as usize))
         .unwrap_or(&[])
 }
 
 /// Whether the part lies within the file.
-pub fn within(file: &[u8], offset: u64, size: u64) -> bool {
-    // SAFETY: as above.
-    unsafe { zs_within(file.as_ptr(), file.len(), offset, size) }
+pub fn within(file: &[u8], offset: u64, length: u64) -> bool {
+    // SAFETY: the pointer comes with the length of the slice it is taken from.
+    unsafe { zs_within(file.as_ptr(), file.len(), offset, length) }
 }
 
 /// Maps a whole file. Whoever calls this assumes that nobody changes or cuts the file while the mapping lives: the library's promises
