@@ -9,7 +9,7 @@
 //! * [`validate`], [`dump`], [`info`], [`explain`]: one module for each command.
 //! * [`output`], [`progress`], [`failure`]: where answers go, signs of life, and what went wrong.
 //! * [`layout`], [`walk`], [`json`]: fields and bounds for display only.
-#![forbid(unsafe_code)]
+#![deny(unsafe_code)]
 
 mod answers;
 mod archive;
@@ -19,6 +19,7 @@ mod escapes;
 mod explain;
 mod failure;
 mod info;
+#[allow(unsafe_code)]
 mod input;
 mod json;
 mod layout;

@@ -1,6 +1,11 @@
-//! Safe calls of the proved library. This is the only file with unsafe code: each call hands over slices as pointer and length, and
-//! the contracts of the functions behind them hold for every slice, so nothing is asked of the caller.
+//! Safe calls of the proved library, and [`map`], which is unsafe.
+//!
+//! Each call hands over slices as pointer and length, and the contracts of the functions that are called hold for every slice, so
+//! nothing is asked of the caller. Only [`map`] asks for a promise: that nobody changes the file. Beside this file, unsafe code stands
+//! where the command calls [`map`] (`cli/command/src/input.rs`), in the test of long files, and in the benchmark
+//! (`bench/src/foreign.rs`).
 #![warn(missing_docs)]
+#![deny(unsafe_op_in_unsafe_fn)]
 
 pub mod refusals;
 
@@ -178,9 +183,16 @@ pub fn within(file: &[u8], offset: u64, length: u64) -> bool {
     unsafe { zs_within(file.as_ptr(), file.len(), offset, length) }
 }
 
-/// Maps a whole file. Whoever calls this assumes that nobody changes or cuts the file while the mapping lives: the library's promises
-/// are about bytes that stay as they are, and a look behind the end of a file that was cut meanwhile ends the process.
-pub fn map(file: &File) -> io::Result<Mapping> {
-    // SAFETY: the mapping is private, read only and as long as the file; that the bytes stay as they are is the assumption above.
+/// Maps a whole file.
+///
+/// # Errors
+/// Those of the operating system, if it can't map the file.
+///
+/// # Safety
+/// While the mapping lives, nobody may change or cut the file, in this process or in another. The mapping is shared, so a change of the
+/// file is a change of the slice, and the library's promises are about bytes that stay as they are; a read past the end of a file that
+/// was cut ends the process.
+pub unsafe fn map(file: &File) -> io::Result<Mapping> {
+    // SAFETY: the mapping is read only and as long as the file; that its bytes stay as they are is the caller's promise.
     unsafe { Mapping::map(file) }
 }
