@@ -11,9 +11,12 @@ pub fn described() -> String {
         value.unwrap_or("unknown").to_string()
     };
     let flags = field("flags");
-    let has = |flag: &str| match flags.split(' ').any(|word| word == flag) {
-        true => "with",
-        false => "without",
+    let has = |flag: &str| {
+        if flags.split(' ').any(|word| word == flag) {
+            "with"
+        } else {
+            "without"
+        }
     };
     let cores = about
         .lines()

@@ -16,9 +16,11 @@ pub struct Archive {
 
 impl Archive {
     pub fn opened(path: &Path, trust: &Trust) -> Result<Self, Failure> {
-        let (input, known) = match trust.unchecked {
-            true => (unchecked(path)?, None),
-            false => checked(path).map(|(input, contents)| (input, Some(contents)))?,
+        let (input, known) = if trust.unchecked {
+            (unchecked(path)?, None)
+        } else {
+            let (input, contents) = checked(path)?;
+            (input, Some(contents))
         };
         Ok(Archive { input, known })
     }

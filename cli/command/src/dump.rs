@@ -18,15 +18,17 @@ pub fn run(asked: &Dump) -> Result<(), Failure> {
     let (file, known) = (archive.bytes(), archive.known);
     let answer = progress::during("reading", &asked.file, file.len(), || {
         let query = asked.selection.query();
-        match asked.scan {
-            true => read(file, &query, known, asked.max_results),
-            false => search(file, &query, known, asked.max_results),
+        if asked.scan {
+            read(file, &query, known, asked.max_results)
+        } else {
+            search(file, &query, known, asked.max_results)
         }
     })?;
     let target = asked.output.as_deref();
-    match asked.count {
-        true => output::write(target, &|out| writeln!(out, "{}", answer.count())),
-        false => output::write(target, &|out| records(asked, file, &answer, out)),
+    if asked.count {
+        output::write(target, &|out| writeln!(out, "{}", answer.count()))
+    } else {
+        output::write(target, &|out| records(asked, file, &answer, out))
     }
 }
 

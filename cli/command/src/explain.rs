@@ -69,9 +69,10 @@ fn summary(blocks: &[Opened], matches: u64, known: Option<Contents>) -> String {
         .iter()
         .map(|(level, number)| format!("{number} on level {level}"))
         .collect();
-    let in_vain = match levels.is_empty() {
-        true => String::from("none"),
-        false => levels.join(", "),
+    let in_vain = if levels.is_empty() {
+        String::from("none")
+    } else {
+        levels.join(", ")
     };
     let opened = blocks.len();
     format!(

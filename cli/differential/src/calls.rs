@@ -83,9 +83,10 @@ fn least(enough: impl Fn(usize) -> bool) -> usize {
     let (mut low, mut high) = (0, AMPLE);
     while low < high {
         let middle = (low + high) / 2;
-        match enough(middle) {
-            true => high = middle,
-            false => low = middle + 1,
+        if enough(middle) {
+            high = middle;
+        } else {
+            low = middle + 1;
         }
     }
     low

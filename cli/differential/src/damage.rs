@@ -28,9 +28,10 @@ pub fn damage(random: &mut Random, file: &mut Vec<u8>) {
 
 /// A position, behind the header two times out of three.
 fn place(random: &mut Random, length: usize) -> usize {
-    match random.once_in(3) || length <= 120 {
-        true => random.below(length),
-        false => 106 + random.below(length - 106),
+    if random.once_in(3) || length <= 120 {
+        random.below(length)
+    } else {
+        106 + random.below(length - 106)
     }
 }
 

@@ -29,9 +29,10 @@ fn many_ways(random: &mut Random) -> Image {
 fn hidden(random: &mut Random) -> Image {
     let inner = Image::new(vec![Plan::data(&["m", "n"])]).bytes();
     let block = &inner[106..];
-    let outer = match random.once_in(2) {
-        true => Plan::data(&[block]),
-        false => Plan::bytes(64 + random.below(192) as u8, block),
+    let outer = if random.once_in(2) {
+        Plan::data(&[block])
+    } else {
+        Plan::bytes(64 + random.below(192) as u8, block)
     };
     let shift = random.pick(&[1, 2, 3, 3]);
     let target = Target::Exactly(106 + shift, block.len() as u64);

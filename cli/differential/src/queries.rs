@@ -66,9 +66,10 @@ fn some(random: &mut Random, strings: &[Vec<u8>]) -> Vec<u8> {
 /// A beginning of one of the strings, short more often than not.
 fn beginning(random: &mut Random, strings: &[Vec<u8>]) -> Vec<u8> {
     let mut string = some(random, strings);
-    let length = match random.once_in(2) {
-        true => random.below(3),
-        false => random.below(string.len() + 1),
+    let length = if random.once_in(2) {
+        random.below(3)
+    } else {
+        random.below(string.len() + 1)
     };
     string.truncate(length);
     string
@@ -78,9 +79,10 @@ fn beginning(random: &mut Random, strings: &[Vec<u8>]) -> Vec<u8> {
 fn range(random: &mut Random, strings: &[Vec<u8>]) -> Query {
     let (one, other) = (part(random, strings), part(random, strings));
     let turned = random.once_in(12);
-    let (start, stop) = match (one <= other) != turned {
-        true => (one, other),
-        false => (other, one),
+    let (start, stop) = if (one <= other) != turned {
+        (one, other)
+    } else {
+        (other, one)
     };
     Query {
         start,
@@ -94,13 +96,15 @@ fn around(random: &mut Random, strings: &[Vec<u8>]) -> Query {
     let string = some(random, strings);
     let mut stop = string.clone();
     stop.push(0x00);
-    let start = match random.once_in(2) {
-        true => string.clone(),
-        false => string[..string.len().saturating_sub(1)].to_vec(),
+    let start = if random.once_in(2) {
+        string.clone()
+    } else {
+        string[..string.len().saturating_sub(1)].to_vec()
     };
-    let prefix = match random.once_in(3) {
-        true => string,
-        false => Vec::new(),
+    let prefix = if random.once_in(3) {
+        string
+    } else {
+        Vec::new()
     };
     Query {
         start,

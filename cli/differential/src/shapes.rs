@@ -38,13 +38,15 @@ fn usual(random: &mut Random, kind: &Kind, tree: &mut Tree) {
 /// One to three data blocks under many levels, most of them of one entry.
 fn chain(random: &mut Random, kind: &Kind, tree: &mut Tree) {
     tree.groups = groups(random, kind, 3, 2);
-    tree.root_level = match random.once_in(3) {
-        true => 63,
-        false => 5 + random.below(58) as u8,
+    tree.root_level = if random.once_in(3) {
+        63
+    } else {
+        5 + random.below(58) as u8
     };
-    tree.fan_out = match kind.is_long() {
-        true => vec![3],
-        false => vec![1; random.below(usize::from(tree.root_level))],
+    tree.fan_out = if kind.is_long() {
+        vec![3]
+    } else {
+        vec![1; random.below(usize::from(tree.root_level))]
     };
 }
 

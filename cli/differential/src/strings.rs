@@ -44,9 +44,10 @@ impl Kind {
         let mut string = self.stem.clone();
         for _ in 0..random.below(self.longest + 1) {
             let any = random.next() as u8;
-            string.push(match self.letters.is_empty() {
-                true => any,
-                false => random.pick(&self.letters),
+            string.push(if self.letters.is_empty() {
+                any
+            } else {
+                random.pick(&self.letters)
             });
         }
         string

@@ -6,9 +6,10 @@ use zs_reference::maker::{encoded, Content, Image, Plan, Target};
 
 /// Damages the frame of a block, most times of an ordinary one.
 pub fn damage(random: &mut Random, number: u64, image: &mut Image) {
-    let wanted = match random.once_in(8) {
-        true => |_: &Content| true,
-        false => is_ordinary,
+    let wanted = if random.once_in(8) {
+        |_: &Content| true
+    } else {
+        is_ordinary
     };
     let block = match some_block(random, image, wanted) {
         Some(block) => block,

@@ -41,9 +41,10 @@ fn off_by_much(random: &mut Random, block: usize) -> Target {
 
 /// The block's name with its offset or its size shifted.
 fn shifted(random: &mut Random, block: usize, shift: i64) -> Target {
-    match random.once_in(2) {
-        true => Target::Beside(block, shift, 0),
-        false => Target::Beside(block, 0, shift),
+    if random.once_in(2) {
+        Target::Beside(block, shift, 0)
+    } else {
+        Target::Beside(block, 0, shift)
     }
 }
 
@@ -61,12 +62,11 @@ pub fn entry(random: &mut Random, image: &mut Image) {
     let target = unfit(random, image, block);
     if let Some(entries) = entries_of(image, index) {
         let here = here % entries.len();
-        match random.once_in(2) {
-            true => entries[here].target = target,
-            false => {
-                let key = entries[here].key.clone();
-                entries.insert(here, Entry { key, target });
-            }
+        if random.once_in(2) {
+            entries[here].target = target;
+        } else {
+            let key = entries[here].key.clone();
+            entries.insert(here, Entry { key, target });
         }
     }
 }

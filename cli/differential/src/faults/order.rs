@@ -9,9 +9,10 @@ use zs_reference::maker::{Content, Image};
 /// 22: two entries, of one index block or of two on one level, change the blocks that they name; keys stay.
 pub fn walk(random: &mut Random, image: &mut Image) {
     let one = some_block(random, image, is_index);
-    let other = match random.once_in(2) {
-        true => one,
-        false => some_block(random, image, is_index),
+    let other = if random.once_in(2) {
+        one
+    } else {
+        some_block(random, image, is_index)
     };
     if let (Some(one), Some(other)) = (one, other) {
         if image.blocks[one].level == image.blocks[other].level {
@@ -53,9 +54,10 @@ pub fn key(random: &mut Random, image: &mut Image) {
     };
     if let Some(entries) = some_entries(random, image) {
         let here = random.below(entries.len());
-        let key = match random.once_in(2) {
-            true => near(random, &other),
-            false => near(random, &entries[here].key.clone()),
+        let key = if random.once_in(2) {
+            near(random, &other)
+        } else {
+            near(random, &entries[here].key.clone())
         };
         entries[here].key = key;
     }

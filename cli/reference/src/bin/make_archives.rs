@@ -39,9 +39,10 @@ fn parsed(arguments: &[String]) -> Option<(&str, Vec<Call>)> {
     let (folder, words) = arguments.split_first()?;
     let call = |word: &String| ALL_CALLS.into_iter().find(|call| call.word() == word);
     let calls: Vec<Call> = words.iter().map(call).collect::<Option<_>>()?;
-    match calls.is_empty() {
-        true => Some((folder, ALL_CALLS.to_vec())),
-        false => Some((folder, calls)),
+    if calls.is_empty() {
+        Some((folder, ALL_CALLS.to_vec()))
+    } else {
+        Some((folder, calls))
     }
 }
 

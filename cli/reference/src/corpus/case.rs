@@ -169,9 +169,10 @@ impl Case {
     }
 
     fn record_line(&self, file: &[u8]) -> String {
-        let inside = match within(file, self.offset, self.length) {
-            true => "yes",
-            false => "no",
+        let inside = if within(file, self.offset, self.length) {
+            "yes"
+        } else {
+            "no"
         };
         let (offset, length) = record(file, self.offset, self.length);
         let behind = file.get(offset as usize..).unwrap_or(&[]);
@@ -209,8 +210,9 @@ fn list(numbers: &[u64]) -> String {
 
 /// Bytes in hex, `-` for none.
 fn hex(bytes: &[u8]) -> String {
-    match bytes.is_empty() {
-        true => "-".to_string(),
-        false => bytes.iter().map(|byte| format!("{byte:02x}")).collect(),
+    if bytes.is_empty() {
+        "-".to_string()
+    } else {
+        bytes.iter().map(|byte| format!("{byte:02x}")).collect()
     }
 }

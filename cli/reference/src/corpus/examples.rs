@@ -149,9 +149,10 @@ fn beginnings(corpus: &mut Corpus) {
     for length in 0..=24 {
         let name = format!("first-{length:02}");
         let beginning = whole[..length].to_vec();
-        match length < 8 {
-            true => corpus.refused_first(&name, beginning, 3, 0),
-            false => corpus.refused(&name, beginning, 4, 0),
+        if length < 8 {
+            corpus.refused_first(&name, beginning, 3, 0);
+        } else {
+            corpus.refused(&name, beginning, 4, 0);
         }
     }
     for (offset, length) in [(0, 0), (0, 1), (1, 0)] {

@@ -59,9 +59,10 @@ fn mixed_key(seed: u64, before: Option<&[u8]>, first: Vec<u8>) -> Vec<u8> {
 /// One of the two, cut, lowered or made longer; unchanged where that breaks the rule.
 fn between(seed: u64, before: Vec<u8>, first: Vec<u8>) -> Vec<u8> {
     let mut random = Random::new(seed);
-    let chosen = match random.once_in(2) {
-        true => before.clone(),
-        false => first.clone(),
+    let chosen = if random.once_in(2) {
+        before.clone()
+    } else {
+        first.clone()
     };
     let mut key = chosen.clone();
     key.truncate(random.below(key.len() + 2));
@@ -71,8 +72,9 @@ fn between(seed: u64, before: Vec<u8>, first: Vec<u8>) -> Vec<u8> {
     for _ in 0..random.below(4) {
         key.push(random.pick(&[0x00, 0x61, 0xff]));
     }
-    match before <= key && key <= first {
-        true => key,
-        false => chosen,
+    if before <= key && key <= first {
+        key
+    } else {
+        chosen
     }
 }

@@ -103,9 +103,12 @@ fn placing(random: &mut Random) -> Placing {
 
 /// A query over the same small alphabet.
 pub fn query(random: &mut Random) -> Query {
-    let sometimes = |random: &mut Random| match random.once_in(2) {
-        true => random.string(3),
-        false => Vec::new(),
+    let sometimes = |random: &mut Random| {
+        if random.once_in(2) {
+            random.string(3)
+        } else {
+            Vec::new()
+        }
     };
     Query {
         start: sometimes(random),
@@ -134,9 +137,10 @@ pub fn bend(random: &mut Random, image: &mut Image) {
 
 fn beside(random: &mut Random, block: usize) -> Target {
     let shift = random.pick(&[-1, 1]);
-    match random.once_in(2) {
-        true => Target::Beside(block, shift, 0),
-        false => Target::Beside(block, 0, shift),
+    if random.once_in(2) {
+        Target::Beside(block, shift, 0)
+    } else {
+        Target::Beside(block, 0, shift)
     }
 }
 

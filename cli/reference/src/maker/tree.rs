@@ -79,9 +79,10 @@ impl Tree {
 
     /// The file, open to be changed. Without groups it has no blocks.
     pub fn image(&self) -> Image {
-        let mut image = match self.groups.is_empty() {
-            true => Image::new(Vec::new()),
-            false => self.blocks_and_root(),
+        let mut image = if self.groups.is_empty() {
+            Image::new(Vec::new())
+        } else {
+            self.blocks_and_root()
         };
         image.metadata = self.metadata.clone();
         image.extra = self.extra.clone();

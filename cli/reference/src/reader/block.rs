@@ -183,10 +183,12 @@ pub fn summarize<'a>(file: &'a [u8], block: &Block) -> Result<Summary<'a>, Refus
         summary.last = bytes;
         summary.count += 1;
     }
-    match rising {
-        true => Ok(summary),
-        false if block.is_data() => Err(refuse(16)),
-        false => Err(refuse(21)),
+    if rising {
+        Ok(summary)
+    } else if block.is_data() {
+        Err(refuse(16))
+    } else {
+        Err(refuse(21))
     }
 }
 
@@ -208,9 +210,10 @@ impl<'a> BlockStage<'a> {
     fn take_block(&mut self) -> Result<(Block, Option<Summary<'a>>), Refusal> {
         let block = block_at(self.file, self.at)?;
         self.at = block.end;
-        let summary = match block.is_ordinary() {
-            true => Some(summarize(self.file, &block)?),
-            false => None,
+        let summary = if block.is_ordinary() {
+            Some(summarize(self.file, &block)?)
+        } else {
+            None
         };
         Ok((block, summary))
     }

@@ -126,9 +126,10 @@ impl<'a> Walk<'a> {
             return Err(name.unfit);
         }
         summarize(self.file, &block)?;
-        match block.is_data() {
-            true => self.compare_records(&block),
-            false => self.visit_children(&block, upper),
+        if block.is_data() {
+            self.compare_records(&block)
+        } else {
+            self.visit_children(&block, upper)
         }
     }
 
