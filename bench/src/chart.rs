@@ -37,7 +37,7 @@ struct Axis {
 }
 
 impl Axis {
-    fn at(&self, value: f64) -> f64 {
+    fn position(&self, value: f64) -> f64 {
         let part = (value / self.low).ln() / (self.high / self.low).ln();
         part * self.length
     }
@@ -111,7 +111,7 @@ fn put_panel(out: &mut String, panel: &Panel) {
         ),
     );
     for tick in across.ticks(&[1.0]) {
-        let x = across.at(tick);
+        let x = across.position(tick);
         put(
             out,
             format_args!("<path d=\"M{x:.1} 0V{HEIGHT}\" stroke=\"#ddd\"/>"),
@@ -125,7 +125,7 @@ fn put_panel(out: &mut String, panel: &Panel) {
         );
     }
     for tick in up.ticks(&[1.0, 2.0, 5.0]) {
-        let y = HEIGHT - up.at(tick);
+        let y = HEIGHT - up.position(tick);
         let label = (tick * 1000.0).round() / 1000.0;
         put(
             out,
@@ -157,7 +157,7 @@ fn put_panel(out: &mut String, panel: &Panel) {
 }
 
 fn put_curve(out: &mut String, number: usize, series: &Series, across: &Axis, up: &Axis) {
-    let place = |(x, y): &(f64, f64)| (across.at(*x), HEIGHT - up.at(*y));
+    let place = |(x, y): &(f64, f64)| (across.position(*x), HEIGHT - up.position(*y));
     let places: Vec<(f64, f64)> = series.points.iter().map(place).collect();
     let line: Vec<String> = places
         .iter()

@@ -109,15 +109,15 @@ impl Lmdb {
         // SAFETY: each handle is made by the call before the one that uses it, and each call's answer is looked at; the path ends with
         // a zero byte and lives until the call is over.
         unsafe {
-            fine(mdb_env_create(&mut lmdb.environment))?;
-            fine(mdb_env_set_mapsize(lmdb.environment, MAP_SIZE))?;
-            fine(mdb_env_open(
+            check_status(mdb_env_create(&mut lmdb.environment))?;
+            check_status(mdb_env_set_mapsize(lmdb.environment, MAP_SIZE))?;
+            check_status(mdb_env_open(
                 lmdb.environment,
                 path.as_ptr(),
                 NO_SYNC,
                 0o600,
             ))?;
-            fine(mdb_txn_begin(
+            check_status(mdb_txn_begin(
                 lmdb.environment,
                 null_mut(),
                 0,
@@ -131,14 +131,14 @@ impl Lmdb {
         let written = std::mem::replace(&mut lmdb.transaction, null_mut());
         // SAFETY: the transaction is open and is never used again; the new one and its cursor are closed by `drop`.
         unsafe {
-            fine(mdb_txn_commit(written))?;
-            fine(mdb_txn_begin(
+            check_status(mdb_txn_commit(written))?;
+            check_status(mdb_txn_begin(
                 lmdb.environment,
                 null_mut(),
                 READ_ONLY,
                 &mut lmdb.transaction,
             ))?;
-            fine(mdb_cursor_open(lmdb.transaction, base, &mut lmdb.cursor))?;
+            check_status(mdb_cursor_open(lmdb.transaction, base, &mut lmdb.cursor))?;
         }
         Ok(lmdb)
     }
@@ -146,14 +146,14 @@ impl Lmdb {
     fn base(&self) -> Result<c_uint, String> {
         let mut base = 0;
         // SAFETY: the transaction is open; no name means the only database.
-        fine(unsafe { mdb_dbi_open(self.transaction, std::ptr::null(), 0, &mut base) })?;
+        check_status(unsafe { mdb_dbi_open(self.transaction, std::ptr::null(), 0, &mut base) })?;
         Ok(base)
     }
 
     fn put(&self, base: c_uint, record: &[u8]) -> Result<(), String> {
         let (mut key, mut data) = (value(record), value(&[]));
         // SAFETY: the write transaction is open; LMDB copies the key's bytes and changes none of them.
-        fine(unsafe { mdb_put(self.transaction, base, &mut key, &mut data, APPEND) })
+        check_status(unsafe { mdb_put(self.transaction, base, &mut key, &mut data, APPEND) })
     }
 
     /// Calls `each` with every record that begins with `prefix`, in order.
@@ -199,7 +199,7 @@ fn value(bytes: &[u8]) -> Value {
     }
 }
 
-fn fine(status: c_int) -> Result<(), String> {
+fn check_status(status: c_int) -> Result<(), String> {
     match status {
         0 => Ok(()),
         number => Err(format!("LMDB: error {number}")),

@@ -3,7 +3,7 @@
 use crate::others::version;
 
 /// The processor and the versions of the programs, in Markdown.
-pub fn described() -> String {
+pub fn describe() -> String {
     let about = std::fs::read_to_string("/proc/cpuinfo").unwrap_or_default();
     let field = |name: &str| {
         let line = about.lines().find(|line| line.starts_with(name));

@@ -53,7 +53,7 @@ pub fn key(record: &[u8]) -> &[u8] {
 }
 
 /// Some of the records, drawn from all of them.
-pub fn drawn(records: &[Vec<u8>], count: usize) -> Vec<&[u8]> {
+pub fn draw(records: &[Vec<u8>], count: usize) -> Vec<&[u8]> {
     let mut random = Random::new(64);
     let draw = |_| records[random.below(records.len())].as_slice();
     (0..count).map(draw).collect()

@@ -53,7 +53,7 @@ impl Table {
     }
 
     /// One row more.
-    pub fn row(&mut self, cells: &[&str]) {
+    pub fn add_row(&mut self, cells: &[&str]) {
         self.rows
             .push(cells.iter().map(|cell| cell.to_string()).collect());
     }
@@ -92,8 +92,8 @@ impl Report {
     }
 
     /// A ratio and what it should be.
-    pub fn goal(&mut self, what: &str, ratio: f64, goal: Goal) {
-        self.goals.row(&[
+    pub fn add_goal(&mut self, what: &str, ratio: f64, goal: Goal) {
+        self.goals.add_row(&[
             what,
             &format!("{ratio:.2}"),
             &goal.words(),
@@ -102,7 +102,7 @@ impl Report {
     }
 
     /// One table more.
-    pub fn table(&mut self, table: Table) {
+    pub fn add_table(&mut self, table: Table) {
         self.tables.push(table);
     }
 

@@ -61,7 +61,7 @@ impl Shape {
     ///
     /// Tiny blocks have more bytes around each record, which the CRC covers and the SHA doesn't: their time per byte says little
     /// beside that of 16 KiB blocks.
-    pub fn compared_with(self) -> &'static [(Shape, bool)] {
+    pub fn plainer_shapes(self) -> &'static [(Shape, bool)] {
         match self {
             Shape::Plain => &[],
             Shape::Interleaved | Shape::Chain | Shape::Huge => &[(Shape::Plain, true)],

@@ -15,11 +15,11 @@ pub struct Archive {
 }
 
 impl Archive {
-    pub fn opened(path: &Path, trust: &Trust) -> Result<Self, Failure> {
+    pub fn open(path: &Path, trust: &Trust) -> Result<Self, Failure> {
         let (input, known) = if trust.unchecked {
-            (unchecked(path)?, None)
+            (map_unchecked(path)?, None)
         } else {
-            let (input, contents) = checked(path)?;
+            let (input, contents) = read_and_check(path)?;
             (input, Some(contents))
         };
         Ok(Archive { input, known })
@@ -31,16 +31,16 @@ impl Archive {
 }
 
 /// Reads and checks a file.
-pub fn checked(path: &Path) -> Result<(Input, Contents), Failure> {
+pub fn read_and_check(path: &Path) -> Result<(Input, Contents), Failure> {
     let input = input::read(path)?;
     let bytes = input.bytes();
-    let contents = progress::during("checking", path, bytes.len(), || check(bytes))?;
+    let contents = progress::show_while("checking", path, bytes.len(), || check(bytes))?;
     Ok((input, contents))
 }
 
 /// Maps a file, and says what isn't promised of it.
-fn unchecked(path: &Path) -> Result<Input, Failure> {
-    let input = input::mapped(path)?;
+fn map_unchecked(path: &Path) -> Result<Input, Failure> {
+    let input = input::map(path)?;
     let name = path.display();
     complain(&format!(
         "{name}: not checked; that every match is found is promised for checked files only"

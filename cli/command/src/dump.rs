@@ -14,9 +14,9 @@ use crate::{output, progress};
 /// Writes nothing before the whole answer is known.
 pub fn run(asked: &Dump) -> Result<(), Failure> {
     spare_the_archive(asked)?;
-    let archive = Archive::opened(&asked.file, &asked.trust)?;
+    let archive = Archive::open(&asked.file, &asked.trust)?;
     let (file, known) = (archive.bytes(), archive.known);
-    let answer = progress::during("reading", &asked.file, file.len(), || {
+    let answer = progress::show_while("reading", &asked.file, file.len(), || {
         let query = asked.selection.query();
         if asked.scan {
             read(file, &query, known, asked.max_results)
@@ -28,7 +28,7 @@ pub fn run(asked: &Dump) -> Result<(), Failure> {
     if asked.count {
         output::write(target, &|out| writeln!(out, "{}", answer.count()))
     } else {
-        output::write(target, &|out| records(asked, file, &answer, out))
+        output::write(target, &|out| write_records(asked, file, &answer, out))
     }
 }
 
@@ -49,7 +49,12 @@ fn spare_the_archive(asked: &Dump) -> Result<(), Failure> {
 }
 
 /// Each record as a part of the file, with its terminator behind it or its length before it.
-fn records(asked: &Dump, file: &[u8], answer: &Answer, out: &mut dyn Write) -> io::Result<()> {
+fn write_records(
+    asked: &Dump,
+    file: &[u8],
+    answer: &Answer,
+    out: &mut dyn Write,
+) -> io::Result<()> {
     for (offset, length) in answer.matches() {
         let record = zs_library::bytes(file, offset, length);
         match asked.length_prefixed {

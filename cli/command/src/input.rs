@@ -34,7 +34,7 @@ pub fn read(path: &Path) -> Result<Input, Failure> {
 }
 
 /// Maps a file that isn't to be checked.
-pub fn mapped(path: &Path) -> Result<Input, Failure> {
+pub fn map(path: &Path) -> Result<Input, Failure> {
     load(path, 0).map_err(|error| Failure::of_file(path, &error))
 }
 

@@ -4,7 +4,7 @@
 const DEEPEST: usize = 64;
 
 /// A text as a JSON string.
-pub fn quoted(text: &str) -> String {
+pub fn quote(text: &str) -> String {
     let mut out = String::from("\"");
     for letter in text.chars() {
         match letter {
@@ -19,41 +19,46 @@ pub fn quoted(text: &str) -> String {
 }
 
 /// The text of a JSON value; nothing where the bytes are none.
-pub fn value(bytes: &[u8]) -> Option<&str> {
+pub fn as_json(bytes: &[u8]) -> Option<&str> {
     let text = std::str::from_utf8(bytes).ok()?;
-    let behind = any(bytes, DEEPEST)?;
-    spaces(behind).is_empty().then_some(text)
+    let behind = skip_value(bytes, DEEPEST)?;
+    skip_spaces(behind).is_empty().then_some(text)
 }
 
 /// Each of these takes one thing from the front and gives what follows it.
 type Rest<'a> = Option<&'a [u8]>;
 
-fn spaces(bytes: &[u8]) -> &[u8] {
+fn skip_spaces(bytes: &[u8]) -> &[u8] {
     let first = bytes.iter().position(|byte| !b" \t\n\r".contains(byte));
     bytes.get(first.unwrap_or(bytes.len())..).unwrap_or(&[])
 }
 
-fn any(bytes: &[u8], depth: usize) -> Rest<'_> {
-    let bytes = spaces(bytes);
+fn skip_value(bytes: &[u8], depth: usize) -> Rest<'_> {
+    let bytes = skip_spaces(bytes);
     match bytes.first()? {
-        b'{' => list(&bytes[1..], depth.checked_sub(1)?, b'}', member),
-        b'[' => list(&bytes[1..], depth.checked_sub(1)?, b']', any),
-        b'"' => string(bytes),
+        b'{' => skip_list(&bytes[1..], depth.checked_sub(1)?, b'}', skip_member),
+        b'[' => skip_list(&bytes[1..], depth.checked_sub(1)?, b']', skip_value),
+        b'"' => skip_string(bytes),
         b't' => bytes.strip_prefix(b"true"),
         b'f' => bytes.strip_prefix(b"false"),
         b'n' => bytes.strip_prefix(b"null"),
-        _ => number(bytes),
+        _ => skip_number(bytes),
     }
 }
 
 /// Items with commas between them, up to and with the closing bracket.
-fn list(bytes: &[u8], depth: usize, close: u8, item: fn(&[u8], usize) -> Rest<'_>) -> Rest<'_> {
-    let mut rest = spaces(bytes);
+fn skip_list(
+    bytes: &[u8],
+    depth: usize,
+    close: u8,
+    item: fn(&[u8], usize) -> Rest<'_>,
+) -> Rest<'_> {
+    let mut rest = skip_spaces(bytes);
     if let Some(behind) = rest.strip_prefix(&[close]) {
         return Some(behind);
     }
     loop {
-        rest = spaces(item(rest, depth)?);
+        rest = skip_spaces(item(rest, depth)?);
         match rest.split_first()? {
             (b',', behind) => rest = behind,
             (byte, behind) if *byte == close => return Some(behind),
@@ -62,12 +67,12 @@ fn list(bytes: &[u8], depth: usize, close: u8, item: fn(&[u8], usize) -> Rest<'_
     }
 }
 
-fn member(bytes: &[u8], depth: usize) -> Rest<'_> {
-    let behind = spaces(string(spaces(bytes))?);
-    any(behind.strip_prefix(b":")?, depth)
+fn skip_member(bytes: &[u8], depth: usize) -> Rest<'_> {
+    let behind = skip_spaces(skip_string(skip_spaces(bytes))?);
+    skip_value(behind.strip_prefix(b":")?, depth)
 }
 
-fn string(bytes: &[u8]) -> Rest<'_> {
+fn skip_string(bytes: &[u8]) -> Rest<'_> {
     let mut rest = bytes.strip_prefix(b"\"")?;
     loop {
         rest = match rest {
@@ -83,23 +88,23 @@ fn string(bytes: &[u8]) -> Rest<'_> {
     }
 }
 
-fn number(bytes: &[u8]) -> Rest<'_> {
+fn skip_number(bytes: &[u8]) -> Rest<'_> {
     let mut rest = bytes.strip_prefix(b"-").unwrap_or(bytes);
     rest = match rest.strip_prefix(b"0") {
         Some(behind) => behind,
-        None => digits(rest)?,
+        None => skip_digits(rest)?,
     };
     if let Some(behind) = rest.strip_prefix(b".") {
-        rest = digits(behind)?;
+        rest = skip_digits(behind)?;
     }
     match rest {
-        [b'e' | b'E', b'+' | b'-', behind @ ..] | [b'e' | b'E', behind @ ..] => digits(behind),
+        [b'e' | b'E', b'+' | b'-', behind @ ..] | [b'e' | b'E', behind @ ..] => skip_digits(behind),
         _ => Some(rest),
     }
 }
 
 /// One or more digits.
-fn digits(bytes: &[u8]) -> Rest<'_> {
+fn skip_digits(bytes: &[u8]) -> Rest<'_> {
     let end = bytes.iter().position(|byte| !byte.is_ascii_digit());
     bytes
         .get(end.unwrap_or(bytes.len())..)
@@ -123,7 +128,7 @@ mod tests {
             "\"\u{e9}\"",
             "[[],{}]",
         ] {
-            assert_eq!(value(text.as_bytes()), Some(text));
+            assert_eq!(as_json(text.as_bytes()), Some(text));
         }
     }
 
@@ -153,24 +158,24 @@ mod tests {
             "{} {}",
             "nullx",
         ] {
-            assert_eq!(value(text.as_bytes()), None, "{text}");
+            assert_eq!(as_json(text.as_bytes()), None, "{text}");
         }
-        assert_eq!(value(b"{\"a\":\"\xff\"}"), None);
+        assert_eq!(as_json(b"{\"a\":\"\xff\"}"), None);
     }
 
     #[test]
     fn nesting_is_limited() {
         let nested = |depth| format!("{}{}", "[".repeat(depth), "]".repeat(depth));
-        assert!(value(nested(64).as_bytes()).is_some());
-        assert!(value(nested(65).as_bytes()).is_none());
-        assert!(value("[".repeat(100_000).as_bytes()).is_none());
+        assert!(as_json(nested(64).as_bytes()).is_some());
+        assert!(as_json(nested(65).as_bytes()).is_none());
+        assert!(as_json("[".repeat(100_000).as_bytes()).is_none());
     }
 
     #[test]
     fn strings() {
-        assert_eq!(quoted("a\"\\\u{1}\u{e9}"), "\"a\\\"\\\\\\u0001\u{e9}\"");
+        assert_eq!(quote("a\"\\\u{1}\u{e9}"), "\"a\\\"\\\\\\u0001\u{e9}\"");
         assert_eq!(
-            value(quoted("\t\"\u{7f}").as_bytes()).map(str::len),
+            as_json(quote("\t\"\u{7f}").as_bytes()).map(str::len),
             Some(10 + 1)
         );
     }

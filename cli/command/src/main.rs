@@ -39,7 +39,7 @@ use failure::{complain, Failure, Status};
 fn main() -> ExitCode {
     let status = match Arguments::try_parse() {
         Ok(arguments) => run(&arguments.command),
-        Err(help_or_mistake) => shown(&help_or_mistake),
+        Err(help_or_mistake) => show_usage(&help_or_mistake),
     };
     ExitCode::from(status as u8)
 }
@@ -47,14 +47,14 @@ fn main() -> ExitCode {
 fn run(command: &Command) -> Status {
     match command {
         Command::Validate(asked) => validate::run(asked),
-        Command::Dump(asked) => reported(&asked.file, dump::run(asked)),
-        Command::Info(asked) => reported(&asked.file, info::run(asked)),
-        Command::Explain(asked) => reported(&asked.file, explain::run(asked)),
+        Command::Dump(asked) => report(&asked.file, dump::run(asked)),
+        Command::Info(asked) => report(&asked.file, info::run(asked)),
+        Command::Explain(asked) => report(&asked.file, explain::run(asked)),
     }
 }
 
 /// Says on standard error what kept a command from answering.
-fn reported(file: &Path, outcome: Result<(), Failure>) -> Status {
+fn report(file: &Path, outcome: Result<(), Failure>) -> Status {
     match outcome {
         Ok(()) => Status::Answered,
         Err(failure) => {
@@ -70,7 +70,7 @@ fn reported(file: &Path, outcome: Result<(), Failure>) -> Status {
 }
 
 /// Help and version are answers; anything else that the arguments come to is a mistake in them.
-fn shown(help_or_mistake: &clap::Error) -> Status {
+fn show_usage(help_or_mistake: &clap::Error) -> Status {
     match help_or_mistake.print() {
         Ok(()) if !help_or_mistake.use_stderr() => Status::Answered,
         Err(error) if error.kind() == std::io::ErrorKind::BrokenPipe => Status::Answered,

@@ -10,7 +10,7 @@ const LONG: usize = 1 << 20;
 const TURN: Duration = Duration::from_millis(100);
 
 /// Does the work, and shows meanwhile that it goes on.
-pub fn during<T>(what: &str, path: &Path, size: usize, work: impl FnOnce() -> T) -> T {
+pub fn show_while<T>(what: &str, path: &Path, size: usize, work: impl FnOnce() -> T) -> T {
     if size < LONG {
         return work();
     }

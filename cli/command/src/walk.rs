@@ -62,7 +62,7 @@ impl<'a> Opened<'a> {
 }
 
 /// The opened blocks in walk order.
-pub fn walked<'a>(file: &'a [u8], answer: &Answer) -> Vec<Opened<'a>> {
+pub fn lay_out<'a>(file: &'a [u8], answer: &Answer) -> Vec<Opened<'a>> {
     let mut blocks: Vec<Opened> = Vec::with_capacity(answer.opened.len());
     // A block stands below the last one before it that is a level higher.
     let mut last_on_level = [None; 257];

@@ -12,7 +12,7 @@ pub fn damage(random: &mut Random, file: &mut Vec<u8>) {
     if length == 0 {
         return;
     }
-    let here = place(random, length);
+    let here = draw_place(random, length);
     match random.below(10) {
         0 => file.truncate(here),
         1 => file.extend(random.string(12)),
@@ -27,7 +27,7 @@ pub fn damage(random: &mut Random, file: &mut Vec<u8>) {
 }
 
 /// A position, behind the header two times out of three.
-fn place(random: &mut Random, length: usize) -> usize {
+fn draw_place(random: &mut Random, length: usize) -> usize {
     if random.once_in(3) || length <= 120 {
         random.below(length)
     } else {

@@ -4,11 +4,11 @@ use zs_reference::maker::random::Random;
 use zs_reference::maker::{Image, Plan, Target};
 
 /// Such a file.
-pub fn hostile(random: &mut Random) -> Image {
+pub fn draw_hostile(random: &mut Random) -> Image {
     match random.below(3) {
         0 => many_ways(random),
-        1 => hidden(random),
-        _ => shared(random),
+        1 => hidden_blocks(random),
+        _ => shared_blocks(random),
     }
 }
 
@@ -26,7 +26,7 @@ fn many_ways(random: &mut Random) -> Image {
 }
 
 /// Whole blocks inside a record or a reserved block, named by entries.
-fn hidden(random: &mut Random) -> Image {
+fn hidden_blocks(random: &mut Random) -> Image {
     let inner = Image::new(vec![Plan::data(&["m", "n"])]).bytes();
     let block = &inner[106..];
     let outer = if random.once_in(2) {
@@ -44,7 +44,7 @@ fn hidden(random: &mut Random) -> Image {
 }
 
 /// Blocks of two levels that any entry may name, in any order.
-fn shared(random: &mut Random) -> Image {
+fn shared_blocks(random: &mut Random) -> Image {
     let data = 2 + random.below(4);
     let mut blocks: Vec<Plan> = (0..data)
         .map(|_| {

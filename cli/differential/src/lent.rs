@@ -50,13 +50,13 @@ impl<T: Clone + PartialEq> Lent<T> {
     }
 
     /// Whether the guards are as they were.
-    pub fn guarded(&self) -> bool {
+    pub fn guards_hold(&self) -> bool {
         let end = self.all.len() - GUARDS;
         self.all[..GUARDS] == self.kept[..GUARDS] && self.all[end..] == self.kept[end..]
     }
 
     /// Whether everything is as it was.
-    pub fn unchanged(&self) -> bool {
+    pub fn is_unchanged(&self) -> bool {
         self.all == self.kept
     }
 }

@@ -1,6 +1,6 @@
 //! Queries biased to the bounds of a file.
 
-use crate::strings::near;
+use crate::strings::vary;
 use zs_reference::maker::random::Random;
 use zs_reference::maker::{Content, Image};
 use zs_reference::reader::Query;
@@ -26,7 +26,7 @@ pub fn query(random: &mut Random, strings: &[Vec<u8>]) -> Query {
         1 => query.prefix = part(random, strings),
         2 => query.start = part(random, strings),
         3 => query.stop = Some(part(random, strings)),
-        4 => query = around(random, strings),
+        4 => query = narrow_range(random, strings),
         5 | 6 => query = range(random, strings),
         7 => {
             query.start = part(random, strings);
@@ -50,13 +50,13 @@ fn part(random: &mut Random, strings: &[Vec<u8>]) -> Vec<u8> {
         0 => Vec::new(),
         1 => random.string(3),
         _ => {
-            let string = some(random, strings);
-            near(random, &string)
+            let string = some_string(random, strings);
+            vary(random, &string)
         }
     }
 }
 
-fn some(random: &mut Random, strings: &[Vec<u8>]) -> Vec<u8> {
+fn some_string(random: &mut Random, strings: &[Vec<u8>]) -> Vec<u8> {
     strings
         .get(random.below(strings.len()))
         .cloned()
@@ -65,7 +65,7 @@ fn some(random: &mut Random, strings: &[Vec<u8>]) -> Vec<u8> {
 
 /// A beginning of one of the strings, short more often than not.
 fn beginning(random: &mut Random, strings: &[Vec<u8>]) -> Vec<u8> {
-    let mut string = some(random, strings);
+    let mut string = some_string(random, strings);
     let length = if random.once_in(2) {
         random.below(3)
     } else {
@@ -92,8 +92,8 @@ fn range(random: &mut Random, strings: &[Vec<u8>]) -> Query {
 }
 
 /// One string alone: from itself, or just below, to just behind it.
-fn around(random: &mut Random, strings: &[Vec<u8>]) -> Query {
-    let string = some(random, strings);
+fn narrow_range(random: &mut Random, strings: &[Vec<u8>]) -> Query {
+    let string = some_string(random, strings);
     let mut stop = string.clone();
     stop.push(0x00);
     let start = if random.once_in(2) {

@@ -6,7 +6,7 @@ use std::path::PathBuf;
 
 use crate::call::Call;
 use crate::compare::{compare, Outcome};
-use crate::drawing::drawing;
+use crate::drawing::draw;
 use crate::tally::Tally;
 
 /// No more cases than this are saved in one run; more of them say little.
@@ -39,7 +39,7 @@ impl Run {
     /// Says why a case can't be saved.
     pub fn step(&mut self) -> io::Result<()> {
         let number = self.tally.files;
-        let mut drawing = drawing(self.seed, number);
+        let mut drawing = draw(self.seed, number);
         self.tally.files += 1;
         for (at, (call, room)) in drawing.calls.iter().enumerate() {
             let outcome = compare(&mut drawing.random, &drawing.file, call);

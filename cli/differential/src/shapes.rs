@@ -9,16 +9,16 @@ pub fn shape(random: &mut Random) -> Tree {
     let kind = Kind::draw(random);
     let mut tree = Tree::new::<Vec<u8>>(&[]);
     match random.below(14) {
-        0 => chain(random, &kind, &mut tree),
-        1 => wide(random, &kind, &mut tree),
-        _ => usual(random, &kind, &mut tree),
+        0 => fill_chain(random, &kind, &mut tree),
+        1 => fill_wide(random, &kind, &mut tree),
+        _ => fill_usual(random, &kind, &mut tree),
     }
     if random.once_in(2) {
         tree.ragged = Some(random.next());
     }
     tree.keys = keys(random);
     tree.placing = placing(random);
-    reserved(random, &mut tree);
+    add_reserved(random, &mut tree);
     tree.metadata = metadata(random);
     let longest = random.pick(&[0, 0, 4, 40]);
     tree.extra = random.string(longest);
@@ -26,7 +26,7 @@ pub fn shape(random: &mut Random) -> Tree {
 }
 
 /// A few data blocks under one to four levels.
-fn usual(random: &mut Random, kind: &Kind, tree: &mut Tree) {
+fn fill_usual(random: &mut Random, kind: &Kind, tree: &mut Tree) {
     let most = if kind.is_long() { 4 } else { 9 };
     tree.groups = groups(random, kind, most, 4);
     tree.fan_out = (0..1 + random.below(3))
@@ -36,7 +36,7 @@ fn usual(random: &mut Random, kind: &Kind, tree: &mut Tree) {
 }
 
 /// One to three data blocks under many levels, most of them of one entry.
-fn chain(random: &mut Random, kind: &Kind, tree: &mut Tree) {
+fn fill_chain(random: &mut Random, kind: &Kind, tree: &mut Tree) {
     tree.groups = groups(random, kind, 3, 2);
     tree.root_level = if random.once_in(3) {
         63
@@ -51,7 +51,7 @@ fn chain(random: &mut Random, kind: &Kind, tree: &mut Tree) {
 }
 
 /// Many data blocks.
-fn wide(random: &mut Random, kind: &Kind, tree: &mut Tree) {
+fn fill_wide(random: &mut Random, kind: &Kind, tree: &mut Tree) {
     let most = if kind.is_long() { 6 } else { 24 };
     tree.groups = groups(random, kind, most, 3);
     tree.fan_out = vec![2 + random.below(5)];
@@ -99,7 +99,7 @@ fn placing(random: &mut Random) -> Placing {
 }
 
 /// Reserved blocks anywhere, with any payload.
-fn reserved(random: &mut Random, tree: &mut Tree) {
+fn add_reserved(random: &mut Random, tree: &mut Tree) {
     if random.once_in(2) {
         return;
     }

@@ -111,7 +111,7 @@ impl Tally {
     }
 
     /// What the run falls short of.
-    pub fn missing(&self) -> Vec<String> {
+    pub fn shortfalls(&self) -> Vec<String> {
         let mut missing = self.rare_numbers();
         for (enough, what) in [
             (self.records.iter().all(|n| *n >= LEAST), "records"),

@@ -3,8 +3,8 @@
 use std::collections::BTreeSet;
 
 use zs_differential::damage::{repair, Repair};
-use zs_differential::drawing::drawing;
-use zs_differential::faults::{faulty, NUMBERS};
+use zs_differential::drawing::draw;
+use zs_differential::faults::{draw_faulty, NUMBERS};
 use zs_differential::shapes::shape;
 use zs_library::refusals::{numbers, Call};
 use zs_reference::maker::random::Random;
@@ -118,7 +118,7 @@ fn every_fault_can_be_made() {
     let mut random = Random::new(2);
     for number in NUMBERS {
         for _ in 0..20 {
-            let (_, file) = faulty(&mut random, number);
+            let (_, file) = draw_faulty(&mut random, number);
             assert_eq!(check(&file, AMPLE).number, number);
         }
     }
@@ -143,8 +143,8 @@ fn repairing_a_sound_file_changes_nothing() {
 #[test]
 fn a_seed_and_a_number_give_one_drawing() {
     for number in 0..200 {
-        let (one, other) = (drawing(4, number), drawing(4, number));
+        let (one, other) = (draw(4, number), draw(4, number));
         assert_eq!((one.file, one.calls), (other.file, other.calls));
-        assert!(drawing(5, number).calls.len() > 4);
+        assert!(draw(5, number).calls.len() > 4);
     }
 }

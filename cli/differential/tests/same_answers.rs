@@ -20,5 +20,5 @@ fn the_same_answers() {
     println!("\nseed {SEED}\n{}", run.tally);
     assert_eq!(run.tally.differing, 0, "cases that differ");
     assert!(run.tally.cases() >= LEAST_CASES);
-    assert_eq!(run.tally.missing(), Vec::<String>::new(), "too few");
+    assert_eq!(run.tally.shortfalls(), Vec::<String>::new(), "too few");
 }

@@ -66,7 +66,7 @@ pub fn all() -> Vec<Sample> {
 fn contacts() -> Vec<u8> {
     let mut random = Random::new(1955);
     let mut records: Vec<Vec<u8>> = (0..1400).map(|_| contact(&mut random)).collect();
-    records.extend((0..60).map(unlisted));
+    records.extend((0..60).map(unlisted_contact));
     records.extend(vec![REPEATED.as_bytes().to_vec(); TIMES_REPEATED]);
     let about =
         br#"{"about": "contacts that nobody has", "record": "name TAB number", "text": "Latin-1"}"#;
@@ -77,7 +77,7 @@ fn contacts() -> Vec<u8> {
 fn small() -> Vec<u8> {
     let mut random = Random::new(12);
     let mut records: Vec<Vec<u8>> = (0..9).map(|_| contact(&mut random)).collect();
-    records.extend((0..2).map(unlisted));
+    records.extend((0..2).map(unlisted_contact));
     records.extend(vec![REPEATED.as_bytes().to_vec(); 3]);
     let mut tree = tree(records, 2, 3, br#"{"about": "contacts that nobody has"}"#);
     tree.reserved = vec![(3, 64, b"reserved, to be passed over".to_vec())];
@@ -104,7 +104,7 @@ fn contact(random: &mut Random) -> Vec<u8> {
 }
 
 /// A contact whose name begins with bytes FF, behind all letters.
-fn unlisted(number: usize) -> Vec<u8> {
+fn unlisted_contact(number: usize) -> Vec<u8> {
     let mut record = vec![0xff; 1 + number % 3];
     record.extend(format!("unlisted {number:02}\t555-01{number:02}").bytes());
     record

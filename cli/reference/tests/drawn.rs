@@ -63,7 +63,7 @@ fn compare_with_records(tree: &Tree, file: &[u8], query: &Query, found: &Found) 
 
 /// Opened exactly by the rule, and at most two in vain on each level below the root.
 fn compare_opened(file: &[u8], query: &Query, found: &Found) {
-    let apart = support::apart(file);
+    let apart = support::take_apart(file);
     let seen = Seen::of(&apart).expect("a sound file");
     let must = seen.must_open(query);
     let starts: Vec<u64> = must.iter().map(|block| block.start).collect();
@@ -164,7 +164,7 @@ fn compare_local(random: &mut Random, file: &[u8], query: &Query, found: &Found)
     if found.number != 0 {
         return;
     }
-    let apart = support::apart(file);
+    let apart = support::take_apart(file);
     let blocks = match &apart.blocks {
         Some(blocks) => blocks,
         None => return,

@@ -95,7 +95,7 @@ impl Drop for Folder {
 }
 
 /// The sample with one bit flipped in its first data block, and the place of that block.
-pub fn damaged() -> (Vec<u8>, usize) {
+pub fn damaged_sample() -> (Vec<u8>, usize) {
     let mut file = fs::read(CONTACTS).expect("the sample");
     let header = u64::from_le_bytes(file[8..16].try_into().expect("eight bytes"));
     let place = 24 + header as usize;

@@ -23,11 +23,11 @@ const TRIES: usize = 60;
 const AMPLE: usize = 1000;
 
 /// A file that the check refuses with this number, and the image that it was made from.
-pub fn faulty(random: &mut Random, number: u64) -> (Image, Vec<u8>) {
+pub fn draw_faulty(random: &mut Random, number: u64) -> (Image, Vec<u8>) {
     let mut made = (Image::new(Vec::new()), Vec::new());
     for _ in 0..TRIES {
         let image = shape(random).image();
-        made.1 = damaged(random, number, image.clone());
+        made.1 = damage(random, number, image.clone());
         made.0 = image;
         if check(&made.1, AMPLE).number == number {
             break;
@@ -37,22 +37,22 @@ pub fn faulty(random: &mut Random, number: u64) -> (Image, Vec<u8>) {
 }
 
 /// A sound file with a fault, most times the one of this number.
-fn damaged(random: &mut Random, number: u64, mut image: Image) -> Vec<u8> {
+fn damage(random: &mut Random, number: u64, mut image: Image) -> Vec<u8> {
     match number {
-        2..=9 => return header::damaged(random, number, image),
+        2..=9 => return header::damage(random, number, image),
         10..=14 if random.once_in(2) => framing::damage(random, number, &mut image),
         11 | 12 => payload::damage_number(random, number, &mut image),
         10 | 13 | 14 => framing::damage(random, number, &mut image),
         15 => payload::cut(random, &mut image),
         16 => payload::disorder_records(random, &mut image),
-        17 => names::root(random, &mut image),
-        19 => names::entry(random, &mut image),
-        20 => names::times(random, &mut image),
+        17 => names::misname_root(random, &mut image),
+        19 => names::misname_entry(random, &mut image),
+        20 => names::spoil_counts(random, &mut image),
         21 => payload::disorder_keys(random, &mut image),
-        22 => order::walk(random, &mut image),
-        23 => order::neighbours(random, &mut image),
-        24 => order::key(random, &mut image),
-        _ => order::hash(random, &mut image),
+        22 => order::disorder_walk(random, &mut image),
+        23 => order::disorder_neighbours(random, &mut image),
+        24 => order::spoil_key(random, &mut image),
+        _ => order::spoil_hash(random, &mut image),
     }
     image.bytes()
 }

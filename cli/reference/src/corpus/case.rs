@@ -83,7 +83,7 @@ impl Case {
     }
 
     /// The same case under a query.
-    pub fn asking(mut self, query: &Query) -> Self {
+    pub fn with_query(mut self, query: &Query) -> Self {
         self.start = query.start.clone();
         self.stop_given = query.stop.is_some();
         self.stop = query.stop.clone().unwrap_or_default();
@@ -101,7 +101,7 @@ impl Case {
     }
 
     /// The case as `data/cases` stores it.
-    pub fn encoded(&self) -> Vec<u8> {
+    pub fn encode(&self) -> Vec<u8> {
         let mut out = Vec::new();
         put_short(&mut out, self.name.as_bytes());
         out.push(self.call.number());

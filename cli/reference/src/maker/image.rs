@@ -1,6 +1,6 @@
 //! A file field by field: what to write, and what to write wrongly.
 
-use super::layout::{crc_bytes, data_payloads, framed, put_number, Place};
+use super::layout::{crc_bytes, data_payloads, frame, put_number, Place};
 use crate::checksums::{crc64, sha256};
 
 /// Begins every finished file.
@@ -208,7 +208,7 @@ impl Image {
         let places = self.places();
         let mut body = Vec::new();
         for plan in &self.blocks {
-            body.extend(framed(plan, &places));
+            body.extend(frame(plan, &places));
         }
         body.extend(&self.tail);
 

@@ -29,7 +29,9 @@ impl Keys {
             Keys::EmptyFirst if before.is_none() => Vec::new(),
             Keys::EmptyFirst => first,
             Keys::Mixed(seed) => mixed_key(seed ^ node as u64, before.as_deref(), first),
-            Keys::Between(seed) => between(seed ^ node as u64, before.unwrap_or_default(), first),
+            Keys::Between(seed) => {
+                key_between(seed ^ node as u64, before.unwrap_or_default(), first)
+            }
         }
     }
 }
@@ -57,7 +59,7 @@ fn mixed_key(seed: u64, before: Option<&[u8]>, first: Vec<u8>) -> Vec<u8> {
 }
 
 /// One of the two, cut, lowered or made longer; unchanged where that breaks the rule.
-fn between(seed: u64, before: Vec<u8>, first: Vec<u8>) -> Vec<u8> {
+fn key_between(seed: u64, before: Vec<u8>, first: Vec<u8>) -> Vec<u8> {
     let mut random = Random::new(seed);
     let chosen = if random.once_in(2) {
         before.clone()

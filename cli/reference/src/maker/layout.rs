@@ -21,7 +21,7 @@ impl Image {
     pub fn places(&self) -> Vec<Place> {
         let mut places = vec![Place::default(); self.blocks.len()];
         for _ in 0..ROUNDS {
-            let next = self.places_given(&places);
+            let next = self.places_from(&places);
             if next == places {
                 break;
             }
@@ -30,11 +30,11 @@ impl Image {
         places
     }
 
-    fn places_given(&self, guess: &[Place]) -> Vec<Place> {
+    fn places_from(&self, guess: &[Place]) -> Vec<Place> {
         let mut offset = self.blocks_at();
         let mut next = Vec::new();
         for plan in &self.blocks {
-            let size = framed(plan, guess).len() as u64;
+            let size = frame(plan, guess).len() as u64;
             next.push(Place { offset, size });
             offset += size;
         }
@@ -48,12 +48,12 @@ impl Image {
 }
 
 /// A block with its number and CRC.
-pub fn framed(plan: &Plan, places: &[Place]) -> Vec<u8> {
+pub fn frame(plan: &Plan, places: &[Place]) -> Vec<u8> {
     let mut covered: Vec<u8> = plan.level.into_iter().collect();
     covered.extend(plan.payload(places));
     let mut out = match &plan.number {
         Some(bytes) => bytes.clone(),
-        None => encoded(covered.len() as u64),
+        None => encode(covered.len() as u64),
     };
     out.extend(&covered);
     out.extend(crc_bytes(crc64(&covered) ^ plan.crc_flips));
@@ -72,7 +72,7 @@ pub fn crc_bytes(crc: u64) -> [u8; 8] {
 }
 
 /// A number in its shortest form.
-pub fn encoded(value: u64) -> Vec<u8> {
+pub fn encode(value: u64) -> Vec<u8> {
     let mut out = Vec::new();
     put_number(&mut out, value);
     out

@@ -98,7 +98,7 @@ impl Tree {
             blocks.extend(self.reserved_before(number));
             blocks.push(self.plan(&nodes, *node, &block_of));
         }
-        blocks.extend(self.reserved_behind(order.len()));
+        blocks.extend(self.reserved_after(order.len()));
         let mut image = Image::new(blocks);
         image.root = Target::Block(block_of[nodes.len() - 1]);
         image
@@ -117,7 +117,7 @@ impl Tree {
         while level < 1 || row.len() > 1 || level < self.root_level.min(HIGHEST_LEVEL) {
             level += 1;
             let mut above = Vec::new();
-            for children in self.shared_out(&row, level) {
+            for children in self.share_out(&row, level) {
                 above.push(nodes.len());
                 let group = children.first().map_or(0, |child| nodes[*child].group);
                 nodes.push(Node {
@@ -132,7 +132,7 @@ impl Tree {
     }
 
     /// The children of each index block on a level.
-    fn shared_out(&self, row: &[usize], level: u8) -> Vec<Vec<usize>> {
+    fn share_out(&self, row: &[usize], level: u8) -> Vec<Vec<usize>> {
         let most = self.entries_on(level);
         let mut random = self
             .ragged
@@ -171,9 +171,9 @@ impl Tree {
             Placing::After => (0..nodes.len()).collect(),
             Placing::Before => index.rev().chain(0..data).collect(),
             Placing::BehindFirst => (0..1).chain(index.rev()).chain(1..data).collect(),
-            Placing::BehindChildren => below(nodes, root, false),
-            Placing::AheadOfChildren => below(nodes, root, true),
-            Placing::Scattered(seed) => scattered(seed, data, nodes.len()),
+            Placing::BehindChildren => subtree_order(nodes, root, false),
+            Placing::AheadOfChildren => subtree_order(nodes, root, true),
+            Placing::Scattered(seed) => scatter(seed, data, nodes.len()),
         }
     }
 
@@ -197,7 +197,7 @@ impl Tree {
         here.map(|(_, level, payload)| Plan::bytes(*level, payload))
     }
 
-    fn reserved_behind(&self, blocks: usize) -> impl Iterator<Item = Plan> + '_ {
+    fn reserved_after(&self, blocks: usize) -> impl Iterator<Item = Plan> + '_ {
         let here = self.reserved.iter().filter(move |(at, _, _)| *at >= blocks);
         here.map(|(_, level, payload)| Plan::bytes(*level, payload))
     }
@@ -224,7 +224,7 @@ impl Tree {
 }
 
 /// The data blocks in order, and each index block at a place drawn from the seed.
-fn scattered(seed: u64, data: usize, all: usize) -> Vec<usize> {
+fn scatter(seed: u64, data: usize, all: usize) -> Vec<usize> {
     let mut random = Random::new(seed);
     let mut order: Vec<usize> = (0..data).collect();
     for node in data..all {
@@ -234,13 +234,13 @@ fn scattered(seed: u64, data: usize, all: usize) -> Vec<usize> {
 }
 
 /// The blocks below and with `node`, parents ahead of or behind their children.
-fn below(nodes: &[Node], node: usize, ahead: bool) -> Vec<usize> {
+fn subtree_order(nodes: &[Node], node: usize, ahead: bool) -> Vec<usize> {
     let mut order = Vec::new();
     if ahead {
         order.push(node);
     }
     for child in &nodes[node].children {
-        order.extend(below(nodes, *child, ahead));
+        order.extend(subtree_order(nodes, *child, ahead));
     }
     if !ahead {
         order.push(node);
