@@ -117,30 +117,27 @@ impl Lmdb {
                 NO_SYNC,
                 0o600,
             ))?;
-            check_status(mdb_txn_begin(
-                lmdb.environment,
-                null_mut(),
-                0,
-                &mut lmdb.transaction,
-            ))?;
         }
+        lmdb.begin(0)?;
         let base = lmdb.base()?;
         for record in records {
             lmdb.put(base, record)?;
         }
         let written = std::mem::replace(&mut lmdb.transaction, null_mut());
-        // SAFETY: the transaction is open and is never used again; the new one and its cursor are closed by `drop`.
-        unsafe {
-            check_status(mdb_txn_commit(written))?;
-            check_status(mdb_txn_begin(
-                lmdb.environment,
-                null_mut(),
-                READ_ONLY,
-                &mut lmdb.transaction,
-            ))?;
-            check_status(mdb_cursor_open(lmdb.transaction, base, &mut lmdb.cursor))?;
-        }
+        // SAFETY: the transaction is open and is never used again.
+        check_status(unsafe { mdb_txn_commit(written) })?;
+        lmdb.begin(READ_ONLY)?;
+        // SAFETY: the transaction is open; it and the cursor are closed by `drop`.
+        check_status(unsafe { mdb_cursor_open(lmdb.transaction, base, &mut lmdb.cursor) })?;
         Ok(lmdb)
+    }
+
+    /// Begins a transaction where none is open.
+    fn begin(&mut self, flags: c_uint) -> Result<(), String> {
+        // SAFETY: the environment is open, and no transaction is above this one.
+        check_status(unsafe {
+            mdb_txn_begin(self.environment, null_mut(), flags, &mut self.transaction)
+        })
     }
 
     fn base(&self) -> Result<c_uint, String> {

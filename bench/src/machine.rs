@@ -22,25 +22,24 @@ pub fn describe() -> String {
         .lines()
         .filter(|line| line.starts_with("processor"))
         .count();
-    let programs = [
-        version("rustc", "--version"),
-        format!(
-            "sqlite3 {}",
-            version("sqlite3", "--version")
-                .split(' ')
-                .next()
-                .unwrap_or("")
-        ),
-        version("xz", "--version"),
-        version("openssl", "version"),
-        version("sha256sum", "--version"),
-        version("look", "--version"),
-    ];
     format!(
         "Measured on: {}, {cores} processors, {} instructions for SHA-256 and {} carry-less multiplication.\n\nWith: {}.",
         field("model name"),
         has("sha_ni"),
         has("pclmulqdq"),
-        programs.join("; ")
+        versions().join("; ")
     )
+}
+
+/// The versions of the compiler and of the other programs.
+fn versions() -> [String; 6] {
+    let sqlite3 = version("sqlite3", "--version");
+    [
+        version("rustc", "--version"),
+        format!("sqlite3 {}", sqlite3.split(' ').next().unwrap_or("")),
+        version("xz", "--version"),
+        version("openssl", "version"),
+        version("sha256sum", "--version"),
+        version("look", "--version"),
+    ]
 }

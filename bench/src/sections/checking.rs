@@ -80,37 +80,25 @@ fn large_file_table(setting: &Setting, times: &[f64], length: usize, hashed: usi
     let head = ["what", "time", "speed", "time of the check / this"];
     let mut table = Table::new("Check of a large file", &about, &head);
     let rows = [
-        ("the proved check", times[0], length),
-        ("proved CRC-64 of the whole file, alone", times[1], length),
-        (
-            "proved SHA-256 of the data payloads, alone",
-            times[2],
-            hashed,
-        ),
-        ("both alone", times[1] + times[2], length),
-        (
-            "independent reader, Rust -O, portable checksums",
-            times[3],
-            length,
-        ),
+        ("the proved check", times[0]),
+        ("proved CRC-64 of the whole file, alone", times[1]),
+        ("proved SHA-256 of the data payloads, alone", times[2]),
+        ("both alone", times[1] + times[2]),
+        ("independent reader, Rust -O, portable checksums", times[3]),
         (
             "independent reader, Rust -O, SHA by the processor",
             times[4],
-            length,
         ),
-        (
-            "the proved reading front to back, for one record",
-            times[5],
-            length,
-        ),
+        ("the proved reading front to back, for one record", times[5]),
     ];
-    for (what, seconds, length) in rows {
-        let cells = (
-            time(seconds),
-            speed(length, seconds),
-            ratio(times[0] / seconds),
-        );
-        table.add_row(&[what, &cells.0, &cells.1, &cells.2]);
+    for (number, (what, seconds)) in rows.iter().enumerate() {
+        let bytes = if number == 2 { hashed } else { length };
+        table.add_row(&[
+            what,
+            &time(*seconds),
+            &speed(bytes, *seconds),
+            &ratio(times[0] / seconds),
+        ]);
     }
     table
 }

@@ -19,48 +19,50 @@ fn add_with_payload(corpus: &mut Corpus, name: &str, block: usize, payload: &[u8
     corpus.add_refused(name, image.bytes(), number, image.start(block));
 }
 
+/// Names, which block, its payload, and the refusal.
+const DATA_PAYLOADS: [(&str, usize, &[u8], u64); 13] = [
+    ("15-data-empty", 0, b"", 15),
+    ("15-last-empty", 2, b"", 15),
+    ("15-rec-short", 1, b"\x01b\x03ca", 15),
+    ("15-rec-none", 1, b"\x01b\x01", 15),
+    ("15-rec-cut", 1, b"\x01b\x80", 15),
+    (
+        "15-rec-cut-8",
+        2,
+        b"\x01d\xff\xff\xff\xff\xff\xff\xff\xff",
+        15,
+    ),
+    (
+        "15-rec-2e63",
+        0,
+        b"\xff\xff\xff\xff\xff\xff\xff\xff\x7f",
+        15,
+    ),
+    (
+        "15-rec-2e62",
+        0,
+        b"\x80\x80\x80\x80\x80\x80\x80\x80\x40ab",
+        15,
+    ),
+    (
+        "11-rec",
+        0,
+        b"\x02ab\xff\xff\xff\xff\xff\xff\xff\xff\xff",
+        11,
+    ),
+    (
+        "11-rec-more",
+        1,
+        b"\x80\x80\x80\x80\x80\x80\x80\x80\x80\x01",
+        11,
+    ),
+    ("12-rec", 0, b"\x82\x00ab\x01b", 12),
+    ("12-rec-three", 2, b"\x01d\x81\x80\x00e", 12),
+    ("15-rec-crc", 2, b"\x01d\x09e", 15),
+];
+
 fn add_data_payloads(corpus: &mut Corpus) {
-    let cases: [(&str, usize, &[u8], u64); 13] = [
-        ("15-data-empty", 0, b"", 15),
-        ("15-last-empty", 2, b"", 15),
-        ("15-rec-short", 1, b"\x01b\x03ca", 15),
-        ("15-rec-none", 1, b"\x01b\x01", 15),
-        ("15-rec-cut", 1, b"\x01b\x80", 15),
-        (
-            "15-rec-cut-8",
-            2,
-            b"\x01d\xff\xff\xff\xff\xff\xff\xff\xff",
-            15,
-        ),
-        (
-            "15-rec-2e63",
-            0,
-            b"\xff\xff\xff\xff\xff\xff\xff\xff\x7f",
-            15,
-        ),
-        (
-            "15-rec-2e62",
-            0,
-            b"\x80\x80\x80\x80\x80\x80\x80\x80\x40ab",
-            15,
-        ),
-        (
-            "11-rec",
-            0,
-            b"\x02ab\xff\xff\xff\xff\xff\xff\xff\xff\xff",
-            11,
-        ),
-        (
-            "11-rec-more",
-            1,
-            b"\x80\x80\x80\x80\x80\x80\x80\x80\x80\x01",
-            11,
-        ),
-        ("12-rec", 0, b"\x82\x00ab\x01b", 12),
-        ("12-rec-three", 2, b"\x01d\x81\x80\x00e", 12),
-        ("15-rec-crc", 2, b"\x01d\x09e", 15),
-    ];
-    for (name, block, payload, number) in cases {
+    for (name, block, payload, number) in DATA_PAYLOADS {
         add_with_payload(corpus, name, block, payload, number);
     }
     corpus.ask_search("15-last-empty", &stop(b"b"));

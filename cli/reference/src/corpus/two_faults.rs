@@ -22,43 +22,45 @@ const DEFLATE: [u8; 16] = *b"deflate\0\0\0\0\0\0\0\0\0";
 /// A change made to an image.
 type Change = fn(&mut Image);
 
+/// Names, the first refusal, and both faults.
+const HEADER_PAIRS: [(&str, u64, Change); 11] = [
+    ("2-then-4", 2, |i| {
+        (i.magic, i.header_length) = (UNFINISHED, Some(u64::MAX));
+    }),
+    ("2-then-5", 2, |i| {
+        (i.magic, i.header_crc_flips) = (UNFINISHED, 1);
+    }),
+    ("3-then-4", 3, |i| {
+        (i.magic, i.header_length) = ([0; 8], Some(u64::MAX));
+    }),
+    ("5-then-6", 5, |i| {
+        (i.header_crc_flips, i.header_cut) = (1, Some(79));
+    }),
+    ("5-then-8", 5, |i| {
+        (i.header_crc_flips, i.total) = (1, Some(1));
+    }),
+    ("6-then-7", 6, |i| {
+        (i.metadata_length, i.codec) = (Some(3), DEFLATE);
+    }),
+    ("6-then-8", 6, |i| {
+        (i.metadata_length, i.total) = (Some(3), Some(0));
+    }),
+    ("7-then-8", 7, |i| {
+        (i.codec, i.total) = (DEFLATE, Some(0));
+    }),
+    ("7-then-9", 7, |i| {
+        (i.codec, i.metadata) = (DEFLATE, b"[]".to_vec());
+    }),
+    ("8-then-9", 8, |i| {
+        (i.total, i.metadata) = (Some(0), b"[]".to_vec());
+    }),
+    ("9-then-14", 9, |i| {
+        (i.metadata, i.blocks[0].crc_flips) = (b"[]".to_vec(), 1);
+    }),
+];
+
 fn add_header_pairs(corpus: &mut Corpus) {
-    let pairs: [(&str, u64, Change); 11] = [
-        ("2-then-4", 2, |i| {
-            (i.magic, i.header_length) = (UNFINISHED, Some(u64::MAX));
-        }),
-        ("2-then-5", 2, |i| {
-            (i.magic, i.header_crc_flips) = (UNFINISHED, 1);
-        }),
-        ("3-then-4", 3, |i| {
-            (i.magic, i.header_length) = ([0; 8], Some(u64::MAX));
-        }),
-        ("5-then-6", 5, |i| {
-            (i.header_crc_flips, i.header_cut) = (1, Some(79));
-        }),
-        ("5-then-8", 5, |i| {
-            (i.header_crc_flips, i.total) = (1, Some(1));
-        }),
-        ("6-then-7", 6, |i| {
-            (i.metadata_length, i.codec) = (Some(3), DEFLATE);
-        }),
-        ("6-then-8", 6, |i| {
-            (i.metadata_length, i.total) = (Some(3), Some(0));
-        }),
-        ("7-then-8", 7, |i| {
-            (i.codec, i.total) = (DEFLATE, Some(0));
-        }),
-        ("7-then-9", 7, |i| {
-            (i.codec, i.metadata) = (DEFLATE, b"[]".to_vec());
-        }),
-        ("8-then-9", 8, |i| {
-            (i.total, i.metadata) = (Some(0), b"[]".to_vec());
-        }),
-        ("9-then-14", 9, |i| {
-            (i.metadata, i.blocks[0].crc_flips) = (b"[]".to_vec(), 1);
-        }),
-    ];
-    for (name, number, change) in pairs {
+    for (name, number, change) in HEADER_PAIRS {
         let image = alter(&plain(), change);
         corpus.add_refused_first(name, image.bytes(), number, 0);
     }
