@@ -4,7 +4,7 @@ use std::time::Instant;
 
 use crate::foreign::keep;
 
-/// How long one call took, in seconds.
+/// Makes one call and gives how long it took, in seconds.
 pub fn measure_time<T: Copy>(call: impl FnOnce() -> T) -> f64 {
     let start = Instant::now();
     keep(call());

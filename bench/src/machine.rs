@@ -2,7 +2,7 @@
 
 use crate::others::version;
 
-/// The processor and the versions of the programs, in Markdown.
+/// Names the processor and the versions of the programs, in Markdown.
 pub fn describe() -> String {
     let about = std::fs::read_to_string("/proc/cpuinfo").unwrap_or_default();
     let field = |name: &str| {

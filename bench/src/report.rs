@@ -52,7 +52,7 @@ impl Table {
         }
     }
 
-    /// One row more.
+    /// Adds a row.
     pub fn add_row(&mut self, cells: &[&str]) {
         self.rows
             .push(cells.iter().map(|cell| cell.to_string()).collect());
@@ -91,7 +91,7 @@ impl Report {
         }
     }
 
-    /// A ratio and what it should be.
+    /// Adds a ratio and what it should be.
     pub fn add_goal(&mut self, what: &str, ratio: f64, goal: Goal) {
         self.goals.add_row(&[
             what,
@@ -101,7 +101,7 @@ impl Report {
         ]);
     }
 
-    /// One table more.
+    /// Adds a table.
     pub fn add_table(&mut self, table: Table) {
         self.tables.push(table);
     }

@@ -140,12 +140,11 @@ impl Files {
         Call::new(&setting.programs.zs, &words)
     }
 
-    /// All records from the prefix up to the least string that is behind all that begin with it.
+    /// All records from the prefix up to the least string that is above all that begin with it.
     fn sqlite3(&self, prefix: &str) -> Call {
-        let behind = format!("{}{}", &prefix[..prefix.len() - 1], next_letter(prefix));
-        let query = format!(
-            "select record from records where record >= '{prefix}' and record < '{behind}'"
-        );
+        let end = format!("{}{}", &prefix[..prefix.len() - 1], next_letter(prefix));
+        let query =
+            format!("select record from records where record >= '{prefix}' and record < '{end}'");
         Call::new(
             "sqlite3",
             &["-readonly", &self.database.to_string_lossy(), &query],
@@ -157,7 +156,7 @@ impl Files {
     }
 }
 
-/// The character behind the last one of a prefix, which is a digit here.
+/// The character after the last one of a prefix, which is a digit here.
 fn next_letter(prefix: &str) -> char {
     prefix
         .bytes()

@@ -1,6 +1,6 @@
 //! The library's answers, with lists that grow until they are long enough.
 //!
-//! A short list is refused (18, 26, 27) and the call is made again with a longer one, so these numbers never reach a person; 27 does
+//! A short list is refused (18, 26, 27) and the call is made again with a longer one, so a person never sees these numbers, except 27
 //! where `--max-results` sets the limit.
 
 use zs_library::Query;
@@ -161,7 +161,7 @@ fn most_opened(file: &[u8], known: Option<Contents>) -> usize {
     }
 }
 
-/// A lookup in a file that wasn't checked is to be quick. Behind a check, which takes longer anyway, a longer list saves calls.
+/// A lookup in a file that wasn't checked must be quick. After a check, which takes longer anyway, a longer list saves calls.
 fn first_results(file: &[u8], query: &Query, known: Option<Contents>) -> usize {
     let all = query.start.is_empty() && query.stop.is_none() && query.prefix.is_empty();
     match known {

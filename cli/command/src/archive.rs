@@ -1,4 +1,4 @@
-//! An archive as the commands meet it: its bytes, checked first unless that isn't wanted.
+//! An archive as the commands use it: its bytes, checked first unless that isn't wanted.
 
 use std::path::Path;
 
@@ -15,6 +15,7 @@ pub struct Archive {
 }
 
 impl Archive {
+    /// Reads and checks a file, or maps it unchecked.
     pub fn open(path: &Path, trust: &Trust) -> Result<Self, Failure> {
         let (input, known) = if trust.unchecked {
             (map_unchecked(path)?, None)

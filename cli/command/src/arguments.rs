@@ -24,7 +24,7 @@ Exit status: 0 answered, 1 refused, 2 usage or input/output.
 
 const VALIDATE_EXAMPLES: &str = "Examples:
   zs validate contacts.zs
-  zs validate *.zs                 one line for each file; goes on behind a bad one";
+  zs validate *.zs                 one line for each file, also after a refused one";
 
 const DUMP_EXAMPLES: &str = "S, P and T take the escapes \\t \\n \\r \\\\ and \\x00 to \\xff. Bytes are compared as unsigned numbers.
 
@@ -175,6 +175,7 @@ pub enum Length {
     U64le,
 }
 
+/// Takes an argument as bytes, with its escapes resolved.
 fn bytes_parser() -> impl TypedValueParser<Value = Bytes> {
     OsStringValueParser::new().try_map(resolve)
 }

@@ -13,7 +13,7 @@ use crate::{output, progress};
 
 /// Writes nothing before the whole answer is known.
 pub fn run(asked: &Dump) -> Result<(), Failure> {
-    spare_the_archive(asked)?;
+    refuse_archive_as_output(asked)?;
     let archive = Archive::open(&asked.file, &asked.trust)?;
     let (file, known) = (archive.bytes(), archive.known);
     let answer = progress::show_while("reading", &asked.file, file.len(), || {
@@ -33,7 +33,7 @@ pub fn run(asked: &Dump) -> Result<(), Failure> {
 }
 
 /// An archive isn't replaced by its own records.
-fn spare_the_archive(asked: &Dump) -> Result<(), Failure> {
+fn refuse_archive_as_output(asked: &Dump) -> Result<(), Failure> {
     let place = |path: &Path| fs::metadata(path).map(|about| (about.dev(), about.ino()));
     let target = match &asked.output {
         Some(path) => path,
@@ -48,7 +48,7 @@ fn spare_the_archive(asked: &Dump) -> Result<(), Failure> {
     }
 }
 
-/// Each record as a part of the file, with its terminator behind it or its length before it.
+/// Writes each record, which is a part of the file, and then the terminator, or before it its length.
 fn write_records(
     asked: &Dump,
     file: &[u8],

@@ -11,9 +11,9 @@ pub struct Bytes(pub Vec<u8>);
 /// An escape that can't be resolved.
 #[derive(Clone, Debug, PartialEq, Eq)]
 pub enum EscapeFault {
-    /// A backslash before something that it doesn't stand before.
+    /// A backslash before a character that makes no escape with it.
     Unknown(String),
-    /// A backslash, or `\x`, with too little behind it.
+    /// A backslash, or `\x`, with too few characters after it.
     Cut,
 }
 
@@ -33,15 +33,15 @@ impl fmt::Display for EscapeFault {
 
 impl std::error::Error for EscapeFault {}
 
-/// The bytes that an argument stands for.
+/// Gives the bytes that an argument stands for.
 pub fn resolve(argument: OsString) -> Result<Bytes, EscapeFault> {
     let written = argument.into_vec();
     let mut bytes = Vec::with_capacity(written.len());
     let mut rest = written.as_slice();
-    while let [first, behind @ ..] = rest {
+    while let [first, after @ ..] = rest {
         let (byte, left) = match first {
-            b'\\' => take_escape(behind)?,
-            other => (*other, behind),
+            b'\\' => take_escape(after)?,
+            other => (*other, after),
         };
         bytes.push(byte);
         rest = left;
@@ -49,9 +49,9 @@ pub fn resolve(argument: OsString) -> Result<Bytes, EscapeFault> {
     Ok(Bytes(bytes))
 }
 
-/// The byte meant by what follows a backslash, and what follows that.
-fn take_escape(behind: &[u8]) -> Result<(u8, &[u8]), EscapeFault> {
-    match behind {
+/// Gives the byte that a backslash and what follows it stand for, and the rest.
+fn take_escape(after: &[u8]) -> Result<(u8, &[u8]), EscapeFault> {
+    match after {
         [b't', left @ ..] => Ok((b'\t', left)),
         [b'n', left @ ..] => Ok((b'\n', left)),
         [b'r', left @ ..] => Ok((b'\r', left)),
@@ -79,7 +79,7 @@ fn digit(letter: u8) -> Option<u8> {
     }
 }
 
-/// Bytes as printable ASCII, in the form that [`resolve`] takes back.
+/// Gives bytes as printable ASCII, in the form that [`resolve`] takes back.
 pub fn escape(bytes: &[u8]) -> String {
     let mut text = String::with_capacity(bytes.len());
     for byte in bytes {

@@ -23,12 +23,12 @@ pub enum Failure {
     Refused(Refusal),
     /// An input or an output is at fault, as these words say.
     Trouble(String),
-    /// Whoever read the output has gone, and nothing more is to be said.
+    /// The reader of the output has closed it. Nothing more is printed.
     ReaderGone,
 }
 
 impl Failure {
-    /// What went wrong with a file that couldn't be read or written.
+    /// The failure to read or write a file.
     pub fn of_file(file: &Path, error: &std::io::Error) -> Self {
         Failure::Trouble(format!("{}: {error}", file.display()))
     }

@@ -13,7 +13,7 @@ pub const LONGEST: usize = 1 << 30;
 
 /// The bytes of a file.
 pub enum Input {
-    /// Read, so that a verdict and the answer after it are of the same bytes whatever becomes of the file.
+    /// Read, so that a verdict and the answer after it are of the same bytes, even if the file is changed meanwhile.
     Read(Vec<u8>),
     /// Mapped, under the assumption that nobody changes the file while the command runs.
     Mapped(Mapping),

@@ -3,7 +3,7 @@
 /// Values nested deeper than this are taken for no JSON.
 const DEEPEST: usize = 64;
 
-/// A text as a JSON string.
+/// Gives a text as a JSON string.
 pub fn quote(text: &str) -> String {
     let mut out = String::from("\"");
     for letter in text.chars() {
@@ -21,11 +21,11 @@ pub fn quote(text: &str) -> String {
 /// The text of a JSON value; nothing where the bytes are none.
 pub fn as_json(bytes: &[u8]) -> Option<&str> {
     let text = std::str::from_utf8(bytes).ok()?;
-    let behind = skip_value(bytes, DEEPEST)?;
-    skip_spaces(behind).is_empty().then_some(text)
+    let after = skip_value(bytes, DEEPEST)?;
+    skip_spaces(after).is_empty().then_some(text)
 }
 
-/// Each of these takes one thing from the front and gives what follows it.
+/// What follows the thing that is skipped; nothing where the bytes don't begin with such a thing.
 type Rest<'a> = Option<&'a [u8]>;
 
 fn skip_spaces(bytes: &[u8]) -> &[u8] {
@@ -46,7 +46,7 @@ fn skip_value(bytes: &[u8], depth: usize) -> Rest<'_> {
     }
 }
 
-/// Items with commas between them, up to and with the closing bracket.
+/// Skips items with commas between them, and the closing bracket.
 fn skip_list(
     bytes: &[u8],
     depth: usize,
@@ -54,36 +54,36 @@ fn skip_list(
     item: fn(&[u8], usize) -> Rest<'_>,
 ) -> Rest<'_> {
     let mut rest = skip_spaces(bytes);
-    if let Some(behind) = rest.strip_prefix(&[close]) {
-        return Some(behind);
+    if let Some(after) = rest.strip_prefix(&[close]) {
+        return Some(after);
     }
     loop {
         rest = skip_spaces(item(rest, depth)?);
         match rest.split_first()? {
-            (b',', behind) => rest = behind,
-            (byte, behind) if *byte == close => return Some(behind),
+            (b',', after) => rest = after,
+            (byte, after) if *byte == close => return Some(after),
             _ => return None,
         }
     }
 }
 
 fn skip_member(bytes: &[u8], depth: usize) -> Rest<'_> {
-    let behind = skip_spaces(skip_string(skip_spaces(bytes))?);
-    skip_value(behind.strip_prefix(b":")?, depth)
+    let after = skip_spaces(skip_string(skip_spaces(bytes))?);
+    skip_value(after.strip_prefix(b":")?, depth)
 }
 
 fn skip_string(bytes: &[u8]) -> Rest<'_> {
     let mut rest = bytes.strip_prefix(b"\"")?;
     loop {
         rest = match rest {
-            [b'"', behind @ ..] => return Some(behind),
+            [b'"', after @ ..] => return Some(after),
             [b'\\', b'u', digits @ ..] => {
                 let four = digits.get(..4)?.iter().all(u8::is_ascii_hexdigit);
                 digits.get(4..).filter(|_| four)?
             }
-            [b'\\', letter, behind @ ..] if b"\"\\/bfnrt".contains(letter) => behind,
+            [b'\\', letter, after @ ..] if b"\"\\/bfnrt".contains(letter) => after,
             [b'\\', ..] | [0..=0x1f, ..] | [] => return None,
-            [_, behind @ ..] => behind,
+            [_, after @ ..] => after,
         }
     }
 }
@@ -91,24 +91,24 @@ fn skip_string(bytes: &[u8]) -> Rest<'_> {
 fn skip_number(bytes: &[u8]) -> Rest<'_> {
     let mut rest = bytes.strip_prefix(b"-").unwrap_or(bytes);
     rest = match rest.strip_prefix(b"0") {
-        Some(behind) => behind,
+        Some(after) => after,
         None => skip_digits(rest)?,
     };
-    if let Some(behind) = rest.strip_prefix(b".") {
-        rest = skip_digits(behind)?;
+    if let Some(after) = rest.strip_prefix(b".") {
+        rest = skip_digits(after)?;
     }
     match rest {
-        [b'e' | b'E', b'+' | b'-', behind @ ..] | [b'e' | b'E', behind @ ..] => skip_digits(behind),
+        [b'e' | b'E', b'+' | b'-', after @ ..] | [b'e' | b'E', after @ ..] => skip_digits(after),
         _ => Some(rest),
     }
 }
 
-/// One or more digits.
+/// Skips one or more digits.
 fn skip_digits(bytes: &[u8]) -> Rest<'_> {
     let end = bytes.iter().position(|byte| !byte.is_ascii_digit());
     bytes
         .get(end.unwrap_or(bytes.len())..)
-        .filter(|behind| behind.len() < bytes.len())
+        .filter(|after| after.len() < bytes.len())
 }
 
 #[cfg(test)]

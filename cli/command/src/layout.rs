@@ -13,7 +13,7 @@ pub struct Header<'a> {
     pub metadata: &'a [u8],
 }
 
-/// A block: its level, its payload, and the position just behind it.
+/// A block: its level, its payload, and the position after its last byte.
 pub struct Block<'a> {
     pub level: u8,
     pub payload: &'a [u8],
@@ -45,11 +45,11 @@ pub fn block(file: &[u8], offset: u64) -> Option<Block<'_>> {
     let length = take_number(&mut rest)?;
     let covered = rest.get(..usize::try_from(length).ok()?)?;
     let (level, payload) = covered.split_first()?;
-    let behind = file.len() - rest.len() + covered.len() + 8;
+    let end = file.len() - rest.len() + covered.len() + 8;
     Some(Block {
         level: *level,
         payload,
-        end: behind as u64,
+        end: end as u64,
     })
 }
 
@@ -61,8 +61,8 @@ pub fn entries<'a>(block: &Block<'a>) -> Vec<Entry<'a>> {
 
 fn take_entry<'a>(rest: &mut &'a [u8]) -> Option<Entry<'a>> {
     let length = usize::try_from(take_number(rest)?).ok()?;
-    let (key, behind) = (rest.get(..length)?, rest.get(length..)?);
-    *rest = behind;
+    let key = rest.get(..length)?;
+    *rest = rest.get(length..)?;
     let offset = take_number(rest)?;
     take_number(rest)?;
     Some(Entry { key, offset })

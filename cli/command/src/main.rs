@@ -1,13 +1,13 @@
 //! The command `zs`: checks, reads and searches ZS archives.
 //!
-//! Every verdict, every match and every opened block comes from the proved library. What stands here is the way there and back:
-//! arguments and files on one side, lines and records on the other.
+//! Every verdict, every match and every opened block comes from the proved library. This crate reads the arguments and the files, and
+//! prints the answers.
 //!
 //! * [`arguments`] and [`escapes`]: what a person asks for.
 //! * [`input`], [`archive`], [`answers`], [`refusals`]: bytes, checked or not, the library's answers with lists that grow, and
 //!   refusals in words.
 //! * [`validate`], [`dump`], [`info`], [`explain`]: one module for each command.
-//! * [`output`], [`progress`], [`failure`]: where answers go, signs of life, and what went wrong.
+//! * [`output`], [`progress`], [`failure`]: where answers are written, progress on a terminal, and what went wrong.
 //! * [`layout`], [`walk`], [`json`]: fields and bounds for display only.
 #![deny(unsafe_code)]
 
@@ -53,7 +53,7 @@ fn run(command: &Command) -> Status {
     }
 }
 
-/// Says on standard error what kept a command from answering.
+/// Says on standard error why a command didn't answer, and what to do about it.
 fn report(file: &Path, outcome: Result<(), Failure>) -> Status {
     match outcome {
         Ok(()) => Status::Answered,
@@ -69,7 +69,7 @@ fn report(file: &Path, outcome: Result<(), Failure>) -> Status {
     }
 }
 
-/// Help and version are answers; anything else that the arguments come to is a mistake in them.
+/// Shows help, version, or a mistake in the arguments. The first two are answers.
 fn show_usage(help_or_mistake: &clap::Error) -> Status {
     match help_or_mistake.print() {
         Ok(()) if !help_or_mistake.use_stderr() => Status::Answered,

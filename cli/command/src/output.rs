@@ -1,4 +1,4 @@
-//! Where answers go: standard output, or a file that appears only when it is whole.
+//! Where answers are written: standard output, or a file that appears only when it is whole.
 
 use std::fs::{self, File, OpenOptions};
 use std::io::{self, BufWriter, ErrorKind, Write};
@@ -27,7 +27,7 @@ pub fn print(text: &str) -> Result<(), Failure> {
     write(None, &|out| out.write_all(text.as_bytes()))
 }
 
-/// A number and what it counts.
+/// Gives a number and what it counts.
 pub fn format_count(number: u64, one: &str, more: &str) -> String {
     match number {
         1 => format!("1 {one}"),
@@ -35,6 +35,7 @@ pub fn format_count(number: u64, one: &str, more: &str) -> String {
     }
 }
 
+/// Says which output couldn't be written, unless its reader has closed it.
 fn name_failure(name: &str, outcome: io::Result<()>) -> Result<(), Failure> {
     outcome.map_err(|error| match error.kind() {
         ErrorKind::BrokenPipe => Failure::ReaderGone,
@@ -49,7 +50,8 @@ fn write_buffered(out: &mut dyn Write, writing: &Writing) -> io::Result<()> {
     buffered.flush()
 }
 
-/// Writes a file. Devices and pipes are written as they are; a plain file is replaced, behind links too, and keeps its permissions.
+/// Writes a file. Devices and pipes are written as they are; a plain file is replaced, also where a link
+/// names it, and keeps its permissions.
 fn write_file(path: &Path, writing: &Writing) -> io::Result<()> {
     match fs::metadata(path) {
         Ok(about) if about.is_file() => {
@@ -80,7 +82,7 @@ fn replace(
     Ok(())
 }
 
-/// A file that goes away unless it is renamed.
+/// A file that is removed unless it is renamed.
 struct Temporary(PathBuf);
 
 impl Temporary {

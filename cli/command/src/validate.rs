@@ -7,7 +7,7 @@ use crate::arguments::Validate;
 use crate::failure::{complain, Failure, Status};
 use crate::output::{self, format_count};
 
-/// Goes on behind a bad file; the worst status is that of the command.
+/// Checks every file, also after a refused one; the worst status is that of the command.
 pub fn run(asked: &Validate) -> Status {
     let mut worst = Status::Answered;
     for file in &asked.files {
@@ -25,7 +25,7 @@ pub fn run(asked: &Validate) -> Status {
     worst
 }
 
-/// Prints the verdict on a file, be it good or bad.
+/// Prints the verdict on a file.
 fn print_verdict(file: &Path) -> Result<(), Failure> {
     match read_and_check(file) {
         Ok((_, contents)) => output::print(&format!(

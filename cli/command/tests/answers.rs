@@ -179,9 +179,9 @@ fn info_is_json_of_the_header() {
     }
     assert!(run
         .text()
-        .contains("\"metadata\": {\"about\": \"contacts that nobody has\","));
+        .contains("\"metadata\": {\"about\": \"invented sample contacts\","));
     let only = zs(&["info", "-m", SMALL]);
-    assert_eq!(only.text(), "{\"about\": \"contacts that nobody has\"}\n");
+    assert_eq!(only.text(), "{\"about\": \"invented sample contacts\"}\n");
 }
 
 #[test]

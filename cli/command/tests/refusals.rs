@@ -187,7 +187,7 @@ fn more_matches_than_allowed() {
 }
 
 #[test]
-fn a_refusal_leaves_nothing_behind() {
+fn a_refusal_writes_nothing() {
     let folder = Folder::new();
     let file = folder.write("damaged.zs", &damaged_sample().0);
     let out = folder.name("out");

@@ -11,7 +11,7 @@ const AMPLE: usize = 400;
 /// A call, and how its room compares with what it needs.
 pub type Asked = (Call, Room);
 
-/// All calls on a file, with queries near the given strings.
+/// Draws all calls on a file, with queries near the given strings.
 pub fn draw_calls(random: &mut Random, file: &[u8], strings: &[Vec<u8>]) -> Vec<Asked> {
     let mut calls = Vec::new();
     let accepted = add_checks(random, file, &mut calls);
@@ -27,7 +27,7 @@ pub fn draw_calls(random: &mut Random, file: &[u8], strings: &[Vec<u8>]) -> Vec<
     calls
 }
 
-/// Checks with more places than needed, just enough, one short, and any number. Says whether the file is accepted.
+/// Adds checks with more places than needed, just enough, one short, and any number. Says whether the file is accepted.
 fn add_checks(random: &mut Random, file: &[u8], calls: &mut Vec<Asked>) -> bool {
     let answer = check(file, AMPLE);
     let mut ask = |work, room| calls.push((Call::Check { work }, room));
@@ -43,7 +43,7 @@ fn add_checks(random: &mut Random, file: &[u8], calls: &mut Vec<Asked>) -> bool 
     answer.number == 0
 }
 
-/// Searches, the same way with both lists. A refused one gets lists that end before, at and behind the fault.
+/// Adds searches, the same way with both lists. A refused one gets lists that end before, at and after the fault.
 fn add_searches(random: &mut Random, file: &[u8], query: &Query, calls: &mut Vec<Asked>) {
     let answer = search(file, query, AMPLE, AMPLE);
     let mut ask = |opened, results, room| {
@@ -92,7 +92,7 @@ fn least_places(enough: impl Fn(usize) -> bool) -> usize {
     low
 }
 
-/// Reads, the same way with the result list.
+/// Adds reads, the same way with the result list.
 fn add_reads(random: &mut Random, file: &[u8], query: &Query, calls: &mut Vec<Asked>) {
     let answer = read(file, query, AMPLE);
     let mut ask = |results, room| {
@@ -114,7 +114,7 @@ fn add_reads(random: &mut Random, file: &[u8], query: &Query, calls: &mut Vec<As
     }
 }
 
-/// Parts of the file: a record that is found, parts about the end, and very far ones.
+/// Adds parts of the file: a record that is found, parts about the end, and very far ones.
 fn add_records(random: &mut Random, file: &[u8], calls: &mut Vec<Asked>) {
     let end = file.len() as u64;
     let mut ask = |offset, length| calls.push((Call::Record { offset, length }, Room::Any));

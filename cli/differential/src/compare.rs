@@ -6,10 +6,10 @@ use zs_library as library;
 use zs_reference::maker::random::Random;
 use zs_reference::reader::{self, Query};
 
-/// So many places of a list are told one by one.
-const MOST_TOLD: usize = 3;
+/// So many places of a list are printed one by one.
+const MOST_PRINTED: usize = 3;
 
-/// What a case came to.
+/// What a case gave.
 #[derive(Debug, Clone, Default)]
 pub struct Outcome {
     /// The refusal that is due, or 0; for a record 0 if it lies within the file and 1 if not.
@@ -37,22 +37,22 @@ impl Outcome {
         }
     }
 
-    /// Notes a fault that is no wrong number.
+    /// Notes what doesn't hold.
     fn require(&mut self, holds: bool, otherwise: &str) {
         if !holds {
             self.differences.push(otherwise.to_string());
         }
     }
 
-    /// Compares every place of a list, and its guards. The first places that differ are told.
+    /// Compares every place of a list, and its guards. The first places that differ are printed.
     fn compare_list(&mut self, what: &str, due: &[u64], given: &Lent<u64>) {
         self.compare("places", due.len() as u64, given.part().len() as u64);
         let places = due.iter().zip(given.part()).enumerate();
         let unequal: Vec<_> = places.filter(|(_, (due, given))| due != given).collect();
-        for (place, (due, given)) in unequal.iter().take(MOST_TOLD) {
+        for (place, (due, given)) in unequal.iter().take(MOST_PRINTED) {
             self.compare(&format!("{what} list, place {place}"), **due, **given);
         }
-        if unequal.len() > MOST_TOLD {
+        if unequal.len() > MOST_PRINTED {
             let line = format!("{what} list: {} places in all", unequal.len());
             self.differences.push(line);
         }
@@ -145,7 +145,7 @@ fn record(file: &[u8], offset: u64, length: u64) -> Outcome {
     outcome
 }
 
-/// A query with rubbish around its parts.
+/// A query with arbitrary bytes around its parts.
 struct LentQuery {
     start: Lent<u8>,
     stop: Option<Lent<u8>>,

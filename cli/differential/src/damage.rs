@@ -26,7 +26,7 @@ pub fn damage(random: &mut Random, file: &mut Vec<u8>) {
     }
 }
 
-/// A position, behind the header two times out of three.
+/// Draws a position, after the header two times out of three.
 fn draw_place(random: &mut Random, length: usize) -> usize {
     if random.once_in(3) || length <= 120 {
         random.below(length)

@@ -19,11 +19,11 @@ pub struct Drawing {
     pub accepted: Option<u8>,
     /// The calls.
     pub calls: Vec<Asked>,
-    /// Numbers for the rubbish around and in what is lent.
+    /// Gives the arbitrary bytes and numbers around and in what is lent.
     pub random: Random,
 }
 
-/// The drawing of this number. The same seed and number give the same one.
+/// Makes the drawing of this number. The same seed and number give the same one.
 pub fn draw(seed: u64, number: u64) -> Drawing {
     let mut random = Random::new(Random::new(seed ^ number.rotate_left(32)).next());
     let (image, file) = draw_file(&mut random, number);
@@ -36,7 +36,7 @@ pub fn draw(seed: u64, number: u64) -> Drawing {
     }
 }
 
-/// By turns: sound files, files with one fault, bent ones, damaged ones, and hostile ones.
+/// Draws a file: by turns a sound one, one with a fault, a bent one, a damaged one, and a hostile one.
 fn draw_file(random: &mut Random, number: u64) -> (Image, Vec<u8>) {
     match number % 10 {
         0..=1 => with_file(shape(random).image()),
@@ -53,12 +53,13 @@ fn fault_of(number: u64) -> u64 {
     NUMBERS[(turn % NUMBERS.len() as u64) as usize]
 }
 
+/// The image and the file that it gives.
 fn with_file(image: Image) -> (Image, Vec<u8>) {
     let file = image.bytes();
     (image, file)
 }
 
-/// One or two things changed; lengths, checksums and offsets follow.
+/// Draws a file and changes one or two things; lengths, checksums and offsets follow.
 fn draw_bent(random: &mut Random) -> (Image, Vec<u8>) {
     let mut image = shape(random).image();
     for _ in 0..1 + random.below(2) {
@@ -67,7 +68,7 @@ fn draw_bent(random: &mut Random) -> (Image, Vec<u8>) {
     with_file(image)
 }
 
-/// Bytes changed, and most times checksums repaired behind that.
+/// Draws a file, changes bytes, and most times then repairs checksums.
 fn draw_damaged(random: &mut Random) -> (Image, Vec<u8>) {
     let (image, mut file) = with_file(shape(random).image());
     for _ in 0..1 + random.below(3) {

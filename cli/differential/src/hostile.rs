@@ -3,7 +3,7 @@
 use zs_reference::maker::random::Random;
 use zs_reference::maker::{Image, Plan, Target};
 
-/// Such a file.
+/// Draws such a file.
 pub fn draw_hostile(random: &mut Random) -> Image {
     match random.below(3) {
         0 => many_ways(random),

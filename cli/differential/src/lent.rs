@@ -13,7 +13,7 @@ pub struct Lent<T> {
 }
 
 impl Lent<u64> {
-    /// A list of so many places, full of rubbish. No place is 0.
+    /// A list of so many places with arbitrary numbers, none of them 0.
     pub fn list(random: &mut Random, places: usize) -> Self {
         let all = (0..places + 2 * GUARDS)
             .map(|_| random.next() | 1)
@@ -23,7 +23,7 @@ impl Lent<u64> {
 }
 
 impl Lent<u8> {
-    /// A byte string, with rubbish around it.
+    /// A byte string, with arbitrary bytes around it.
     pub fn bytes(random: &mut Random, bytes: &[u8]) -> Self {
         let mut all = random.next().to_le_bytes()[..GUARDS].to_vec();
         all.extend(bytes);

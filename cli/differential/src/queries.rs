@@ -75,7 +75,7 @@ fn beginning(random: &mut Random, strings: &[Vec<u8>]) -> Vec<u8> {
     string
 }
 
-/// Two parts, the lower one as start; once in a while the other way round.
+/// Two parts, the lower one as start; sometimes the other way round.
 fn range(random: &mut Random, strings: &[Vec<u8>]) -> Query {
     let (one, other) = (part(random, strings), part(random, strings));
     let turned = random.once_in(12);
@@ -91,7 +91,7 @@ fn range(random: &mut Random, strings: &[Vec<u8>]) -> Query {
     }
 }
 
-/// One string alone: from itself, or just below, to just behind it.
+/// One string alone: from itself, or one just below, up to the least string above it.
 fn narrow_range(random: &mut Random, strings: &[Vec<u8>]) -> Query {
     let string = some_string(random, strings);
     let mut stop = string.clone();

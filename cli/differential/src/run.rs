@@ -12,10 +12,10 @@ use crate::tally::Tally;
 /// No more cases than this are saved in one run; more of them say little.
 const MOST_SAVED: u64 = 200;
 
-/// A run under way.
+/// A run and its counts so far.
 #[derive(Debug)]
 pub struct Run {
-    /// Where every drawing begins.
+    /// What every drawing is drawn from.
     pub seed: u64,
     /// Counts so far.
     pub tally: Tally,
@@ -24,7 +24,7 @@ pub struct Run {
 }
 
 impl Run {
-    /// A run that hasn't begun.
+    /// A run without drawings yet.
     pub fn new(seed: u64, folder: PathBuf) -> Self {
         Run {
             seed,

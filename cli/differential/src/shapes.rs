@@ -25,7 +25,7 @@ pub fn shape(random: &mut Random) -> Tree {
     tree
 }
 
-/// A few data blocks under one to four levels.
+/// Fills a tree with a few data blocks under one to four levels.
 fn fill_usual(random: &mut Random, kind: &Kind, tree: &mut Tree) {
     let most = if kind.is_long() { 4 } else { 9 };
     tree.groups = groups(random, kind, most, 4);
@@ -35,7 +35,7 @@ fn fill_usual(random: &mut Random, kind: &Kind, tree: &mut Tree) {
     tree.root_level = 1 + random.below(4) as u8;
 }
 
-/// One to three data blocks under many levels, most of them of one entry.
+/// Fills a tree with one to three data blocks under many levels, most of them of one entry.
 fn fill_chain(random: &mut Random, kind: &Kind, tree: &mut Tree) {
     tree.groups = groups(random, kind, 3, 2);
     tree.root_level = if random.once_in(3) {
@@ -50,7 +50,7 @@ fn fill_chain(random: &mut Random, kind: &Kind, tree: &mut Tree) {
     };
 }
 
-/// Many data blocks.
+/// Fills a tree with many data blocks.
 fn fill_wide(random: &mut Random, kind: &Kind, tree: &mut Tree) {
     let most = if kind.is_long() { 6 } else { 24 };
     tree.groups = groups(random, kind, most, 3);
@@ -90,15 +90,15 @@ fn placing(random: &mut Random) -> Placing {
     random.pick(&[
         Placing::After,
         Placing::Before,
-        Placing::BehindChildren,
-        Placing::AheadOfChildren,
-        Placing::BehindFirst,
+        Placing::AfterChildren,
+        Placing::BeforeChildren,
+        Placing::AfterFirst,
         Placing::Scattered(seed),
         Placing::Scattered(seed),
     ])
 }
 
-/// Reserved blocks anywhere, with any payload.
+/// Adds reserved blocks anywhere, with any payload.
 fn add_reserved(random: &mut Random, tree: &mut Tree) {
     if random.once_in(2) {
         return;

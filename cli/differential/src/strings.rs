@@ -54,7 +54,7 @@ impl Kind {
     }
 }
 
-/// A string near the given one: itself, a beginning, a little longer, or its last byte one more or less.
+/// Gives a string near the given one: itself, a beginning, a little longer, or its last byte one more or less.
 pub fn vary(random: &mut Random, string: &[u8]) -> Vec<u8> {
     let mut near = string.to_vec();
     match random.below(9) {

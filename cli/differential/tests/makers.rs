@@ -41,13 +41,13 @@ fn note_blocks(image: &Image, seen: &mut Seen) {
     let first = levels.iter().position(|level| *level == 0).unwrap_or(0);
     let last = levels.iter().rposition(|level| *level == 0).unwrap_or(0);
     let is_index = |level: &u8| (1..64).contains(level);
-    note(seen, levels[..first].iter().any(is_index), "index ahead");
+    note(seen, levels[..first].iter().any(is_index), "index before");
     note(
         seen,
         levels[first..last].iter().any(is_index),
         "index between",
     );
-    note(seen, levels[last..].iter().any(is_index), "index behind");
+    note(seen, levels[last..].iter().any(is_index), "index after");
     note(
         seen,
         levels[first..last].iter().any(|l| *l >= 64),

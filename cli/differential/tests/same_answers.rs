@@ -6,7 +6,7 @@ use std::path::Path;
 use zs_differential::run::Run;
 
 const SEED: u64 = 20_261_115;
-/// Files drawn; each is good for some ten calls.
+/// Files drawn; each gets some twenty calls.
 const FILES: u64 = 6000;
 const LEAST_CASES: u64 = 20_000;
 

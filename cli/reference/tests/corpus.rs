@@ -92,7 +92,7 @@ fn calls_can_be_chosen() {
     }
 }
 
-/// Reads a case back as the brief of the format has it.
+/// Reads a case back as README.md describes it.
 fn decode(bytes: &mut &[u8]) -> Case {
     let name = String::from_utf8(take_short(bytes)).expect("a name");
     let number = take(bytes, 1)[0];

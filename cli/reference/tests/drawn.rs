@@ -122,7 +122,7 @@ fn compare_number(number: u64, faults: &BTreeSet<u64>) {
     let first = faults.iter().next().copied().unwrap_or(0);
     let block_stage = |fault: &u64| (10..=16).contains(fault) || *fault == 21;
     match (first, faults.iter().any(block_stage)) {
-        // Among header refusals and among those behind the block stage the lowest decides.
+        // Among header refusals and among those after the block stage the lowest decides.
         (0..=9, _) | (_, false) => assert_eq!(number, first, "{faults:?}"),
         // Which block comes first isn't told by the set.
         (_, true) => assert!(faults.contains(&number) && block_stage(&number)),

@@ -54,14 +54,14 @@ fn run_past_end(random: &mut Random, image: &mut Image, block: usize) {
             image.tail.extend(random.string(8));
         }
     }
-    // A search comes to the end of the file only if it is told to.
+    // A search reads the end of the file only if the header names it.
     if !image.tail.is_empty() && random.once_in(2) {
         let end = image.bytes().len() - image.tail.len();
         image.root = Target::Exactly(end as u64, 20);
     }
 }
 
-/// 13: L is 0, with or without bytes behind it.
+/// 13: L is 0, with or without bytes after it.
 fn clear_length(random: &mut Random, plan: &mut Plan) {
     plan.number = Some(vec![0]);
     if random.once_in(2) {
@@ -79,7 +79,7 @@ fn spoil_crc(random: &mut Random, plan: &mut Plan) {
     };
 }
 
-/// Nine bytes from 80 hex up, and perhaps more behind them.
+/// Nine bytes from 80 hex up, and perhaps more after them.
 pub fn wide_number(random: &mut Random) -> Vec<u8> {
     let mut number: Vec<u8> = (0..9).map(|_| 0x80 | random.next() as u8).collect();
     if random.once_in(3) {

@@ -8,7 +8,7 @@ const HIGH_BITS: [u64; 4] = [1 << 16, 1 << 31, 1 << 32, 1 << 63];
 
 const UNFINISHED: [u8; 8] = *b"\xabZStoBe\x01";
 
-/// The file with a fault in its header.
+/// Gives the file with a fault in its header.
 pub fn damage(random: &mut Random, number: u64, mut image: Image) -> Vec<u8> {
     match number {
         2 => image.magic = UNFINISHED,
@@ -21,7 +21,7 @@ pub fn damage(random: &mut Random, number: u64, mut image: Image) -> Vec<u8> {
         _ => spoil_metadata(random, &mut image),
     }
     let mut file = image.bytes();
-    // An unfinished file may be anything behind its magic.
+    // After its magic an unfinished file may be anything.
     if number == 2 && random.once_in(2) {
         file.truncate(8 + random.below(file.len()));
     }
@@ -110,7 +110,7 @@ fn change_codec(random: &mut Random, image: &mut Image) {
     }
 }
 
-/// 8: another total length, or other bytes behind it than it says.
+/// 8: another total length, or more or fewer bytes than it says.
 fn spoil_total(random: &mut Random, image: &mut Image) -> Vec<u8> {
     let mut file = image.bytes();
     let length = file.len() as u64;
@@ -131,7 +131,7 @@ fn spoil_total(random: &mut Random, image: &mut Image) -> Vec<u8> {
     image.bytes()
 }
 
-/// 9: metadata that isn't in braces. Bytes behind it don't count.
+/// 9: metadata that isn't in braces. Bytes after it don't count.
 fn spoil_metadata(random: &mut Random, image: &mut Image) {
     let choices: [&[u8]; 8] = [b"", b"{", b"}", b"}{", b"{} ", b" {}", b"[]", b"{\"a\": 1]"];
     match random.below(3) {

@@ -11,18 +11,18 @@ use zs_reference::maker::random::Random;
 use zs_reference::maker::{Content, Entry, Image};
 use zs_reference::reader::check;
 
-/// The refusals that a file can bring on itself. 1 takes a file above 2^30 bytes; 18, 26 and 27 are of short lists.
+/// The refusals that the bytes of a file can cause. 1 takes a file above 2^30 bytes; 18, 26 and 27 are of short lists.
 pub const NUMBERS: [u64; 23] = [
     2, 3, 4, 5, 6, 7, 8, 9, 10, 11, 12, 13, 14, 15, 16, 17, 19, 20, 21, 22, 23, 24, 25,
 ];
 
-/// Files drawn before giving up; what is left then is as good a file as any.
+/// Files drawn at most; the last one is taken whatever its refusal.
 const TRIES: usize = 60;
 
 /// Enough work places for every file that is made here.
 const AMPLE: usize = 1000;
 
-/// A file that the check refuses with this number, and the image that it was made from.
+/// Draws a file that the check refuses with this number, and the image that it was made from.
 pub fn draw_faulty(random: &mut Random, number: u64) -> (Image, Vec<u8>) {
     let mut made = (Image::new(Vec::new()), Vec::new());
     for _ in 0..TRIES {
@@ -36,7 +36,7 @@ pub fn draw_faulty(random: &mut Random, number: u64) -> (Image, Vec<u8>) {
     made
 }
 
-/// A sound file with a fault, most times the one of this number.
+/// Gives a sound file a fault, most times the one of this number.
 fn damage(random: &mut Random, number: u64, mut image: Image) -> Vec<u8> {
     match number {
         2..=9 => return header::damage(random, number, image),

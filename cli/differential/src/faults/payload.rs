@@ -74,7 +74,7 @@ fn change_number(
     }
 }
 
-/// 15: an empty payload, one cut short, one with something behind it, or a length too great.
+/// 15: an empty payload, one cut short, one with something after it, or a length too great.
 pub fn cut(random: &mut Random, image: &mut Image) {
     let places = image.places();
     if random.once_in(3) {

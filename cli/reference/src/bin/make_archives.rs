@@ -34,7 +34,7 @@ fn main() -> ExitCode {
     }
 }
 
-/// The folder and the calls asked for.
+/// Gives the folder and the calls asked for.
 fn parse(arguments: &[String]) -> Option<(&str, Vec<Call>)> {
     let (folder, words) = arguments.split_first()?;
     let call = |word: &String| ALL_CALLS.into_iter().find(|call| call.word() == word);
@@ -70,7 +70,7 @@ fn write(folder: &Path, calls: &[Call]) -> Result<String, Box<dyn Error>> {
     ))
 }
 
-/// Files left over from another run are named, and left alone.
+/// Warns of files that another run left; they stay.
 fn warn_of_other_files(data: &Path, corpus: &Corpus) -> Result<(), Box<dyn Error>> {
     for entry in fs::read_dir(data)? {
         let name = entry?.file_name().to_string_lossy().into_owned();

@@ -49,7 +49,7 @@ pub fn two_levels() -> Tree {
     tree
 }
 
-/// The image of a tree with one thing changed.
+/// Gives the image of a tree with one thing changed.
 pub fn alter(tree: &Tree, change: impl FnOnce(&mut Image)) -> Image {
     let mut image = tree.image();
     change(&mut image);

@@ -100,7 +100,7 @@ impl Case {
         }
     }
 
-    /// The case as `data/cases` stores it.
+    /// Gives the case as `data/cases` stores it.
     pub fn encode(&self) -> Vec<u8> {
         let mut out = Vec::new();
         put_short(&mut out, self.name.as_bytes());
@@ -175,8 +175,8 @@ impl Case {
             "no"
         };
         let (offset, length) = record(file, self.offset, self.length);
-        let behind = file.get(offset as usize..).unwrap_or(&[]);
-        let part = behind.get(..length as usize).unwrap_or(&[]);
+        let rest = file.get(offset as usize..).unwrap_or(&[]);
+        let part = rest.get(..length as usize).unwrap_or(&[]);
         format!(
             "{} {}: within {inside} part {offset} {length} bytes {}",
             self.offset,
@@ -203,7 +203,7 @@ fn put_short(out: &mut Vec<u8>, bytes: &[u8]) {
     out.extend(bytes);
 }
 
-/// The numbers of a list, each behind a space.
+/// The numbers of a list, each after a space.
 fn list(numbers: &[u64]) -> String {
     numbers.iter().map(|number| format!(" {number}")).collect()
 }

@@ -15,7 +15,7 @@ pub fn add(corpus: &mut Corpus) {
     add_wrong_crcs(corpus);
 }
 
-/// Adds the plain file with these bytes behind it, refused at their start.
+/// Adds the plain file with these bytes at its end, refused at their start.
 fn add_with_tail(corpus: &mut Corpus, name: &str, tail: &[u8], number: u64) {
     let place = plain().bytes().len() as u64;
     let image = alter(&plain(), |image| image.tail = tail.to_vec());

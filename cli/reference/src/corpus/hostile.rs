@@ -27,8 +27,8 @@ fn add_asked(corpus: &mut Corpus, name: &str, image: &Image, queries: &[Query]) 
     }
 }
 
-/// A query that only strings just behind `key` match.
-fn just_behind(key: &[u8]) -> Query {
+/// A query that only the strings just above `key` match.
+fn just_above(key: &[u8]) -> Query {
     let start = [key, b"\0"].concat();
     let stop = [key, b"\x01"].concat();
     query(&start, Some(&stop), b"")
@@ -46,19 +46,14 @@ fn add_astronomical(corpus: &mut Corpus) {
     let name = "astronomical";
     corpus.add_refused(name, image.bytes(), 20, image.start(0));
     corpus.check(name, 64);
-    for query in [
-        just_behind(b"b"),
-        just_behind(b"c"),
-        stop(b""),
-        prefix(b"b"),
-    ] {
+    for query in [just_above(b"b"), just_above(b"c"), stop(b""), prefix(b"b")] {
         corpus.ask_search(name, &query);
     }
     for places in [0, 1, 64, 127] {
         corpus.search(name, &everything(), places, 128);
     }
     corpus.search(name, &everything(), 128, 0);
-    corpus.search(name, &just_behind(b"b"), 63, 2);
+    corpus.search(name, &just_above(b"b"), 63, 2);
 
     let mut blocks = vec![Plan::data(&["a"])];
     for level in 1..=63 {
@@ -111,7 +106,7 @@ fn add_block_in_a_key(corpus: &mut Corpus) {
     add_asked(corpus, "in-its-key", &image, &queries);
 }
 
-/// One entry for each offset from before the first block to behind the last one.
+/// One entry for each offset from before the first block to after the last one.
 fn add_every_offset(corpus: &mut Corpus) {
     let tree = plain();
     let blocks_end = tree.image().start(3);
@@ -122,11 +117,11 @@ fn add_every_offset(corpus: &mut Corpus) {
     };
     let entries: Vec<_> = offsets.iter().enumerate().map(entry).collect();
     let image = alter(&tree, |image| image.blocks[3] = Plan::naming(1, &entries));
-    let queries: Vec<Query> = entries.iter().map(|(key, _)| just_behind(key)).collect();
+    let queries: Vec<Query> = entries.iter().map(|(key, _)| just_above(key)).collect();
     add_asked(corpus, "offsets", &image, &queries);
 }
 
-/// Damage is met only in blocks that are opened.
+/// Damage is found only in blocks that are opened.
 fn add_damage_unseen(corpus: &mut Corpus) {
     let queries = [stop(b"b"), prefix(b"c"), start(b"d\0"), prefix(b"b")];
     let plans = [
@@ -142,7 +137,7 @@ fn add_damage_unseen(corpus: &mut Corpus) {
     }
 }
 
-/// Two faults on one block, which pin the order of the search.
+/// Two faults on one block, which show the order of the search.
 fn add_search_order(corpus: &mut Corpus) {
     let wrong_size = |plan: Plan| {
         alter(&plain(), |image| {
@@ -193,7 +188,7 @@ fn add_whole_payload_first(corpus: &mut Corpus) {
     }
 }
 
-/// A key above the upper bound of its index block: no query opens the block behind it.
+/// A key above the upper bound of its index block: no query opens the block it names.
 fn add_crossed_bounds(corpus: &mut Corpus) {
     let image = Image::new(vec![
         Plan::data(&["a"]),
@@ -210,7 +205,7 @@ fn add_crossed_bounds(corpus: &mut Corpus) {
     }
 }
 
-/// Lists that end before, at or behind a fault.
+/// Lists that end before, at or after a fault.
 fn add_short_lists(corpus: &mut Corpus) {
     let image = alter(&plain(), |image| image.blocks[2].crc_flips = 1);
     let name = "14-late";

@@ -119,7 +119,7 @@ impl Corpus {
         out
     }
 
-    /// Says what is beyond the limits of the format of cases, if anything is.
+    /// The first limit of the format of cases that is exceeded, in words.
     pub fn broken_limit(&self) -> Option<String> {
         let long = self
             .files

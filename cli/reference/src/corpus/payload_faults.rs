@@ -76,8 +76,8 @@ fn add_index_payloads(corpus: &mut Corpus) {
     let with = |more: &[u8]| [&good[..], more].concat();
     let offset = encode(image.start(0));
     let with_number = |number: &[u8]| {
-        let behind = &good[3 + offset.len()..];
-        [&good[..3], number, behind].concat()
+        let rest = &good[3 + offset.len()..];
+        [&good[..3], number, rest].concat()
     };
     let mut long_offset = offset.clone();
     if let Some(last) = long_offset.last_mut() {

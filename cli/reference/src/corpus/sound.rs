@@ -55,9 +55,9 @@ fn add_placings(corpus: &mut Corpus) {
     let placings = [
         ("index-after", Placing::After),
         ("index-before", Placing::Before),
-        ("index-behind", Placing::BehindChildren),
-        ("index-ahead", Placing::AheadOfChildren),
-        ("index-between", Placing::BehindFirst),
+        ("index-behind", Placing::AfterChildren),
+        ("index-ahead", Placing::BeforeChildren),
+        ("index-between", Placing::AfterFirst),
     ];
     for (name, placing) in placings {
         let mut tree = two_levels();
@@ -127,7 +127,7 @@ fn add_shapes(corpus: &mut Corpus) {
     let mut tree = Tree::new(&groups);
     tree.fan_out = vec![3, 2, 2];
     tree.keys = Keys::Separator;
-    tree.placing = Placing::BehindChildren;
+    tree.placing = Placing::AfterChildren;
     corpus.add_sound("three-levels", tree.bytes());
     for query in [
         query(b"f", Some(b"q"), b""),
@@ -153,7 +153,7 @@ fn add_chains(corpus: &mut Corpus) {
 
     tree.groups.push(vec![b"c".to_vec()]);
     tree.fan_out = vec![1; 62];
-    tree.placing = Placing::AheadOfChildren;
+    tree.placing = Placing::BeforeChildren;
     corpus.add_sound("two-chains-63", tree.bytes());
     corpus.ask_search("two-chains-63", &start(b"b\0"));
     corpus.ask_search("two-chains-63", &stop(b"b"));
@@ -187,7 +187,7 @@ fn add_full_size(corpus: &mut Corpus) {
     let mut tree = Tree::new(&groups);
     tree.fan_out = vec![4];
     tree.keys = Keys::Separator;
-    tree.placing = Placing::BehindChildren;
+    tree.placing = Placing::AfterChildren;
     let mut image = tree.image();
     let length = image.bytes().len();
     // A reserved block of a three-byte number: 3 + 1 + payload + 8 bytes.

@@ -1,4 +1,4 @@
-//! Files with two faults or more, which pin the order of refusals.
+//! Files with two faults or more, which show the order of refusals.
 
 use super::build::{alter, plain, two_levels};
 use super::Corpus;

@@ -12,7 +12,7 @@ pub struct Place {
     pub size: u64,
 }
 
-/// Index blocks may name blocks behind them, so sizes and offsets lean on each other.
+/// Index blocks may name later blocks, so sizes and offsets depend on each other.
 /// Each round can only raise them, and a number has at most ten bytes; this is ample.
 const ROUNDS: usize = 1000;
 
@@ -30,6 +30,7 @@ impl Image {
         places
     }
 
+    /// The place of every block, given a guess for what the entries name.
     fn places_from(&self, guess: &[Place]) -> Vec<Place> {
         let mut offset = self.blocks_at();
         let mut next = Vec::new();
@@ -47,7 +48,7 @@ impl Image {
     }
 }
 
-/// A block with its number and CRC.
+/// Gives a block with its number and CRC.
 pub fn frame(plan: &Plan, places: &[Place]) -> Vec<u8> {
     let mut covered: Vec<u8> = plan.level.into_iter().collect();
     covered.extend(plan.payload(places));
@@ -71,7 +72,7 @@ pub fn crc_bytes(crc: u64) -> [u8; 8] {
     crc.to_le_bytes()
 }
 
-/// A number in its shortest form.
+/// Gives a number in its shortest form.
 pub fn encode(value: u64) -> Vec<u8> {
     let mut out = Vec::new();
     put_number(&mut out, value);

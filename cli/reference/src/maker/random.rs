@@ -95,9 +95,9 @@ fn placing(random: &mut Random) -> Placing {
     random.pick(&[
         Placing::After,
         Placing::Before,
-        Placing::BehindChildren,
-        Placing::AheadOfChildren,
-        Placing::BehindFirst,
+        Placing::AfterChildren,
+        Placing::BeforeChildren,
+        Placing::AfterFirst,
     ])
 }
 

@@ -22,7 +22,7 @@ pub struct Tree {
     pub keys: Keys,
     /// Where index blocks stand.
     pub placing: Placing,
-    /// Reserved blocks: in front of which ordinary block, level, payload.
+    /// Reserved blocks: before which ordinary block, level, payload.
     pub reserved: Vec<(usize, u8, Vec<u8>)>,
     /// The metadata.
     pub metadata: Vec<u8>,
@@ -33,16 +33,16 @@ pub struct Tree {
 /// Where index blocks stand in the file.
 #[derive(Debug, Clone, Copy, PartialEq, Eq)]
 pub enum Placing {
-    /// Behind all data blocks, level by level, the root last.
+    /// After all data blocks, level by level, the root last.
     After,
-    /// In front of all data blocks, the root first.
+    /// Before all data blocks, the root first.
     Before,
-    /// Each behind all that it leads to.
-    BehindChildren,
-    /// Each in front of all that it leads to.
-    AheadOfChildren,
-    /// All of them behind the first data block.
-    BehindFirst,
+    /// Each after all that it leads to.
+    AfterChildren,
+    /// Each before all that it leads to.
+    BeforeChildren,
+    /// All of them after the first data block.
+    AfterFirst,
     /// Each anywhere, drawn from this seed.
     Scattered(u64),
 }
@@ -131,7 +131,7 @@ impl Tree {
         nodes
     }
 
-    /// The children of each index block on a level.
+    /// Gives each index block on a level its children.
     fn share_out(&self, row: &[usize], level: u8) -> Vec<Vec<usize>> {
         let most = self.entries_on(level);
         let mut random = self
@@ -142,9 +142,9 @@ impl Tree {
         let mut left = row;
         while !left.is_empty() {
             let entries = random.as_mut().map_or(most, |r| 1 + r.below(most));
-            let (share, behind) = left.split_at(entries.min(left.len()));
+            let (share, rest) = left.split_at(entries.min(left.len()));
             shares.push(share.to_vec());
-            left = behind;
+            left = rest;
         }
         shares
     }
@@ -170,9 +170,9 @@ impl Tree {
         match self.placing {
             Placing::After => (0..nodes.len()).collect(),
             Placing::Before => index.rev().chain(0..data).collect(),
-            Placing::BehindFirst => (0..1).chain(index.rev()).chain(1..data).collect(),
-            Placing::BehindChildren => subtree_order(nodes, root, false),
-            Placing::AheadOfChildren => subtree_order(nodes, root, true),
+            Placing::AfterFirst => (0..1).chain(index.rev()).chain(1..data).collect(),
+            Placing::AfterChildren => subtree_order(nodes, root, false),
+            Placing::BeforeChildren => subtree_order(nodes, root, true),
             Placing::Scattered(seed) => scatter(seed, data, nodes.len()),
         }
     }
@@ -223,7 +223,7 @@ impl Tree {
     }
 }
 
-/// The data blocks in order, and each index block at a place drawn from the seed.
+/// Gives the data blocks in order, and each index block at a place drawn from the seed.
 fn scatter(seed: u64, data: usize, all: usize) -> Vec<usize> {
     let mut random = Random::new(seed);
     let mut order: Vec<usize> = (0..data).collect();
@@ -233,16 +233,16 @@ fn scatter(seed: u64, data: usize, all: usize) -> Vec<usize> {
     order
 }
 
-/// The blocks below and with `node`, parents ahead of or behind their children.
-fn subtree_order(nodes: &[Node], node: usize, ahead: bool) -> Vec<usize> {
+/// The blocks below and with `node`, parents before or after their children.
+fn subtree_order(nodes: &[Node], node: usize, parents_first: bool) -> Vec<usize> {
     let mut order = Vec::new();
-    if ahead {
+    if parents_first {
         order.push(node);
     }
     for child in &nodes[node].children {
-        order.extend(subtree_order(nodes, *child, ahead));
+        order.extend(subtree_order(nodes, *child, parents_first));
     }
-    if !ahead {
+    if !parents_first {
         order.push(node);
     }
     order

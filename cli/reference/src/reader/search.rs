@@ -102,7 +102,7 @@ impl Name {
     }
 }
 
-/// A walk under way.
+/// A walk and its lists so far.
 struct Walk<'a> {
     file: &'a [u8],
     query: &'a Query,

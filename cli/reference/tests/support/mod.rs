@@ -100,7 +100,7 @@ fn note_header_fields(file: &[u8], h: usize, faults: &mut BTreeSet<u64>) {
     }
 }
 
-/// All ordinary blocks, going on behind a fault wherever the next block is still known.
+/// All ordinary blocks, going on after a fault wherever the next block is still known.
 fn blocks(file: &[u8], from: usize, faults: &mut BTreeSet<u64>) -> Option<Vec<Seen>> {
     let mut at = from;
     let mut blocks = Vec::new();
@@ -137,7 +137,7 @@ fn blocks(file: &[u8], from: usize, faults: &mut BTreeSet<u64>) -> Option<Vec<Se
     all_read.then_some(blocks)
 }
 
-/// The items of a payload that reaches from behind the level byte to the part's end.
+/// The items of a payload that reaches from after the level byte to the part's end.
 fn items(part: &[u8], level_at: usize, faults: &mut BTreeSet<u64>) -> Option<Vec<Item>> {
     let level = part[level_at];
     let mut at = level_at + 1;
