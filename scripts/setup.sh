@@ -18,7 +18,7 @@ have() {
     command -v "$1" >/dev/null 2>&1 || [ -x "${CARGO_HOME:-$HOME/.cargo}/bin/$1" ]
 }
 
-# The crates that the command uses: arguments, mapped files, signs of life.
+# The crates that the command uses: arguments, mapped files, progress on a terminal.
 need librust-clap-dev
 need librust-clap-derive-dev
 need librust-memmap2-dev
