@@ -6,8 +6,8 @@ use std::path::Path;
 use std::ptr::null_mut;
 
 extern "C" {
-    fn measured_crc64(bytes: *const u8, length: usize) -> u64;
-    fn measured_sha256(bytes: *const u8, length: usize) -> u64;
+    fn bench_crc64(bytes: *const u8, length: usize) -> u64;
+    fn bench_sha256(bytes: *const u8, length: usize) -> u64;
     fn lzma_crc64(bytes: *const u8, length: usize, before: u64) -> u64;
     fn SHA256(bytes: *const u8, length: usize, digest: *mut u8) -> *mut u8;
 }
@@ -21,13 +21,13 @@ pub fn keep<T: Copy>(value: T) {
 /// The proved CRC-64.
 pub fn proved_crc64(bytes: &[u8]) -> u64 {
     // SAFETY: pointer and length are those of a slice, which is only read.
-    unsafe { measured_crc64(bytes.as_ptr(), bytes.len()) }
+    unsafe { bench_crc64(bytes.as_ptr(), bytes.len()) }
 }
 
 /// The first eight bytes of the proved SHA-256, as a little-endian number.
 pub fn proved_sha256(bytes: &[u8]) -> u64 {
     // SAFETY: pointer and length are those of a slice, which is only read.
-    unsafe { measured_sha256(bytes.as_ptr(), bytes.len()) }
+    unsafe { bench_sha256(bytes.as_ptr(), bytes.len()) }
 }
 
 /// liblzma's CRC-64.

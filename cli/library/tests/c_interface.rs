@@ -31,7 +31,7 @@ fn a_c_program_gets_the_answers_of_the_two_block_example() {
     std::fs::create_dir_all(&folder).expect("a temporary folder");
     let program = folder.join("interface");
     compile(&program);
-    let example = Path::new(HERE).join("../../crates/archives/data/two-blocks");
+    let example = Path::new(HERE).join("../../crates/test_archives/data/two-blocks");
     let output = Command::new(&program).arg(example).output().expect("a run");
     std::fs::remove_dir_all(&folder).expect("the temporary folder");
     let due = "check 0 0 3 4\nwork 0 0 0 0\n\
