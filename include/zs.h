@@ -22,8 +22,8 @@ typedef struct { uint64_t number, place, blocks, records; } zs_checked;
 typedef struct { uint64_t number, place, matches, opened; } zs_found;
 typedef struct { uint64_t offset, length; } zs_part;
 
-/* Reads the file front to back. The result list receives offset and length of each record that matches, in file order, and zeros
- * behind. Where stop_given is false the bytes of stop have no influence. */
+/* Reads the file front to back. The result list receives offset and length of each record that matches, in file order, then
+ * zeros. Where stop_given is false the bytes of stop have no influence. */
 zs_read_answer zs_read(const uint8_t *file, size_t file_len, const uint8_t *start, size_t start_len, bool stop_given,
                        const uint8_t *stop, size_t stop_len, const uint8_t *prefix, size_t prefix_len, uint64_t *results,
                        size_t results_len);
@@ -32,8 +32,8 @@ zs_read_answer zs_read(const uint8_t *file, size_t file_len, const uint8_t *star
  * the number is 18 (where nothing before it applies). Whatever it held before, it is all zeros after every call. */
 zs_checked zs_check(const uint8_t *file, size_t file_len, uint64_t *work, size_t work_len);
 
-/* Searches the file through its index. The opened list receives the offset of each block opened, in walk order, root first, and zeros
- * behind; the result list is that of zs_read. 26: no place is left for a block to open; 27: no two places are left for a match. Any bytes
+/* Searches the file through its index. The opened list receives the offset of each block opened, in walk order, root first, then
+ * zeros; the result list is that of zs_read. 26: no place is left for a block to open; 27: no two places are left for a match. Any bytes
  * may be searched; that every match is found is promised for files that zs_check accepts. */
 zs_found zs_search(const uint8_t *file, size_t file_len, const uint8_t *start, size_t start_len, bool stop_given,
                    const uint8_t *stop, size_t stop_len, const uint8_t *prefix, size_t prefix_len, uint64_t *opened,

@@ -28,7 +28,7 @@ library() {
 if [ -z "${ZS_LIBRARY_DIR:-}" ]; then
     library zs
 fi
-library measured
+library bench_exports
 
 build() {
     cargo build --offline --release --quiet "$@"

@@ -1,5 +1,5 @@
 #!/usr/bin/env bash
-# Installs what is missing, builds the proved library and the command zs, and shows them on an archive of contacts that nobody has.
+# Installs what is missing, builds the proved library and the command zs, and shows them on an archive of fictitious contacts.
 set -euo pipefail
 cd "$(dirname "$0")/.."
 PATH="$PATH:${CARGO_HOME:-$HOME/.cargo}/bin"
@@ -41,9 +41,9 @@ show 0 "Which blocks that search opened, from the root down: place, level, bound
     "zs explain contacts.zs --prefix 'Greta Mockley\t'"
 show 0 "A record that is stored 40 times, over several blocks, is found 40 times." \
     "zs dump contacts.zs --prefix 'Echo Repeated\t' --count"
-show 0 "Bytes FF are bytes like any other, inside names (cat -v shows them as M-^?) .." \
+show 0 "Names may hold bytes FF (cat -v shows them as M-^?) .." \
     "zs dump contacts.zs --prefix 'Lou\xffse Unreal\t' | cat -v"
-show 0 ".. and in front of them, behind all letters." \
+show 0 ".. and begin with them; such names come after all letters." \
     "zs dump contacts.zs --start '\xff\xff\xffunlisted 50' | cat -v"
 show 0 "From B up to E through the index .." \
     "zs dump contacts.zs --start B --stop E -o searched"
@@ -58,5 +58,5 @@ show 1 "A copy in which one Bram became Brim is refused, with a number, the plac
     "zs validate damaged.zs"
 show 1 "Nothing of it is given out: there will be no file named out." \
     "zs dump damaged.zs --prefix 'Ada ' -o out"
-show 2 "See for yourself." \
+show 2 "There is none." \
     "ls out"

@@ -1,6 +1,6 @@
 #!/usr/bin/env bash
 # Makes the stored cases with the independent reader: DIR/data/ and DIR/stdout.
-#   scripts/make-corpus.sh crates/archives
+#   scripts/make-corpus.sh crates/test_archives
 set -eu
 if [ $# -ne 1 ]; then
     echo "usage: scripts/make-corpus.sh DIR" >&2

@@ -19,8 +19,8 @@ rt staticlib zs >/dev/null
 made=$(mktemp -d)
 trap 'rm -rf "$made"' EXIT
 scripts/make-corpus.sh "$made"
-if ! diff -rq "$made/data" crates/archives/data || ! cmp "$made/stdout" crates/archives/stdout; then
-    echo "the stored cases aren't those that the independent reader makes: scripts/make-corpus.sh crates/archives"
+if ! diff -rq "$made/data" crates/test_archives/data || ! cmp "$made/stdout" crates/test_archives/stdout; then
+    echo "the stored cases aren't those that the independent reader makes: scripts/make-corpus.sh crates/test_archives"
     echo "0 passed, 1 failed"
     exit 1
 fi

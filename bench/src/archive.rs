@@ -60,14 +60,14 @@ impl Archive {
 
     /// Reads the file front to back, and gives how many records begin with `prefix`.
     pub fn read(&self, prefix: &[u8], lists: &mut Lists) -> u64 {
-        let found = read(&self.bytes, &asked(prefix), &mut lists.results);
+        let found = read(&self.bytes, &prefix_query(prefix), &mut lists.results);
         assert_eq!(found.number, 0);
         found.matches
     }
 
     /// Looks up the records that begin with `prefix`, into lists that are long enough.
     pub fn search(&self, prefix: &[u8], lists: &mut Lists) -> (usize, usize) {
-        let query = asked(prefix);
+        let query = prefix_query(prefix);
         let found = search(&self.bytes, &query, &mut lists.opened, &mut lists.results);
         assert_eq!(found.number, 0);
         (found.opened as usize, found.matches as usize)
@@ -84,14 +84,14 @@ impl Archive {
                 .map(|pair| zs_library::bytes(&self.bytes, pair[0], pair[1]))
                 .collect(),
             opened: starts
-                .map(|start| covered(&self.bytes, *start as usize).bytes)
+                .map(|start| block_at(&self.bytes, *start as usize).bytes)
                 .collect(),
         }
     }
 }
 
 /// The question for all records that begin with `prefix`.
-fn asked(prefix: &[u8]) -> Query<'_> {
+fn prefix_query(prefix: &[u8]) -> Query<'_> {
     Query {
         start: &[],
         stop: None,
@@ -121,14 +121,14 @@ fn blocks(file: &[u8]) -> impl Iterator<Item = &[u8]> {
         if at >= file.len() {
             return None;
         }
-        let block = covered(file, at);
+        let block = block_at(file, at);
         at = block.end;
         Some(block.bytes)
     })
 }
 
 /// The block that begins at `start`.
-fn covered(file: &[u8], start: usize) -> Covered<'_> {
+fn block_at(file: &[u8], start: usize) -> Covered<'_> {
     let (mut length, mut at, mut shift) = (0, start, 0);
     loop {
         let byte = usize::from(file[at]);

@@ -37,7 +37,7 @@ struct Axis {
 }
 
 impl Axis {
-    fn at(&self, value: f64) -> f64 {
+    fn position(&self, value: f64) -> f64 {
         let part = (value / self.low).ln() / (self.high / self.low).ln();
         part * self.length
     }
@@ -110,35 +110,8 @@ fn put_panel(out: &mut String, panel: &Panel) {
             panel.title
         ),
     );
-    for tick in across.ticks(&[1.0]) {
-        let x = across.at(tick);
-        put(
-            out,
-            format_args!("<path d=\"M{x:.1} 0V{HEIGHT}\" stroke=\"#ddd\"/>"),
-        );
-        put(
-            out,
-            format_args!(
-                "<text x=\"{x:.1}\" y=\"{}\" text-anchor=\"middle\">{tick}</text>",
-                HEIGHT + 18.0
-            ),
-        );
-    }
-    for tick in up.ticks(&[1.0, 2.0, 5.0]) {
-        let y = HEIGHT - up.at(tick);
-        let label = (tick * 1000.0).round() / 1000.0;
-        put(
-            out,
-            format_args!("<path d=\"M0 {y:.1}H{WIDTH}\" stroke=\"#ddd\"/>"),
-        );
-        put(
-            out,
-            format_args!(
-                "<text x=\"-8\" y=\"{:.1}\" text-anchor=\"end\">{label}</text>",
-                y + 4.0
-            ),
-        );
-    }
+    put_ticks_across(out, &across);
+    put_ticks_up(out, &up);
     put(
         out,
         format_args!("<path d=\"M0 0V{HEIGHT}H{WIDTH}\" fill=\"none\" stroke=\"#333\"/>"),
@@ -156,8 +129,43 @@ fn put_panel(out: &mut String, panel: &Panel) {
     }
 }
 
+fn put_ticks_across(out: &mut String, across: &Axis) {
+    for tick in across.ticks(&[1.0]) {
+        let x = across.position(tick);
+        put(
+            out,
+            format_args!("<path d=\"M{x:.1} 0V{HEIGHT}\" stroke=\"#ddd\"/>"),
+        );
+        put(
+            out,
+            format_args!(
+                "<text x=\"{x:.1}\" y=\"{}\" text-anchor=\"middle\">{tick}</text>",
+                HEIGHT + 18.0
+            ),
+        );
+    }
+}
+
+fn put_ticks_up(out: &mut String, up: &Axis) {
+    for tick in up.ticks(&[1.0, 2.0, 5.0]) {
+        let y = HEIGHT - up.position(tick);
+        let label = (tick * 1000.0).round() / 1000.0;
+        put(
+            out,
+            format_args!("<path d=\"M0 {y:.1}H{WIDTH}\" stroke=\"#ddd\"/>"),
+        );
+        put(
+            out,
+            format_args!(
+                "<text x=\"-8\" y=\"{:.1}\" text-anchor=\"end\">{label}</text>",
+                y + 4.0
+            ),
+        );
+    }
+}
+
 fn put_curve(out: &mut String, number: usize, series: &Series, across: &Axis, up: &Axis) {
-    let place = |(x, y): &(f64, f64)| (across.at(*x), HEIGHT - up.at(*y));
+    let place = |(x, y): &(f64, f64)| (across.position(*x), HEIGHT - up.position(*y));
     let places: Vec<(f64, f64)> = series.points.iter().map(place).collect();
     let line: Vec<String> = places
         .iter()

@@ -4,8 +4,8 @@ use std::time::Instant;
 
 use crate::foreign::keep;
 
-/// How long one call took, in seconds.
-pub fn timed<T: Copy>(call: impl FnOnce() -> T) -> f64 {
+/// Makes one call and gives how long it took, in seconds.
+pub fn measure_time<T: Copy>(call: impl FnOnce() -> T) -> f64 {
     let start = Instant::now();
     keep(call());
     start.elapsed().as_secs_f64()
@@ -22,11 +22,11 @@ pub type Side<'a> = Box<dyn FnMut() -> f64 + 'a>;
 
 /// A side that is called and timed here.
 pub fn side<'a, T: Copy>(mut call: impl FnMut() -> T + 'a) -> Side<'a> {
-    Box::new(move || timed(&mut call))
+    Box::new(move || measure_time(&mut call))
 }
 
 /// Runs every side once in each round, one after the other, and gives the median of each. One round before them isn't counted.
-pub fn in_turn(rounds: usize, mut sides: Vec<Side>) -> Vec<f64> {
+pub fn run_in_turn(rounds: usize, mut sides: Vec<Side>) -> Vec<f64> {
     let mut times = vec![Vec::new(); sides.len()];
     for round in 0..=rounds {
         for (side, times) in sides.iter_mut().zip(&mut times) {

@@ -6,8 +6,8 @@ use std::path::Path;
 use std::ptr::null_mut;
 
 extern "C" {
-    fn measured_crc64(bytes: *const u8, length: usize) -> u64;
-    fn measured_sha256(bytes: *const u8, length: usize) -> u64;
+    fn bench_crc64(bytes: *const u8, length: usize) -> u64;
+    fn bench_sha256(bytes: *const u8, length: usize) -> u64;
     fn lzma_crc64(bytes: *const u8, length: usize, before: u64) -> u64;
     fn SHA256(bytes: *const u8, length: usize, digest: *mut u8) -> *mut u8;
 }
@@ -21,13 +21,13 @@ pub fn keep<T: Copy>(value: T) {
 /// The proved CRC-64.
 pub fn proved_crc64(bytes: &[u8]) -> u64 {
     // SAFETY: pointer and length are those of a slice, which is only read.
-    unsafe { measured_crc64(bytes.as_ptr(), bytes.len()) }
+    unsafe { bench_crc64(bytes.as_ptr(), bytes.len()) }
 }
 
 /// The first eight bytes of the proved SHA-256, as a little-endian number.
 pub fn proved_sha256(bytes: &[u8]) -> u64 {
     // SAFETY: pointer and length are those of a slice, which is only read.
-    unsafe { measured_sha256(bytes.as_ptr(), bytes.len()) }
+    unsafe { bench_sha256(bytes.as_ptr(), bytes.len()) }
 }
 
 /// liblzma's CRC-64.
@@ -109,51 +109,48 @@ impl Lmdb {
         // SAFETY: each handle is made by the call before the one that uses it, and each call's answer is looked at; the path ends with
         // a zero byte and lives until the call is over.
         unsafe {
-            fine(mdb_env_create(&mut lmdb.environment))?;
-            fine(mdb_env_set_mapsize(lmdb.environment, MAP_SIZE))?;
-            fine(mdb_env_open(
+            check_status(mdb_env_create(&mut lmdb.environment))?;
+            check_status(mdb_env_set_mapsize(lmdb.environment, MAP_SIZE))?;
+            check_status(mdb_env_open(
                 lmdb.environment,
                 path.as_ptr(),
                 NO_SYNC,
                 0o600,
             ))?;
-            fine(mdb_txn_begin(
-                lmdb.environment,
-                null_mut(),
-                0,
-                &mut lmdb.transaction,
-            ))?;
         }
+        lmdb.begin(0)?;
         let base = lmdb.base()?;
         for record in records {
             lmdb.put(base, record)?;
         }
         let written = std::mem::replace(&mut lmdb.transaction, null_mut());
-        // SAFETY: the transaction is open and is never used again; the new one and its cursor are closed by `drop`.
-        unsafe {
-            fine(mdb_txn_commit(written))?;
-            fine(mdb_txn_begin(
-                lmdb.environment,
-                null_mut(),
-                READ_ONLY,
-                &mut lmdb.transaction,
-            ))?;
-            fine(mdb_cursor_open(lmdb.transaction, base, &mut lmdb.cursor))?;
-        }
+        // SAFETY: the transaction is open and is never used again.
+        check_status(unsafe { mdb_txn_commit(written) })?;
+        lmdb.begin(READ_ONLY)?;
+        // SAFETY: the transaction is open; it and the cursor are closed by `drop`.
+        check_status(unsafe { mdb_cursor_open(lmdb.transaction, base, &mut lmdb.cursor) })?;
         Ok(lmdb)
+    }
+
+    /// Begins a transaction where none is open.
+    fn begin(&mut self, flags: c_uint) -> Result<(), String> {
+        // SAFETY: the environment is open, and no transaction is above this one.
+        check_status(unsafe {
+            mdb_txn_begin(self.environment, null_mut(), flags, &mut self.transaction)
+        })
     }
 
     fn base(&self) -> Result<c_uint, String> {
         let mut base = 0;
         // SAFETY: the transaction is open; no name means the only database.
-        fine(unsafe { mdb_dbi_open(self.transaction, std::ptr::null(), 0, &mut base) })?;
+        check_status(unsafe { mdb_dbi_open(self.transaction, std::ptr::null(), 0, &mut base) })?;
         Ok(base)
     }
 
     fn put(&self, base: c_uint, record: &[u8]) -> Result<(), String> {
         let (mut key, mut data) = (value(record), value(&[]));
         // SAFETY: the write transaction is open; LMDB copies the key's bytes and changes none of them.
-        fine(unsafe { mdb_put(self.transaction, base, &mut key, &mut data, APPEND) })
+        check_status(unsafe { mdb_put(self.transaction, base, &mut key, &mut data, APPEND) })
     }
 
     /// Calls `each` with every record that begins with `prefix`, in order.
@@ -199,7 +196,7 @@ fn value(bytes: &[u8]) -> Value {
     }
 }
 
-fn fine(status: c_int) -> Result<(), String> {
+fn check_status(status: c_int) -> Result<(), String> {
     match status {
         0 => Ok(()),
         number => Err(format!("LMDB: error {number}")),

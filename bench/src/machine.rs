@@ -2,8 +2,8 @@
 
 use crate::others::version;
 
-/// The processor and the versions of the programs, in Markdown.
-pub fn described() -> String {
+/// Names the processor and the versions of the programs, in Markdown.
+pub fn describe() -> String {
     let about = std::fs::read_to_string("/proc/cpuinfo").unwrap_or_default();
     let field = |name: &str| {
         let line = about.lines().find(|line| line.starts_with(name));
@@ -11,33 +11,35 @@ pub fn described() -> String {
         value.unwrap_or("unknown").to_string()
     };
     let flags = field("flags");
-    let has = |flag: &str| match flags.split(' ').any(|word| word == flag) {
-        true => "with",
-        false => "without",
+    let has = |flag: &str| {
+        if flags.split(' ').any(|word| word == flag) {
+            "with"
+        } else {
+            "without"
+        }
     };
     let cores = about
         .lines()
         .filter(|line| line.starts_with("processor"))
         .count();
-    let programs = [
-        version("rustc", "--version"),
-        format!(
-            "sqlite3 {}",
-            version("sqlite3", "--version")
-                .split(' ')
-                .next()
-                .unwrap_or("")
-        ),
-        version("xz", "--version"),
-        version("openssl", "version"),
-        version("sha256sum", "--version"),
-        version("look", "--version"),
-    ];
     format!(
         "Measured on: {}, {cores} processors, {} instructions for SHA-256 and {} carry-less multiplication.\n\nWith: {}.",
         field("model name"),
         has("sha_ni"),
         has("pclmulqdq"),
-        programs.join("; ")
+        versions().join("; ")
     )
+}
+
+/// The versions of the compiler and of the other programs.
+fn versions() -> [String; 6] {
+    let sqlite3 = version("sqlite3", "--version");
+    [
+        version("rustc", "--version"),
+        format!("sqlite3 {}", sqlite3.split(' ').next().unwrap_or("")),
+        version("xz", "--version"),
+        version("openssl", "version"),
+        version("sha256sum", "--version"),
+        version("look", "--version"),
+    ]
 }

@@ -64,7 +64,7 @@ impl Drop for Folder {
 fn main() -> Result<(), String> {
     let arguments = arguments(std::env::args().skip(1))?;
     let folder = Folder::new().map_err(|error| error.to_string())?;
-    let (report, panels) = measured(arguments.programs, arguments.quick, &folder.0);
+    let (report, panels) = measure(arguments.programs, arguments.quick, &folder.0);
     drop(folder);
     println!("{}", report.markdown());
     match arguments.write {
@@ -110,7 +110,7 @@ fn arguments(mut words: impl Iterator<Item = String>) -> Result<Arguments, Strin
 }
 
 /// Measures everything. A wrong answer on any side ends the program.
-fn measured(programs: Programs, quick: bool, folder: &Path) -> (Report, [Panel; 2]) {
+fn measure(programs: Programs, quick: bool, folder: &Path) -> (Report, [Panel; 2]) {
     let sizes = if quick { QUICK } else { FULL };
     let records = records::records(sizes.records);
     let setting = Setting {
@@ -119,7 +119,7 @@ fn measured(programs: Programs, quick: bool, folder: &Path) -> (Report, [Panel; 
         folder,
         records: &records,
     };
-    let mut report = Report::new(machine::described());
+    let mut report = Report::new(machine::describe());
     let mut archive = Archive::new(Shape::Plain.archive(&records), records.len());
     let file = folder.join("records.zs");
     std::fs::write(&file, &archive.bytes).expect("room for the archive");

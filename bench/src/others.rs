@@ -36,7 +36,7 @@ impl Call {
         command
     }
 
-    /// Runs the program, with its output thrown away.
+    /// Runs the program and ignores its output.
     pub fn run(&self) {
         let status = self.command().stdout(Stdio::null()).status();
         let fine = status.map_or(false, |status| status.success());

@@ -1,4 +1,5 @@
-//! Fictitious records in order: a name and a number that no other record has, a telephone number that nobody is given, an address.
+//! Fictitious records in order: a name and a number that no other record has, a telephone number that is reserved for fiction, an
+//! address.
 
 use zs_reference::maker::random::Random;
 
@@ -52,8 +53,8 @@ pub fn key(record: &[u8]) -> &[u8] {
     &record[..end.unwrap_or(record.len())]
 }
 
-/// Some of the records, drawn from all of them.
-pub fn drawn(records: &[Vec<u8>], count: usize) -> Vec<&[u8]> {
+/// Draws some of the records.
+pub fn draw(records: &[Vec<u8>], count: usize) -> Vec<&[u8]> {
     let mut random = Random::new(64);
     let draw = |_| records[random.below(records.len())].as_slice();
     (0..count).map(draw).collect()

@@ -52,8 +52,8 @@ impl Table {
         }
     }
 
-    /// One row more.
-    pub fn row(&mut self, cells: &[&str]) {
+    /// Adds a row.
+    pub fn add_row(&mut self, cells: &[&str]) {
         self.rows
             .push(cells.iter().map(|cell| cell.to_string()).collect());
     }
@@ -91,9 +91,9 @@ impl Report {
         }
     }
 
-    /// A ratio and what it should be.
-    pub fn goal(&mut self, what: &str, ratio: f64, goal: Goal) {
-        self.goals.row(&[
+    /// Adds a ratio and what it should be.
+    pub fn add_goal(&mut self, what: &str, ratio: f64, goal: Goal) {
+        self.goals.add_row(&[
             what,
             &format!("{ratio:.2}"),
             &goal.words(),
@@ -101,8 +101,8 @@ impl Report {
         ]);
     }
 
-    /// One table more.
-    pub fn table(&mut self, table: Table) {
+    /// Adds a table.
+    pub fn add_table(&mut self, table: Table) {
         self.tables.push(table);
     }
 

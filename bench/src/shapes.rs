@@ -14,7 +14,7 @@ const HIGHEST_LEVEL: u8 = 63;
 pub enum Shape {
     /// Data blocks of about 16 KiB, then index blocks of 128 entries.
     Plain,
-    /// The same data blocks; index blocks of two entries, each in front of what it leads to.
+    /// The same data blocks; index blocks of two entries, each before what it leads to.
     Interleaved,
     /// The same data blocks under one index block, under a chain up to level 63.
     Chain,
@@ -24,7 +24,7 @@ pub enum Shape {
     Huge,
     /// A block for each record, index blocks of 128 entries.
     Tiny,
-    /// A block for each record; index blocks of two entries, each in front of what it leads to.
+    /// A block for each record; index blocks of two entries, each before what it leads to.
     TinyInterleaved,
     /// A block for each record, all named by one index block.
     Wide,
@@ -61,7 +61,7 @@ impl Shape {
     ///
     /// Tiny blocks have more bytes around each record, which the CRC covers and the SHA doesn't: their time per byte says little
     /// beside that of 16 KiB blocks.
-    pub fn compared_with(self) -> &'static [(Shape, bool)] {
+    pub fn plainer_shapes(self) -> &'static [(Shape, bool)] {
         match self {
             Shape::Plain => &[],
             Shape::Interleaved | Shape::Chain | Shape::Huge => &[(Shape::Plain, true)],
@@ -82,12 +82,12 @@ impl Shape {
         tree.fan_out = self.fan_out();
         tree.keys = Keys::Separator;
         if matches!(self, Shape::Interleaved | Shape::TinyInterleaved) {
-            tree.placing = Placing::AheadOfChildren;
+            tree.placing = Placing::BeforeChildren;
         }
         if matches!(self, Shape::Chain | Shape::Chains) {
             tree.root_level = HIGHEST_LEVEL;
         }
-        tree.metadata = br#"{"about": "contacts that nobody has"}"#.to_vec();
+        tree.metadata = br#"{"about": "invented sample contacts"}"#.to_vec();
         tree.bytes()
     }
 

@@ -4,7 +4,7 @@ use std::path::{Path, PathBuf};
 
 use super::Setting;
 use crate::archive::{Archive, Lists};
-use crate::clock::{in_turn, side, Side};
+use crate::clock::{run_in_turn, side, Side};
 use crate::foreign::{proved_crc64, proved_sha256};
 use crate::others::{Call, Reference};
 use crate::records::key;
@@ -12,14 +12,14 @@ use crate::report::{ratio, size, speed, time, Goal, Report, Table};
 
 /// Measures all of it on the archive at `file`, which stands in memory too.
 pub fn measure(setting: &Setting, archive: &mut Archive, file: &Path, report: &mut Report) {
-    in_process(setting, archive, file, report);
-    as_processes(setting, archive.bytes.len(), file, report);
+    measure_in_process(setting, archive, file, report);
+    measure_as_processes(setting, archive.bytes.len(), file, report);
 }
 
-fn in_process(setting: &Setting, archive: &mut Archive, file: &Path, report: &mut Report) {
-    let started = |program: &Path| Reference::start(program, file).expect("the independent reader");
-    let mut portable = started(&setting.programs.portable);
-    let mut accelerated = started(&setting.programs.accelerated);
+fn measure_in_process(setting: &Setting, archive: &mut Archive, file: &Path, report: &mut Report) {
+    let start = |program: &Path| Reference::start(program, file).expect("the independent reader");
+    let mut portable = start(&setting.programs.portable);
+    let mut accelerated = start(&setting.programs.accelerated);
     let answer = archive.check();
     let answer = [answer.number, answer.place, answer.blocks, answer.records];
     assert_eq!(answer, portable.check().answer);
@@ -40,32 +40,37 @@ fn in_process(setting: &Setting, archive: &mut Archive, file: &Path, report: &mu
         Box::new(|| accelerated.check().seconds),
         side(|| copy.read(middle, &mut lists)),
     ];
-    let times = in_turn(setting.sizes.rounds, sides);
-    goals(&times, report);
-    report.table(large_file(setting, &times, bytes.len(), payloads.len()));
+    let times = run_in_turn(setting.sizes.rounds, sides);
+    add_goals(&times, report);
+    report.add_table(large_file_table(
+        setting,
+        &times,
+        bytes.len(),
+        payloads.len(),
+    ));
 }
 
-fn goals(times: &[f64], report: &mut Report) {
+fn add_goals(times: &[f64], report: &mut Report) {
     let (check, alone) = (times[0], times[1] + times[2]);
     let against = "check: speed against the independent reader";
-    report.goal(
+    report.add_goal(
         "check of a large file: time against its CRC and SHA alone",
         check / alone,
         Goal::AtMost(1.15),
     );
-    report.goal(
+    report.add_goal(
         &format!("{against}, portable checksums"),
         times[3] / check,
         Goal::AtLeast(1.0),
     );
-    report.goal(
+    report.add_goal(
         &format!("{against}, SHA by the processor"),
         times[4] / check,
         Goal::None,
     );
 }
 
-fn large_file(setting: &Setting, times: &[f64], length: usize, hashed: usize) -> Table {
+fn large_file_table(setting: &Setting, times: &[f64], length: usize, hashed: usize) -> Table {
     let about = format!(
         "One archive of {}, {} records in data blocks of about 16 KiB, in memory. The work list has a place for each block \
          and is cleared within the time of the check. The independent reader runs in a process of its own and times itself.",
@@ -75,49 +80,37 @@ fn large_file(setting: &Setting, times: &[f64], length: usize, hashed: usize) ->
     let head = ["what", "time", "speed", "time of the check / this"];
     let mut table = Table::new("Check of a large file", &about, &head);
     let rows = [
-        ("the proved check", times[0], length),
-        ("proved CRC-64 of the whole file, alone", times[1], length),
-        (
-            "proved SHA-256 of the data payloads, alone",
-            times[2],
-            hashed,
-        ),
-        ("both alone", times[1] + times[2], length),
-        (
-            "independent reader, Rust -O, portable checksums",
-            times[3],
-            length,
-        ),
+        ("the proved check", times[0]),
+        ("proved CRC-64 of the whole file, alone", times[1]),
+        ("proved SHA-256 of the data payloads, alone", times[2]),
+        ("both alone", times[1] + times[2]),
+        ("independent reader, Rust -O, portable checksums", times[3]),
         (
             "independent reader, Rust -O, SHA by the processor",
             times[4],
-            length,
         ),
-        (
-            "the proved reading front to back, for one record",
-            times[5],
-            length,
-        ),
+        ("the proved reading front to back, for one record", times[5]),
     ];
-    for (what, seconds, length) in rows {
-        let cells = (
-            time(seconds),
-            speed(length, seconds),
-            ratio(times[0] / seconds),
-        );
-        table.row(&[what, &cells.0, &cells.1, &cells.2]);
+    for (number, (what, seconds)) in rows.iter().enumerate() {
+        let bytes = if number == 2 { hashed } else { length };
+        table.add_row(&[
+            what,
+            &time(*seconds),
+            &speed(bytes, *seconds),
+            &ratio(times[0] / seconds),
+        ]);
     }
     table
 }
 
-fn as_processes(setting: &Setting, length: usize, file: &Path, report: &mut Report) {
+fn measure_as_processes(setting: &Setting, length: usize, file: &Path, report: &mut Report) {
     let path = file.to_string_lossy();
     let packed = PathBuf::from(format!("{path}.xz"));
     Call::new("xz", &["--keep", "--check=crc64", &path]).run();
     let validate = Call::new(&setting.programs.zs, &["validate", &path]);
     let sum = Call::new("sha256sum", &[&path]);
     let test = Call::new("xz", &["-t", &packed.to_string_lossy()]);
-    let times = in_turn(
+    let times = run_in_turn(
         setting.sizes.rounds,
         vec![
             side(|| validate.run()),
@@ -138,12 +131,12 @@ fn as_processes(setting: &Setting, length: usize, file: &Path, report: &mut Repo
         .iter()
         .zip(&times)
     {
-        table.row(&[
+        table.add_row(&[
             what,
             &time(*seconds),
             &speed(length, *seconds),
             &ratio(times[0] / seconds),
         ]);
     }
-    report.table(table);
+    report.add_table(table);
 }

@@ -1,7 +1,7 @@
 //! The checksums alone, against Rust as one would write it, liblzma and OpenSSL.
 
 use super::Setting;
-use crate::clock::{in_turn, side, Side};
+use crate::clock::{run_in_turn, side, Side};
 use crate::foreign::{openssl_sha256, proved_crc64, proved_sha256, xz_crc64};
 use crate::idiomatic;
 use crate::report::{ratio, size, speed, Report, Table};
@@ -17,7 +17,7 @@ pub fn measure(setting: &Setting, bytes: &[u8], report: &mut Report) {
         side(|| idiomatic::sha256(bytes)),
         side(|| openssl_sha256(bytes)),
     ];
-    let times = in_turn(setting.sizes.rounds, sides);
+    let times = run_in_turn(setting.sizes.rounds, sides);
     let about = format!(
         "{} in memory. liblzma and OpenSSL use the processor's own instructions where it has them.",
         size(bytes.len())
@@ -33,13 +33,13 @@ pub fn measure(setting: &Setting, bytes: &[u8], report: &mut Report) {
         ("SHA-256, OpenSSL", 3),
     ];
     for ((what, proved), seconds) in names.iter().zip(&times) {
-        table.row(&[
+        table.add_row(&[
             what,
             &speed(bytes.len(), *seconds),
             &ratio(seconds / times[*proved]),
         ]);
     }
-    report.table(table);
+    report.add_table(table);
 }
 
 /// All of them give the same.

@@ -3,8 +3,8 @@
 use super::Setting;
 use crate::archive::{Archive, Lists};
 use crate::chart::{Panel, Series};
-use crate::clock::{in_turn, median, side, timed, Side};
-use crate::records::{drawn, key, records};
+use crate::clock::{measure_time, median, run_in_turn, side, Side};
+use crate::records::{draw, key, records};
 use crate::report::{size, time, Goal, Report, Table};
 use crate::shapes::Shape;
 
@@ -44,9 +44,9 @@ pub fn measure(setting: &Setting, report: &mut Report) -> [Panel; 2] {
         .sizes
         .growth
         .iter()
-        .flat_map(|count| points(setting, *count))
+        .flat_map(|count| measure_points(setting, *count))
         .collect();
-    report.table(growth_table(&points));
+    report.add_table(growth_table(&points));
     compare_shapes(&points, report);
     let curves = |value: fn(&Point) -> f64| {
         Shape::ALL
@@ -67,7 +67,7 @@ pub fn measure(setting: &Setting, report: &mut Report) -> [Panel; 2] {
 }
 
 /// All shapes of so many records; their checks take turns.
-fn points(setting: &Setting, count: usize) -> Vec<Point> {
+fn measure_points(setting: &Setting, count: usize) -> Vec<Point> {
     let records = records(count);
     let mut archives: Vec<Archive> = Shape::ALL
         .iter()
@@ -77,7 +77,7 @@ fn points(setting: &Setting, count: usize) -> Vec<Point> {
         .iter_mut()
         .map(|archive| side(|| archive.check()))
         .collect();
-    let checks = in_turn(setting.sizes.rounds, sides);
+    let checks = run_in_turn(setting.sizes.rounds, sides);
     let measured = Shape::ALL.iter().zip(&archives).zip(checks);
     measured
         .map(|((shape, archive), check)| Point {
@@ -86,18 +86,18 @@ fn points(setting: &Setting, count: usize) -> Vec<Point> {
             bytes: archive.bytes.len(),
             blocks: archive.blocks(),
             check,
-            search: searched(setting, archive, &records),
+            search: measure_search(setting, archive, &records),
         })
         .collect()
 }
 
-fn searched(setting: &Setting, archive: &Archive, records: &[Vec<u8>]) -> Searched {
+fn measure_search(setting: &Setting, archive: &Archive, records: &[Vec<u8>]) -> Searched {
     let (mut seconds, mut blocks, mut bytes) = (Vec::new(), Vec::new(), Vec::new());
     let mut lists = Lists::default();
-    for record in drawn(records, setting.sizes.lookups) {
+    for record in draw(records, setting.sizes.lookups) {
         let found = archive.lookup(key(record));
         assert_eq!(found.records, [record]);
-        seconds.push(timed(|| archive.search(key(record), &mut lists)));
+        seconds.push(measure_time(|| archive.search(key(record), &mut lists)));
         blocks.push(found.opened.len() as f64);
         bytes.push(found.opened.iter().map(|block| block.len()).sum::<usize>() as f64);
         if seconds.iter().sum::<f64>() > LONG_ENOUGH {
@@ -129,7 +129,7 @@ fn growth_table(points: &[Point]) -> Table {
     let mut table = Table::new("Growth", about, &head);
     for shape in Shape::ALL {
         for point in points.iter().filter(|point| point.shape == shape) {
-            table.row(&[
+            table.add_row(&[
                 shape.name(),
                 &point.records.to_string(),
                 &size(point.bytes),
@@ -151,7 +151,7 @@ fn compare_shapes(points: &[Point], report: &mut Report) {
     let largest = points.iter().map(|point| point.records).max().unwrap_or(0);
     let largest = points.iter().filter(|point| point.records == largest);
     for point in largest.clone() {
-        for (plainer, alike) in point.shape.compared_with() {
+        for (plainer, alike) in point.shape.plainer_shapes() {
             let other = largest.clone().find(|other| other.shape == *plainer);
             let ratio = other.map_or(0.0, |o| point.check_per_byte() / o.check_per_byte());
             let names = (point.shape.name(), plainer.name());
@@ -161,7 +161,7 @@ fn compare_shapes(points: &[Point], report: &mut Report) {
             } else {
                 Goal::None
             };
-            report.goal(&what, ratio, goal);
+            report.add_goal(&what, ratio, goal);
         }
     }
 }

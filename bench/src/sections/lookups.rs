@@ -4,16 +4,16 @@ use std::path::{Path, PathBuf};
 
 use super::Setting;
 use crate::archive::{Archive, Lists, OPENED_PLACES, RESULT_PLACES};
-use crate::clock::{in_turn, median, side, timed, Side};
+use crate::clock::{measure_time, median, run_in_turn, side, Side};
 use crate::foreign::{proved_crc64, Lmdb};
 use crate::others::Call;
-use crate::records::{drawn, key};
+use crate::records::{draw, key};
 use crate::report::{ratio, size, time, Goal, Report, Table};
 
 /// Measures all of it on the archive at `file`, which stands in memory too.
 pub fn measure(setting: &Setting, archive: &Archive, file: &Path, report: &mut Report) {
-    in_process(setting, archive, report);
-    as_processes(setting, file, report);
+    measure_in_process(setting, archive, report);
+    measure_as_processes(setting, file, report);
 }
 
 /// Medians over the lookups within this process.
@@ -25,31 +25,31 @@ struct Within {
     bytes: f64,
 }
 
-fn in_process(setting: &Setting, archive: &Archive, report: &mut Report) {
+fn measure_in_process(setting: &Setting, archive: &Archive, report: &mut Report) {
     let folder = setting.folder.join("lmdb");
     std::fs::create_dir(&folder).expect("a folder for LMDB");
     let lmdb = Lmdb::create(&folder, setting.records).expect("LMDB");
-    let within = looked_up(setting, archive, &lmdb);
-    report.goal(
+    let within = measure_lookups(setting, archive, &lmdb);
+    report.add_goal(
         "one lookup: time against the CRC of the blocks it opens",
         within.search / within.checksums,
         Goal::AtMost(1.2),
     );
-    report.table(within_table(setting, &within));
+    report.add_table(within_table(setting, &within));
 }
 
-fn looked_up(setting: &Setting, archive: &Archive, lmdb: &Lmdb) -> Within {
+fn measure_lookups(setting: &Setting, archive: &Archive, lmdb: &Lmdb) -> Within {
     let mut columns = vec![Vec::new(); 5];
     let mut lists = Lists::default();
-    for record in drawn(setting.records, setting.sizes.lookups) {
+    for record in draw(setting.records, setting.sizes.lookups) {
         let found = archive.lookup(key(record));
         assert_eq!(found.records, [record]);
         assert_eq!(lmdb_finds(lmdb, key(record)), [record]);
         let lengths = found.opened.iter().map(|block| block.len());
         let row = [
-            timed(|| archive.search(key(record), &mut lists)),
-            timed(|| found.opened.iter().map(|block| proved_crc64(block)).max()),
-            timed(|| lmdb_finds(lmdb, key(record)).len()),
+            measure_time(|| archive.search(key(record), &mut lists)),
+            measure_time(|| found.opened.iter().map(|block| proved_crc64(block)).max()),
+            measure_time(|| lmdb_finds(lmdb, key(record)).len()),
             found.opened.len() as f64,
             lengths.sum::<usize>() as f64,
         ];
@@ -89,7 +89,7 @@ fn within_table(setting: &Setting, within: &Within) -> Table {
         ("LMDB", within.lmdb),
     ];
     for (what, seconds) in rows {
-        table.row(&[what, &time(seconds), &ratio(within.search / seconds)]);
+        table.add_row(&[what, &time(seconds), &ratio(within.search / seconds)]);
     }
     table
 }
@@ -140,12 +140,11 @@ impl Files {
         Call::new(&setting.programs.zs, &words)
     }
 
-    /// All records from the prefix up to the least string that is behind all that begin with it.
+    /// All records from the prefix up to the least string that is above all that begin with it.
     fn sqlite3(&self, prefix: &str) -> Call {
-        let behind = format!("{}{}", &prefix[..prefix.len() - 1], next(prefix));
-        let query = format!(
-            "select record from records where record >= '{prefix}' and record < '{behind}'"
-        );
+        let end = format!("{}{}", &prefix[..prefix.len() - 1], next_letter(prefix));
+        let query =
+            format!("select record from records where record >= '{prefix}' and record < '{end}'");
         Call::new(
             "sqlite3",
             &["-readonly", &self.database.to_string_lossy(), &query],
@@ -157,18 +156,18 @@ impl Files {
     }
 }
 
-/// The character behind the last one of a prefix, which is a digit here.
-fn next(prefix: &str) -> char {
+/// The character after the last one of a prefix, which is a digit here.
+fn next_letter(prefix: &str) -> char {
     prefix
         .bytes()
         .last()
         .map_or('0', |last| char::from(last + 1))
 }
 
-fn as_processes(setting: &Setting, archive: &Path, report: &mut Report) {
+fn measure_as_processes(setting: &Setting, archive: &Path, report: &mut Report) {
     let files = Files::make(setting, archive);
     let mut times = vec![Vec::new(); 3];
-    for record in drawn(setting.records, setting.sizes.processes) {
+    for record in draw(setting.records, setting.sizes.processes) {
         let prefix = String::from_utf8_lossy(key(record)).into_owned();
         let calls = [
             files.zs(setting, &prefix),
@@ -180,17 +179,17 @@ fn as_processes(setting: &Setting, archive: &Path, report: &mut Report) {
             assert_eq!(call.output(), line);
         }
         let sides: Vec<Side> = calls.iter().map(|call| side(|| call.run())).collect();
-        for (times, seconds) in times.iter_mut().zip(in_turn(1, sides)) {
+        for (times, seconds) in times.iter_mut().zip(run_in_turn(1, sides)) {
             times.push(seconds);
         }
     }
     let times: Vec<f64> = times.into_iter().map(median).collect();
-    report.goal(
+    report.add_goal(
         "`zs dump --unchecked --prefix` as a process: time against `sqlite3`",
         times[0] / times[1],
         Goal::AtMost(1.0),
     );
-    report.table(process_table(setting, &files, &times));
+    report.add_table(process_table(setting, &files, &times));
 }
 
 fn process_table(setting: &Setting, files: &Files, times: &[f64]) -> Table {
@@ -217,7 +216,7 @@ fn process_table(setting: &Setting, files: &Files, times: &[f64]) -> Table {
             time(*seconds),
             ratio(times[0] / seconds),
         );
-        table.row(&[what, &cells.0, &cells.1, &cells.2]);
+        table.add_row(&[what, &cells.0, &cells.1, &cells.2]);
     }
     table
 }

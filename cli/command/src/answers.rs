@@ -1,6 +1,6 @@
 //! The library's answers, with lists that grow until they are long enough.
 //!
-//! A short list is refused (18, 26, 27) and the call is made again with a longer one, so these numbers never reach a person; 27 does
+//! A short list is refused (18, 26, 27) and the call is made again with a longer one, so a person never sees these numbers, except 27
 //! where `--max-results` sets the limit.
 
 use zs_library::Query;
@@ -72,7 +72,7 @@ impl Places {
 
 /// Checks a file.
 pub fn check(file: &[u8]) -> Result<Contents, Failure> {
-    let length = readable(file);
+    let length = readable_length(file);
     let mut work = Places::new(length / USUAL_BLOCK + 64, length / SMALLEST_BLOCK);
     loop {
         let answer = zs_library::check(file, &mut work.zeros()?);
@@ -84,7 +84,7 @@ pub fn check(file: &[u8]) -> Result<Contents, Failure> {
                 })
             }
             18 if work.grow() => {}
-            number => return refused(number, answer.place),
+            number => return refuse(number, answer.place),
         }
     }
 }
@@ -108,7 +108,7 @@ pub fn search(
         let (mut walked, mut pairs) = (opened.zeros()?, results.zeros()?);
         let answer = zs_library::search(file, query, &mut walked, &mut pairs);
         match answer.number {
-            0 => return Ok(answered(walked, answer.opened, pairs, answer.matches)),
+            0 => return Ok(cut_lists(walked, answer.opened, pairs, answer.matches)),
             26 if opened.grow() => {}
             27 if results.grow() => {}
             26 | 27 if known.is_none() && !(answer.number == 27 && reaches(&results, limit)) => {
@@ -116,7 +116,7 @@ pub fn search(
                 opened.most = most_opened(file, known);
                 results.most = most_results(file, known, limit);
             }
-            number => return refused(number, answer.place),
+            number => return refuse(number, answer.place),
         }
     }
 }
@@ -128,25 +128,25 @@ pub fn read(
     known: Option<Contents>,
     limit: Option<u64>,
 ) -> Result<Answer, Failure> {
-    let first = first_results(file, query, known).max(readable(file) / 16);
+    let first = first_results(file, query, known).max(readable_length(file) / 16);
     let mut results = Places::new(first, most_results(file, known, limit));
     loop {
         let mut pairs = results.zeros()?;
         let answer = zs_library::read(file, query, &mut pairs);
         match answer.number {
-            0 => return Ok(answered(Vec::new(), 0, pairs, answer.matches)),
+            0 => return Ok(cut_lists(Vec::new(), 0, pairs, answer.matches)),
             27 if results.grow() => {}
-            number => return refused(number, answer.place),
+            number => return refuse(number, answer.place),
         }
     }
 }
 
-fn refused<T>(number: u64, place: u64) -> Result<T, Failure> {
+fn refuse<T>(number: u64, place: u64) -> Result<T, Failure> {
     Err(Failure::Refused(Refusal { number, place }))
 }
 
 /// How many bytes may be looked at: a file above the limit is refused by its length, whatever its lists.
-fn readable(file: &[u8]) -> usize {
+fn readable_length(file: &[u8]) -> usize {
     match file.len() {
         length if length > LONGEST => 0,
         length => length,
@@ -157,23 +157,23 @@ fn readable(file: &[u8]) -> usize {
 fn most_opened(file: &[u8], known: Option<Contents>) -> usize {
     match known {
         Some(contents) => places(contents.blocks),
-        None => readable(file) / USUAL_BLOCK + FIRST_PLACES,
+        None => readable_length(file) / USUAL_BLOCK + FIRST_PLACES,
     }
 }
 
-/// A lookup in a file that wasn't checked is to be quick. Behind a check, which takes longer anyway, a longer list saves calls.
+/// A lookup in a file that wasn't checked must be quick. After a check, which takes longer anyway, a longer list saves calls.
 fn first_results(file: &[u8], query: &Query, known: Option<Contents>) -> usize {
     let all = query.start.is_empty() && query.stop.is_none() && query.prefix.is_empty();
     match known {
         Some(contents) if all => places(contents.records.saturating_mul(2)),
-        Some(_) => readable(file) / 64 + FIRST_PLACES,
+        Some(_) => readable_length(file) / 64 + FIRST_PLACES,
         None => FIRST_PLACES,
     }
 }
 
 /// Two places for each record, or for each byte where the records were never counted; no more than the limit asks for.
 fn most_results(file: &[u8], known: Option<Contents>, limit: Option<u64>) -> usize {
-    let records = known.map_or(readable(file) as u64, |contents| contents.records);
+    let records = known.map_or(readable_length(file) as u64, |contents| contents.records);
     places(limit.unwrap_or(records).min(records).saturating_mul(2))
 }
 
@@ -189,7 +189,7 @@ fn reaches(results: &Places, limit: Option<u64>) -> bool {
 }
 
 /// Cuts the lists to what was put on them.
-fn answered(mut opened: Vec<u64>, blocks: u64, mut results: Vec<u64>, matches: u64) -> Answer {
+fn cut_lists(mut opened: Vec<u64>, blocks: u64, mut results: Vec<u64>, matches: u64) -> Answer {
     opened.truncate(places(blocks));
     results.truncate(places(matches.saturating_mul(2)));
     Answer { opened, results }

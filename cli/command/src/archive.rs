@@ -1,4 +1,4 @@
-//! An archive as the commands meet it: its bytes, checked first unless that isn't wanted.
+//! An archive as the commands use it: its bytes, checked first unless that isn't wanted.
 
 use std::path::Path;
 
@@ -15,10 +15,13 @@ pub struct Archive {
 }
 
 impl Archive {
-    pub fn opened(path: &Path, trust: &Trust) -> Result<Self, Failure> {
-        let (input, known) = match trust.unchecked {
-            true => (unchecked(path)?, None),
-            false => checked(path).map(|(input, contents)| (input, Some(contents)))?,
+    /// Reads and checks a file, or maps it unchecked.
+    pub fn open(path: &Path, trust: &Trust) -> Result<Self, Failure> {
+        let (input, known) = if trust.unchecked {
+            (map_unchecked(path)?, None)
+        } else {
+            let (input, contents) = read_and_check(path)?;
+            (input, Some(contents))
         };
         Ok(Archive { input, known })
     }
@@ -29,16 +32,16 @@ impl Archive {
 }
 
 /// Reads and checks a file.
-pub fn checked(path: &Path) -> Result<(Input, Contents), Failure> {
+pub fn read_and_check(path: &Path) -> Result<(Input, Contents), Failure> {
     let input = input::read(path)?;
     let bytes = input.bytes();
-    let contents = progress::during("checking", path, bytes.len(), || check(bytes))?;
+    let contents = progress::show_while("checking", path, bytes.len(), || check(bytes))?;
     Ok((input, contents))
 }
 
 /// Maps a file, and says what isn't promised of it.
-fn unchecked(path: &Path) -> Result<Input, Failure> {
-    let input = input::mapped(path)?;
+fn map_unchecked(path: &Path) -> Result<Input, Failure> {
+    let input = input::map(path)?;
     let name = path.display();
     complain(&format!(
         "{name}: not checked; that every match is found is promised for checked files only"

@@ -6,7 +6,7 @@ use clap::builder::{OsStringValueParser, TypedValueParser};
 use clap::{Args, Parser, Subcommand, ValueEnum};
 use zs_library::Query;
 
-use crate::escapes::{resolved, Bytes};
+use crate::escapes::{resolve, Bytes};
 
 const ABOUT: &str = "Checks, reads and searches ZS archives (version 0.10, codec none), by a library that is proved.";
 
@@ -24,7 +24,7 @@ Exit status: 0 answered, 1 refused, 2 usage or input/output.
 
 const VALIDATE_EXAMPLES: &str = "Examples:
   zs validate contacts.zs
-  zs validate *.zs                 one line for each file; goes on behind a bad one";
+  zs validate *.zs                 one line for each file, also after a refused one";
 
 const DUMP_EXAMPLES: &str = "S, P and T take the escapes \\t \\n \\r \\\\ and \\x00 to \\xff. Bytes are compared as unsigned numbers.
 
@@ -93,7 +93,7 @@ pub struct Dump {
     #[command(flatten)]
     pub selection: Selection,
     /// What follows each record
-    #[arg(long, value_name = "T", default_value = "\\n", value_parser = escaped())]
+    #[arg(long, value_name = "T", default_value = "\\n", value_parser = bytes_parser())]
     pub terminator: Bytes,
     /// Put each record's length before it instead
     #[arg(long, value_name = "FORM", conflicts_with = "terminator")]
@@ -137,13 +137,13 @@ pub struct Explain {
 #[derive(Args)]
 pub struct Selection {
     /// Only records that are at least S
-    #[arg(long, value_name = "S", value_parser = escaped())]
+    #[arg(long, value_name = "S", value_parser = bytes_parser())]
     pub start: Option<Bytes>,
     /// Only records that are less than S
-    #[arg(long, value_name = "S", value_parser = escaped())]
+    #[arg(long, value_name = "S", value_parser = bytes_parser())]
     pub stop: Option<Bytes>,
     /// Only records that begin with P
-    #[arg(long, value_name = "P", value_parser = escaped())]
+    #[arg(long, value_name = "P", value_parser = bytes_parser())]
     pub prefix: Option<Bytes>,
 }
 
@@ -175,6 +175,7 @@ pub enum Length {
     U64le,
 }
 
-fn escaped() -> impl TypedValueParser<Value = Bytes> {
-    OsStringValueParser::new().try_map(resolved)
+/// Takes an argument as bytes, with its escapes resolved.
+fn bytes_parser() -> impl TypedValueParser<Value = Bytes> {
+    OsStringValueParser::new().try_map(resolve)
 }

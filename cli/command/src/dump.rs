@@ -13,25 +13,27 @@ use crate::{output, progress};
 
 /// Writes nothing before the whole answer is known.
 pub fn run(asked: &Dump) -> Result<(), Failure> {
-    spare_the_archive(asked)?;
-    let archive = Archive::opened(&asked.file, &asked.trust)?;
+    refuse_archive_as_output(asked)?;
+    let archive = Archive::open(&asked.file, &asked.trust)?;
     let (file, known) = (archive.bytes(), archive.known);
-    let answer = progress::during("reading", &asked.file, file.len(), || {
+    let answer = progress::show_while("reading", &asked.file, file.len(), || {
         let query = asked.selection.query();
-        match asked.scan {
-            true => read(file, &query, known, asked.max_results),
-            false => search(file, &query, known, asked.max_results),
+        if asked.scan {
+            read(file, &query, known, asked.max_results)
+        } else {
+            search(file, &query, known, asked.max_results)
         }
     })?;
     let target = asked.output.as_deref();
-    match asked.count {
-        true => output::write(target, &|out| writeln!(out, "{}", answer.count())),
-        false => output::write(target, &|out| records(asked, file, &answer, out)),
+    if asked.count {
+        output::write(target, &|out| writeln!(out, "{}", answer.count()))
+    } else {
+        output::write(target, &|out| write_records(asked, file, &answer, out))
     }
 }
 
 /// An archive isn't replaced by its own records.
-fn spare_the_archive(asked: &Dump) -> Result<(), Failure> {
+fn refuse_archive_as_output(asked: &Dump) -> Result<(), Failure> {
     let place = |path: &Path| fs::metadata(path).map(|about| (about.dev(), about.ino()));
     let target = match &asked.output {
         Some(path) => path,
@@ -46,8 +48,13 @@ fn spare_the_archive(asked: &Dump) -> Result<(), Failure> {
     }
 }
 
-/// Each record as a part of the file, with its terminator behind it or its length before it.
-fn records(asked: &Dump, file: &[u8], answer: &Answer, out: &mut dyn Write) -> io::Result<()> {
+/// Writes each record, which is a part of the file, and then the terminator, or before it its length.
+fn write_records(
+    asked: &Dump,
+    file: &[u8],
+    answer: &Answer,
+    out: &mut dyn Write,
+) -> io::Result<()> {
     for (offset, length) in answer.matches() {
         let record = zs_library::bytes(file, offset, length);
         match asked.length_prefixed {

@@ -11,9 +11,9 @@ pub struct Bytes(pub Vec<u8>);
 /// An escape that can't be resolved.
 #[derive(Clone, Debug, PartialEq, Eq)]
 pub enum EscapeFault {
-    /// A backslash before something that it doesn't stand before.
+    /// A backslash before a character that makes no escape with it.
     Unknown(String),
-    /// A backslash, or `\x`, with too little behind it.
+    /// A backslash, or `\x`, with too few characters after it.
     Cut,
 }
 
@@ -33,15 +33,15 @@ impl fmt::Display for EscapeFault {
 
 impl std::error::Error for EscapeFault {}
 
-/// The bytes that an argument stands for.
-pub fn resolved(argument: OsString) -> Result<Bytes, EscapeFault> {
+/// Gives the bytes that an argument stands for.
+pub fn resolve(argument: OsString) -> Result<Bytes, EscapeFault> {
     let written = argument.into_vec();
     let mut bytes = Vec::with_capacity(written.len());
     let mut rest = written.as_slice();
-    while let [first, behind @ ..] = rest {
+    while let [first, after @ ..] = rest {
         let (byte, left) = match first {
-            b'\\' => escape(behind)?,
-            other => (*other, behind),
+            b'\\' => take_escape(after)?,
+            other => (*other, after),
         };
         bytes.push(byte);
         rest = left;
@@ -49,23 +49,23 @@ pub fn resolved(argument: OsString) -> Result<Bytes, EscapeFault> {
     Ok(Bytes(bytes))
 }
 
-/// The byte meant by what follows a backslash, and what follows that.
-fn escape(behind: &[u8]) -> Result<(u8, &[u8]), EscapeFault> {
-    match behind {
+/// Gives the byte that a backslash and what follows it stand for, and the rest.
+fn take_escape(after: &[u8]) -> Result<(u8, &[u8]), EscapeFault> {
+    match after {
         [b't', left @ ..] => Ok((b'\t', left)),
         [b'n', left @ ..] => Ok((b'\n', left)),
         [b'r', left @ ..] => Ok((b'\r', left)),
         [b'\\', left @ ..] => Ok((b'\\', left)),
         [b'x', high, low, left @ ..] => match (digit(*high), digit(*low)) {
             (Some(high), Some(low)) => Ok((high * 16 + low, left)),
-            _ => Err(unknown(&[b'x', *high, *low])),
+            _ => Err(unknown_escape(&[b'x', *high, *low])),
         },
         [] | [b'x'] | [b'x', _] => Err(EscapeFault::Cut),
-        [other, ..] => Err(unknown(&[*other])),
+        [other, ..] => Err(unknown_escape(&[*other])),
     }
 }
 
-fn unknown(escape: &[u8]) -> EscapeFault {
+fn unknown_escape(escape: &[u8]) -> EscapeFault {
     EscapeFault::Unknown(format!("\\{}", String::from_utf8_lossy(escape)))
 }
 
@@ -79,8 +79,8 @@ fn digit(letter: u8) -> Option<u8> {
     }
 }
 
-/// Bytes as printable ASCII, in the form that [`resolved`] takes back.
-pub fn shown(bytes: &[u8]) -> String {
+/// Gives bytes as printable ASCII, in the form that [`resolve`] takes back.
+pub fn escape(bytes: &[u8]) -> String {
     let mut text = String::with_capacity(bytes.len());
     for byte in bytes {
         match byte {
@@ -101,7 +101,7 @@ mod tests {
     use super::*;
 
     fn of(text: &str) -> Result<Vec<u8>, EscapeFault> {
-        resolved(OsString::from(text)).map(|bytes| bytes.0)
+        resolve(OsString::from(text)).map(|bytes| bytes.0)
     }
 
     #[test]
@@ -125,6 +125,6 @@ mod tests {
     #[test]
     fn what_is_shown_can_be_given_back() {
         let every_byte: Vec<u8> = (0..=255).collect();
-        assert_eq!(of(&shown(&every_byte)), Ok(every_byte));
+        assert_eq!(of(&escape(&every_byte)), Ok(every_byte));
     }
 }

@@ -5,22 +5,22 @@ use std::collections::BTreeMap;
 use crate::answers::{search, Contents};
 use crate::archive::Archive;
 use crate::arguments::Explain;
-use crate::escapes::shown;
+use crate::escapes::escape;
 use crate::failure::Failure;
-use crate::output::{self, counted};
+use crate::output::{self, format_count};
 use crate::progress;
-use crate::walk::{walked, Opened};
+use crate::walk::{lay_out, Opened};
 
 /// Longer bounds are cut for display.
 const LONGEST_BOUND: usize = 40;
 
 pub fn run(asked: &Explain) -> Result<(), Failure> {
-    let archive = Archive::opened(&asked.file, &asked.trust)?;
+    let archive = Archive::open(&asked.file, &asked.trust)?;
     let (file, known) = (archive.bytes(), archive.known);
-    let answer = progress::during("searching", &asked.file, file.len(), || {
+    let answer = progress::show_while("searching", &asked.file, file.len(), || {
         search(file, &asked.selection.query(), known, None)
     })?;
-    let blocks = walked(file, &answer);
+    let blocks = lay_out(file, &answer);
     let root_level = blocks.first().map_or(0, |root| root.level);
     output::write(None, &|out| {
         for block in &blocks {
@@ -42,7 +42,7 @@ fn line(block: &Opened, root_level: u8) -> String {
         None => String::from("the root"),
     };
     let matches = match level {
-        0 => format!(", {}", counted(block.matches, "match", "matches")),
+        0 => format!(", {}", format_count(block.matches, "match", "matches")),
         _ => String::new(),
     };
     format!("{indent}{offset}  level {level}  {bounds}{matches}")
@@ -53,8 +53,8 @@ fn bound(bytes: &[u8]) -> String {
         .get(..LONGEST_BOUND)
         .filter(|_| bytes.len() > LONGEST_BOUND)
     {
-        Some(beginning) => format!("\"{}\"..", shown(beginning)),
-        None => format!("\"{}\"", shown(bytes)),
+        Some(beginning) => format!("\"{}\"..", escape(beginning)),
+        None => format!("\"{}\"", escape(bytes)),
     }
 }
 
@@ -69,13 +69,14 @@ fn summary(blocks: &[Opened], matches: u64, known: Option<Contents>) -> String {
         .iter()
         .map(|(level, number)| format!("{number} on level {level}"))
         .collect();
-    let in_vain = match levels.is_empty() {
-        true => String::from("none"),
-        false => levels.join(", "),
+    let in_vain = if levels.is_empty() {
+        String::from("none")
+    } else {
+        levels.join(", ")
     };
     let opened = blocks.len();
     format!(
         "opened {opened}{of_all} blocks, {}, in vain: {in_vain}",
-        counted(matches, "match", "matches")
+        format_count(matches, "match", "matches")
     )
 }

@@ -3,7 +3,7 @@
 use std::io::Write;
 use std::path::Path;
 
-use crate::refusals::{said, Refusal};
+use crate::refusals::Refusal;
 
 /// The exit status. The worst of several is the greatest.
 #[derive(Clone, Copy, Debug, PartialEq, Eq, PartialOrd, Ord)]
@@ -23,22 +23,32 @@ pub enum Failure {
     Refused(Refusal),
     /// An input or an output is at fault, as these words say.
     Trouble(String),
-    /// Whoever read the output has gone, and nothing more is to be said.
+    /// The reader of the output has closed it. Nothing more is printed.
     ReaderGone,
 }
 
 impl Failure {
-    /// What went wrong with a file that couldn't be read or written.
+    /// The failure to read or write a file.
     pub fn of_file(file: &Path, error: &std::io::Error) -> Self {
         Failure::Trouble(format!("{}: {error}", file.display()))
     }
 
     /// The line for a person, if there is anything to say.
-    pub fn said_of(&self, file: &Path) -> Option<String> {
+    pub fn describe(&self, file: &Path) -> Option<String> {
         match self {
-            Failure::Refused(refusal) => Some(format!("{}: {}", file.display(), said(refusal))),
+            Failure::Refused(refusal) => {
+                Some(format!("{}: {}", file.display(), refusal.describe()))
+            }
             Failure::Trouble(words) => Some(words.clone()),
             Failure::ReaderGone => None,
+        }
+    }
+
+    /// What to do about a refusal.
+    pub fn advice(&self) -> Option<&'static str> {
+        match self {
+            Failure::Refused(refusal) => refusal.advice(),
+            Failure::Trouble(_) | Failure::ReaderGone => None,
         }
     }
 

@@ -1,17 +1,17 @@
 //! `zs info`: what a file is, as JSON.
 
 use crate::answers::Contents;
-use crate::archive::checked;
+use crate::archive::read_and_check;
 use crate::arguments::Info;
-use crate::escapes::shown;
+use crate::escapes::escape;
 use crate::failure::Failure;
-use crate::json::{quoted, value};
+use crate::json::{as_json, quote};
 use crate::layout::{block, header, Header};
 use crate::output;
 
 /// Checks the file first, so that what is shown is true of it.
 pub fn run(asked: &Info) -> Result<(), Failure> {
-    let (input, contents) = checked(&asked.file)?;
+    let (input, contents) = read_and_check(&asked.file)?;
     let file = input.bytes();
     let unreadable = || {
         Failure::Trouble(format!(
@@ -27,10 +27,10 @@ pub fn run(asked: &Info) -> Result<(), Failure> {
         });
     }
     let root_level = block(file, header.root_offset).map_or(0, |root| root.level);
-    output::print(&described(&header, root_level, &contents))
+    output::print(&describe(&header, root_level, &contents))
 }
 
-fn described(header: &Header, root_level: u8, contents: &Contents) -> String {
+fn describe(header: &Header, root_level: u8, contents: &Contents) -> String {
     let codec: Vec<u8> = header
         .codec
         .iter()
@@ -42,17 +42,17 @@ fn described(header: &Header, root_level: u8, contents: &Contents) -> String {
         .iter()
         .map(|byte| format!("{byte:02x}"))
         .collect();
-    let metadata = match value(header.metadata) {
+    let metadata = match as_json(header.metadata) {
         Some(json) => json.to_string(),
-        None => quoted(&shown(header.metadata)),
+        None => quote(&escape(header.metadata)),
     };
     let lines = [
         ("header_length", header.length.to_string()),
         ("root_index_offset", header.root_offset.to_string()),
         ("root_index_length", header.root_length.to_string()),
         ("total_file_length", header.total_length.to_string()),
-        ("data_sha256", quoted(&hash)),
-        ("codec", quoted(&shown(&codec))),
+        ("data_sha256", quote(&hash)),
+        ("codec", quote(&escape(&codec))),
         ("metadata_length", header.metadata.len().to_string()),
         ("metadata", metadata),
     ];

@@ -1,4 +1,4 @@
-//! The bytes of an archive.
+//! The bytes of an archive. The only file of the command with unsafe code: it maps files.
 
 use std::fs::File;
 use std::io::{self, Read};
@@ -13,7 +13,7 @@ pub const LONGEST: usize = 1 << 30;
 
 /// The bytes of a file.
 pub enum Input {
-    /// Read, so that a verdict and the answer behind it are of the same bytes whatever becomes of the file.
+    /// Read, so that a verdict and the answer after it are of the same bytes, even if the file is changed meanwhile.
     Read(Vec<u8>),
     /// Mapped, under the assumption that nobody changes the file while the command runs.
     Mapped(Mapping),
@@ -34,7 +34,7 @@ pub fn read(path: &Path) -> Result<Input, Failure> {
 }
 
 /// Maps a file that isn't to be checked.
-pub fn mapped(path: &Path) -> Result<Input, Failure> {
+pub fn map(path: &Path) -> Result<Input, Failure> {
     load(path, 0).map_err(|error| Failure::of_file(path, &error))
 }
 
@@ -43,7 +43,9 @@ fn load(path: &Path, longest_read: u64) -> io::Result<Input> {
     let file = File::open(path)?;
     let about = file.metadata()?;
     if about.is_file() && about.len() > longest_read {
-        let mapping = zs_library::map(&file)?;
+        // SAFETY: nobody changes the file while it is mapped. With `--unchecked` this is assumed, and its help says so. Of a file above
+        // 2^30 bytes only the length is used.
+        let mapping = unsafe { zs_library::map(&file) }?;
         // A file that was cut meanwhile is read after all.
         if mapping.len() as u64 > longest_read {
             return Ok(Input::Mapped(mapping));

@@ -13,7 +13,7 @@ pub struct Header<'a> {
     pub metadata: &'a [u8],
 }
 
-/// A block: its level, its payload, and the position just behind it.
+/// A block: its level, its payload, and the position after its last byte.
 pub struct Block<'a> {
     pub level: u8,
     pub payload: &'a [u8],
@@ -27,12 +27,12 @@ pub struct Entry<'a> {
 }
 
 pub fn header(file: &[u8]) -> Option<Header<'_>> {
-    let metadata_length = usize::try_from(fixed(file, 88)?).ok()?;
+    let metadata_length = usize::try_from(u64_at(file, 88)?).ok()?;
     Some(Header {
-        length: fixed(file, 8)?,
-        root_offset: fixed(file, 16)?,
-        root_length: fixed(file, 24)?,
-        total_length: fixed(file, 32)?,
+        length: u64_at(file, 8)?,
+        root_offset: u64_at(file, 16)?,
+        root_length: u64_at(file, 24)?,
+        total_length: u64_at(file, 32)?,
         hash: file.get(40..72)?,
         codec: file.get(72..88)?,
         metadata: file.get(96..)?.get(..metadata_length)?,
@@ -42,34 +42,34 @@ pub fn header(file: &[u8]) -> Option<Header<'_>> {
 pub fn block(file: &[u8], offset: u64) -> Option<Block<'_>> {
     let start = usize::try_from(offset).ok()?;
     let mut rest = file.get(start..)?;
-    let length = number(&mut rest)?;
+    let length = take_number(&mut rest)?;
     let covered = rest.get(..usize::try_from(length).ok()?)?;
     let (level, payload) = covered.split_first()?;
-    let behind = file.len() - rest.len() + covered.len() + 8;
+    let end = file.len() - rest.len() + covered.len() + 8;
     Some(Block {
         level: *level,
         payload,
-        end: behind as u64,
+        end: end as u64,
     })
 }
 
 /// The entries of an index block, up to the first that can't be made out.
 pub fn entries<'a>(block: &Block<'a>) -> Vec<Entry<'a>> {
     let mut rest = block.payload;
-    std::iter::from_fn(|| entry(&mut rest)).collect()
+    std::iter::from_fn(|| take_entry(&mut rest)).collect()
 }
 
-fn entry<'a>(rest: &mut &'a [u8]) -> Option<Entry<'a>> {
-    let length = usize::try_from(number(rest)?).ok()?;
-    let (key, behind) = (rest.get(..length)?, rest.get(length..)?);
-    *rest = behind;
-    let offset = number(rest)?;
-    number(rest)?;
+fn take_entry<'a>(rest: &mut &'a [u8]) -> Option<Entry<'a>> {
+    let length = usize::try_from(take_number(rest)?).ok()?;
+    let key = rest.get(..length)?;
+    *rest = rest.get(length..)?;
+    let offset = take_number(rest)?;
+    take_number(rest)?;
     Some(Entry { key, offset })
 }
 
 /// Takes a uleb128 number of at most nine bytes.
-fn number(rest: &mut &[u8]) -> Option<u64> {
+fn take_number(rest: &mut &[u8]) -> Option<u64> {
     let last = rest.iter().take(9).position(|byte| *byte < 0x80)?;
     let digits = rest.get(..=last)?;
     *rest = rest.get(last + 1..)?;
@@ -82,7 +82,7 @@ fn number(rest: &mut &[u8]) -> Option<u64> {
 }
 
 /// The eight bytes at a position as a little-endian number.
-fn fixed(file: &[u8], at: usize) -> Option<u64> {
+fn u64_at(file: &[u8], at: usize) -> Option<u64> {
     let eight = file.get(at..)?.get(..8)?;
     Some(u64::from_le_bytes(eight.try_into().ok()?))
 }

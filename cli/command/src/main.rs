@@ -1,15 +1,15 @@
 //! The command `zs`: checks, reads and searches ZS archives.
 //!
-//! Every verdict, every match and every opened block comes from the proved library. What stands here is the way there and back:
-//! arguments and files on one side, lines and records on the other.
+//! Every verdict, every match and every opened block comes from the proved library. This crate reads the arguments and the files, and
+//! prints the answers.
 //!
 //! * [`arguments`] and [`escapes`]: what a person asks for.
 //! * [`input`], [`archive`], [`answers`], [`refusals`]: bytes, checked or not, the library's answers with lists that grow, and
 //!   refusals in words.
 //! * [`validate`], [`dump`], [`info`], [`explain`]: one module for each command.
-//! * [`output`], [`progress`], [`failure`]: where answers go, signs of life, and what went wrong.
+//! * [`output`], [`progress`], [`failure`]: where answers are written, progress on a terminal, and what went wrong.
 //! * [`layout`], [`walk`], [`json`]: fields and bounds for display only.
-#![forbid(unsafe_code)]
+#![deny(unsafe_code)]
 
 mod answers;
 mod archive;
@@ -19,6 +19,7 @@ mod escapes;
 mod explain;
 mod failure;
 mod info;
+#[allow(unsafe_code)]
 mod input;
 mod json;
 mod layout;
@@ -38,7 +39,7 @@ use failure::{complain, Failure, Status};
 fn main() -> ExitCode {
     let status = match Arguments::try_parse() {
         Ok(arguments) => run(&arguments.command),
-        Err(help_or_mistake) => shown(&help_or_mistake),
+        Err(help_or_mistake) => show_usage(&help_or_mistake),
     };
     ExitCode::from(status as u8)
 }
@@ -46,27 +47,30 @@ fn main() -> ExitCode {
 fn run(command: &Command) -> Status {
     match command {
         Command::Validate(asked) => validate::run(asked),
-        Command::Dump(asked) => reported(&asked.file, dump::run(asked)),
-        Command::Info(asked) => reported(&asked.file, info::run(asked)),
-        Command::Explain(asked) => reported(&asked.file, explain::run(asked)),
+        Command::Dump(asked) => report(&asked.file, dump::run(asked)),
+        Command::Info(asked) => report(&asked.file, info::run(asked)),
+        Command::Explain(asked) => report(&asked.file, explain::run(asked)),
     }
 }
 
-/// Says on standard error what kept a command from answering.
-fn reported(file: &Path, outcome: Result<(), Failure>) -> Status {
+/// Says on standard error why a command didn't answer, and what to do about it.
+fn report(file: &Path, outcome: Result<(), Failure>) -> Status {
     match outcome {
         Ok(()) => Status::Answered,
         Err(failure) => {
-            if let Some(reason) = failure.said_of(file) {
+            if let Some(reason) = failure.describe(file) {
                 complain(&reason);
+            }
+            if let Some(advice) = failure.advice() {
+                complain(&format!("what to do: {advice}"));
             }
             failure.status()
         }
     }
 }
 
-/// Help and version are answers; anything else that the arguments come to is a mistake in them.
-fn shown(help_or_mistake: &clap::Error) -> Status {
+/// Shows help, version, or a mistake in the arguments. The first two are answers.
+fn show_usage(help_or_mistake: &clap::Error) -> Status {
     match help_or_mistake.print() {
         Ok(()) if !help_or_mistake.use_stderr() => Status::Answered,
         Err(error) if error.kind() == std::io::ErrorKind::BrokenPipe => Status::Answered,

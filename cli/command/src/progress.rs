@@ -1,27 +1,28 @@
-//! Signs of life during long work: what is done, the size and the time so far, on standard error and only on a terminal.
+//! Progress of long work: what is done, the length of the file and the time so far, on standard error and only on a terminal.
 
 use std::path::Path;
 use std::time::Duration;
 
 use indicatif::{BinaryBytes, ProgressBar, ProgressStyle};
 
-/// Files below this are done before anybody wonders.
+/// Work on shorter files is over too soon to be shown.
 const LONG: usize = 1 << 20;
+/// Between two pictures of the spinner.
 const TURN: Duration = Duration::from_millis(100);
 
-/// Does the work, and shows meanwhile that it goes on.
-pub fn during<T>(what: &str, path: &Path, size: usize, work: impl FnOnce() -> T) -> T {
-    if size < LONG {
+/// Does the work, and shows meanwhile what is done.
+pub fn show_while<T>(what: &str, path: &Path, length: usize, work: impl FnOnce() -> T) -> T {
+    if length < LONG {
         return work();
     }
-    let sign = ProgressBar::new_spinner();
+    let spinner = ProgressBar::new_spinner();
     if let Ok(style) = ProgressStyle::with_template("{spinner} {msg}, {elapsed}") {
-        sign.set_style(style);
+        spinner.set_style(style);
     }
-    let size = BinaryBytes(size as u64);
-    sign.set_message(format!("{what} {} ({size})", path.display()));
-    sign.enable_steady_tick(TURN);
+    let length = BinaryBytes(length as u64);
+    spinner.set_message(format!("{what} {} ({length})", path.display()));
+    spinner.enable_steady_tick(TURN);
     let answer = work();
-    sign.finish_and_clear();
+    spinner.finish_and_clear();
     answer
 }

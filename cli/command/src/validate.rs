@@ -2,16 +2,16 @@
 
 use std::path::Path;
 
-use crate::archive::checked;
+use crate::archive::read_and_check;
 use crate::arguments::Validate;
 use crate::failure::{complain, Failure, Status};
-use crate::output::{self, counted};
+use crate::output::{self, format_count};
 
-/// Goes on behind a bad file; the worst status is that of the command.
+/// Checks every file, also after a refused one; the worst status is that of the command.
 pub fn run(asked: &Validate) -> Status {
     let mut worst = Status::Answered;
     for file in &asked.files {
-        let failure = match verdict(file) {
+        let failure = match print_verdict(file) {
             Ok(()) => continue,
             Err(failure) => failure,
         };
@@ -25,17 +25,17 @@ pub fn run(asked: &Validate) -> Status {
     worst
 }
 
-/// Prints the verdict on a file, be it good or bad.
-fn verdict(file: &Path) -> Result<(), Failure> {
-    match checked(file) {
+/// Prints the verdict on a file.
+fn print_verdict(file: &Path) -> Result<(), Failure> {
+    match read_and_check(file) {
         Ok((_, contents)) => output::print(&format!(
             "{}: valid, {} in {}\n",
             file.display(),
-            counted(contents.records, "record", "records"),
-            counted(contents.blocks, "block", "blocks"),
+            format_count(contents.records, "record", "records"),
+            format_count(contents.blocks, "block", "blocks"),
         )),
         Err(failure) => {
-            if let (Failure::Refused(_), Some(line)) = (&failure, failure.said_of(file)) {
+            if let (Failure::Refused(_), Some(line)) = (&failure, failure.describe(file)) {
                 output::print(&format!("{line}\n"))?;
             }
             Err(failure)

@@ -1,6 +1,6 @@
 //! The walk of a search for display only: where each opened block stands in the tree, its bounds, and the matches it leads to.
 //!
-//! The library says which blocks were opened, in which order, and what matched; this only lays it out. Where a file that was never
+//! The library says which blocks were opened, in which order, and what matched; this only arranges it. Where a file that was never
 //! checked doesn't form a tree, bounds may be missing.
 
 use crate::answers::Answer;
@@ -14,7 +14,7 @@ pub struct Opened<'a> {
     pub bounds: Option<Bounds<'a>>,
     /// How many matches this block leads to.
     pub matches: u64,
-    /// The position just behind it.
+    /// The position after its last byte.
     end: u64,
     /// Which of the opened blocks stands above this one.
     above: Option<usize>,
@@ -61,8 +61,8 @@ impl<'a> Opened<'a> {
     }
 }
 
-/// The opened blocks in walk order.
-pub fn walked<'a>(file: &'a [u8], answer: &Answer) -> Vec<Opened<'a>> {
+/// Arranges the opened blocks for display, in walk order.
+pub fn lay_out<'a>(file: &'a [u8], answer: &Answer) -> Vec<Opened<'a>> {
     let mut blocks: Vec<Opened> = Vec::with_capacity(answer.opened.len());
     // A block stands below the last one before it that is a level higher.
     let mut last_on_level = [None; 257];
@@ -80,7 +80,8 @@ pub fn walked<'a>(file: &'a [u8], answer: &Answer) -> Vec<Opened<'a>> {
     blocks
 }
 
-/// Matches come in the order of the data blocks, and rise within one; each counts for all blocks above it too.
+/// Counts the matches of each block. They come in the order of the data blocks, and rise within one; each counts for all blocks above
+/// it too.
 fn give_matches(blocks: &mut [Opened], answer: &Answer) {
     let mut matches = answer.matches().map(|(offset, _)| offset).peekable();
     for number in 0..blocks.len() {

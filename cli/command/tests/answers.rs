@@ -12,7 +12,7 @@ use zs_reference::reader::{self, Query};
 const AMPLE: usize = 100_000;
 
 /// The records that match, by the independent reader.
-fn due(file: &[u8], query: &Query) -> Vec<Vec<u8>> {
+fn matching_records(file: &[u8], query: &Query) -> Vec<Vec<u8>> {
     let answer = reader::read(file, query, AMPLE);
     assert_eq!(answer.number, 0);
     let pairs = answer.results.chunks(2).take(answer.matches as usize);
@@ -57,7 +57,7 @@ fn validate_counts_records_and_blocks() {
 #[test]
 fn dump_gives_every_record() {
     let file = fs::read(CONTACTS).expect("the sample");
-    let whole = due(&file, &Query::default());
+    let whole = matching_records(&file, &Query::default());
     assert_eq!(whole.len(), 1500);
     for way in [&["dump", CONTACTS][..], &["dump", "--scan", CONTACTS]] {
         let run = zs(way);
@@ -104,7 +104,7 @@ fn dump_gives_the_records_asked_for() {
     ]);
     assert_eq!(run.status, 0);
     assert!(!run.out.is_empty());
-    assert!(run.out == lines(&due(&file, &asked)));
+    assert!(run.out == lines(&matching_records(&file, &asked)));
     let nothing = zs(&["dump", CONTACTS, "--stop", ""]);
     assert_eq!((nothing.status, nothing.out.len()), (0, 0));
 }
@@ -127,7 +127,7 @@ fn drawn_files_and_queries() {
         let bytes = tree(&mut random, 9).bytes();
         let file = folder.write("drawn.zs", &bytes);
         let asked = query(&mut random);
-        let due = due(&bytes, &asked);
+        let due = matching_records(&bytes, &asked);
         let joined: Vec<u8> = due
             .iter()
             .flat_map(|record| [&(record.len() as u64).to_le_bytes(), record.as_slice()].concat())
@@ -179,9 +179,9 @@ fn info_is_json_of_the_header() {
     }
     assert!(run
         .text()
-        .contains("\"metadata\": {\"about\": \"contacts that nobody has\","));
+        .contains("\"metadata\": {\"about\": \"invented sample contacts\","));
     let only = zs(&["info", "-m", SMALL]);
-    assert_eq!(only.text(), "{\"about\": \"contacts that nobody has\"}\n");
+    assert_eq!(only.text(), "{\"about\": \"invented sample contacts\"}\n");
 }
 
 #[test]

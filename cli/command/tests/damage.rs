@@ -1,4 +1,4 @@
-//! No damage to a sample goes by: the check refuses every flipped bit and every cut.
+//! The check refuses every flipped bit and every cut of the samples.
 
 mod support;
 

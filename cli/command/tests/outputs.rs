@@ -1,4 +1,4 @@
-//! Outputs: files that appear whole or not at all, readers that go away, and what can't be written.
+//! Outputs: files that appear whole or not at all, readers that close the pipe, and what can't be written.
 
 mod support;
 
@@ -81,7 +81,7 @@ fn outputs_that_cannot_be_written() {
 }
 
 #[test]
-fn an_output_cut_short_leaves_nothing_behind() {
+fn an_output_cut_short_leaves_the_old_file() {
     let folder = Folder::new();
     folder.write("out", b"kept");
     let line = format!("trap '' XFSZ; ulimit -f 8; exec $ZS dump '{CONTACTS}' -o out");
@@ -96,8 +96,8 @@ fn an_output_cut_short_leaves_nothing_behind() {
 }
 
 #[test]
-fn a_reader_that_goes_away_is_no_fault() {
-    // Far more than a pipe holds, so the command is still writing when its reader goes.
+fn a_reader_that_closes_the_pipe_is_no_fault() {
+    // Far more than a pipe holds, so the command is still writing when the pipe is closed.
     let terminator = "x".repeat(1000);
     let mut child = Command::new(ZS)
         .args(["dump", CONTACTS, "--terminator", &terminator])
@@ -115,7 +115,7 @@ fn a_reader_that_goes_away_is_no_fault() {
 }
 
 #[test]
-fn signs_of_life_on_a_terminal_only() {
+fn progress_on_a_terminal_only() {
     let folder = Folder::new();
     let long = vec![b'a'; 1 << 18];
     let group: &[&[u8]] = &[&long];

@@ -4,7 +4,7 @@ mod support;
 
 use std::fs::{self, File};
 
-use support::{damaged, zs, Folder, CONTACTS, SMALL};
+use support::{damaged_sample, zs, Folder, CONTACTS, SMALL};
 use zs_reference::corpus::Corpus;
 use zs_reference::maker::{Image, Plan};
 use zs_reference::reader;
@@ -12,7 +12,7 @@ use zs_reference::reader;
 #[test]
 fn a_flipped_bit_is_refused_with_its_place() {
     let folder = Folder::new();
-    let (bytes, place) = damaged();
+    let (bytes, place) = damaged_sample();
     let file = folder.write("damaged.zs", &bytes);
     let line = format!(
         "{file}: refused 14 at {place}: this block's checksum is wrong: its bytes were changed\n"
@@ -25,7 +25,8 @@ fn a_flipped_bit_is_refused_with_its_place() {
     for command in ["dump", "info", "explain"] {
         let run = zs(&[command, &file]);
         assert_eq!((run.status, run.out.len()), (1, 0));
-        assert_eq!(run.err, format!("zs: {line}"));
+        let advice = "zs: what to do: get an undamaged copy of the file\n";
+        assert_eq!(run.err, format!("zs: {line}{advice}"));
     }
 }
 
@@ -186,9 +187,9 @@ fn more_matches_than_allowed() {
 }
 
 #[test]
-fn a_refusal_leaves_nothing_behind() {
+fn a_refusal_writes_nothing() {
     let folder = Folder::new();
-    let file = folder.write("damaged.zs", &damaged().0);
+    let file = folder.write("damaged.zs", &damaged_sample().0);
     let out = folder.name("out");
     for way in ["--count", "--scan"] {
         assert_eq!(zs(&["dump", &file, way, "-o", &out]).status, 1);

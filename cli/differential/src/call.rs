@@ -84,8 +84,9 @@ fn query_text(query: &Query) -> String {
 }
 
 fn hex(bytes: &[u8]) -> String {
-    match bytes.is_empty() {
-        true => "empty".to_string(),
-        false => bytes.iter().map(|byte| format!("{byte:02x}")).collect(),
+    if bytes.is_empty() {
+        "empty".to_string()
+    } else {
+        bytes.iter().map(|byte| format!("{byte:02x}")).collect()
     }
 }

@@ -11,24 +11,24 @@ const AMPLE: usize = 400;
 /// A call, and how its room compares with what it needs.
 pub type Asked = (Call, Room);
 
-/// All calls on a file, with queries near the given strings.
-pub fn calls(random: &mut Random, file: &[u8], strings: &[Vec<u8>]) -> Vec<Asked> {
+/// Draws all calls on a file, with queries near the given strings.
+pub fn draw_calls(random: &mut Random, file: &[u8], strings: &[Vec<u8>]) -> Vec<Asked> {
     let mut calls = Vec::new();
-    let accepted = checks(random, file, &mut calls);
+    let accepted = add_checks(random, file, &mut calls);
     let mut queries = vec![Query::default()];
     for _ in 0..if accepted { 4 } else { 1 } {
         queries.push(query(random, strings));
     }
     for query in &queries {
-        searches(random, file, query, &mut calls);
-        reads(random, file, query, &mut calls);
+        add_searches(random, file, query, &mut calls);
+        add_reads(random, file, query, &mut calls);
     }
-    records(random, file, &mut calls);
+    add_records(random, file, &mut calls);
     calls
 }
 
-/// Checks with more places than needed, just enough, one short, and any number. Says whether the file is accepted.
-fn checks(random: &mut Random, file: &[u8], calls: &mut Vec<Asked>) -> bool {
+/// Adds checks with more places than needed, just enough, one short, and any number. Says whether the file is accepted.
+fn add_checks(random: &mut Random, file: &[u8], calls: &mut Vec<Asked>) -> bool {
     let answer = check(file, AMPLE);
     let mut ask = |work, room| calls.push((Call::Check { work }, room));
     if answer.number == 0 {
@@ -43,8 +43,8 @@ fn checks(random: &mut Random, file: &[u8], calls: &mut Vec<Asked>) -> bool {
     answer.number == 0
 }
 
-/// Searches, the same way with both lists. A refused one gets lists that end before, at and behind the fault.
-fn searches(random: &mut Random, file: &[u8], query: &Query, calls: &mut Vec<Asked>) {
+/// Adds searches, the same way with both lists. A refused one gets lists that end before, at and after the fault.
+fn add_searches(random: &mut Random, file: &[u8], query: &Query, calls: &mut Vec<Asked>) {
     let answer = search(file, query, AMPLE, AMPLE);
     let mut ask = |opened, results, room| {
         let query = query.clone();
@@ -65,8 +65,8 @@ fn searches(random: &mut Random, file: &[u8], query: &Query, calls: &mut Vec<Ask
             ask(opened + random.below(3), results - 1, Room::ResultsShort);
         }
     } else {
-        let opened = least(|places| search(file, query, places, AMPLE).number != 26);
-        let results = least(|places| search(file, query, AMPLE, places).number != 27);
+        let opened = least_places(|places| search(file, query, places, AMPLE).number != 26);
+        let results = least_places(|places| search(file, query, AMPLE, places).number != 27);
         ask(AMPLE, AMPLE, Room::Any);
         ask(opened, results, Room::Any);
         if opened > 0 {
@@ -79,20 +79,21 @@ fn searches(random: &mut Random, file: &[u8], query: &Query, calls: &mut Vec<Ask
 }
 
 /// The least number of places that is enough, `AMPLE` where none is.
-fn least(enough: impl Fn(usize) -> bool) -> usize {
+fn least_places(enough: impl Fn(usize) -> bool) -> usize {
     let (mut low, mut high) = (0, AMPLE);
     while low < high {
         let middle = (low + high) / 2;
-        match enough(middle) {
-            true => high = middle,
-            false => low = middle + 1,
+        if enough(middle) {
+            high = middle;
+        } else {
+            low = middle + 1;
         }
     }
     low
 }
 
-/// Reads, the same way with the result list.
-fn reads(random: &mut Random, file: &[u8], query: &Query, calls: &mut Vec<Asked>) {
+/// Adds reads, the same way with the result list.
+fn add_reads(random: &mut Random, file: &[u8], query: &Query, calls: &mut Vec<Asked>) {
     let answer = read(file, query, AMPLE);
     let mut ask = |results, room| {
         let query = query.clone();
@@ -113,8 +114,8 @@ fn reads(random: &mut Random, file: &[u8], query: &Query, calls: &mut Vec<Asked>
     }
 }
 
-/// Parts of the file: a record that is found, parts about the end, and very far ones.
-fn records(random: &mut Random, file: &[u8], calls: &mut Vec<Asked>) {
+/// Adds parts of the file: a record that is found, parts about the end, and very far ones.
+fn add_records(random: &mut Random, file: &[u8], calls: &mut Vec<Asked>) {
     let end = file.len() as u64;
     let mut ask = |offset, length| calls.push((Call::Record { offset, length }, Room::Any));
     let answer = read(file, &Query::default(), AMPLE);

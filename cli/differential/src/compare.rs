@@ -6,10 +6,10 @@ use zs_library as library;
 use zs_reference::maker::random::Random;
 use zs_reference::reader::{self, Query};
 
-/// So many places of a list are told one by one.
-const MOST_TOLD: usize = 3;
+/// So many places of a list are printed one by one.
+const MOST_PRINTED: usize = 3;
 
-/// What a case came to.
+/// What a case gave.
 #[derive(Debug, Clone, Default)]
 pub struct Outcome {
     /// The refusal that is due, or 0; for a record 0 if it lies within the file and 1 if not.
@@ -30,33 +30,36 @@ impl Outcome {
     }
 
     /// Compares one number.
-    fn same(&mut self, what: &str, due: u64, given: u64) {
+    fn compare(&mut self, what: &str, due: u64, given: u64) {
         if due != given {
             let line = format!("{what}: due {due}, given {given}");
             self.differences.push(line);
         }
     }
 
-    /// Notes a fault that is no wrong number.
-    fn must(&mut self, holds: bool, otherwise: &str) {
+    /// Notes what doesn't hold.
+    fn require(&mut self, holds: bool, otherwise: &str) {
         if !holds {
             self.differences.push(otherwise.to_string());
         }
     }
 
-    /// Compares every place of a list, and its guards. The first places that differ are told.
-    fn same_list(&mut self, what: &str, due: &[u64], given: &Lent<u64>) {
-        self.same("places", due.len() as u64, given.part().len() as u64);
+    /// Compares every place of a list, and its guards. The first places that differ are printed.
+    fn compare_list(&mut self, what: &str, due: &[u64], given: &Lent<u64>) {
+        self.compare("places", due.len() as u64, given.part().len() as u64);
         let places = due.iter().zip(given.part()).enumerate();
         let unequal: Vec<_> = places.filter(|(_, (due, given))| due != given).collect();
-        for (place, (due, given)) in unequal.iter().take(MOST_TOLD) {
-            self.same(&format!("{what} list, place {place}"), **due, **given);
+        for (place, (due, given)) in unequal.iter().take(MOST_PRINTED) {
+            self.compare(&format!("{what} list, place {place}"), **due, **given);
         }
-        if unequal.len() > MOST_TOLD {
+        if unequal.len() > MOST_PRINTED {
             let line = format!("{what} list: {} places in all", unequal.len());
             self.differences.push(line);
         }
-        self.must(given.guarded(), &format!("{what} list: written outside"));
+        self.require(
+            given.guards_hold(),
+            &format!("{what} list: written outside"),
+        );
     }
 }
 
@@ -73,7 +76,7 @@ pub fn compare(random: &mut Random, file: &[u8], call: &Call) -> Outcome {
         } => search(random, lent.part(), query, *opened, *results),
         Call::Record { offset, length } => record(lent.part(), *offset, *length),
     };
-    outcome.must(lent.unchanged(), "the file was changed");
+    outcome.require(lent.is_unchanged(), "the file was changed");
     outcome
 }
 
@@ -82,11 +85,11 @@ fn check(random: &mut Random, file: &[u8], places: usize) -> Outcome {
     let mut work = Lent::list(random, places);
     let given = library::check(file, work.part_mut());
     let mut outcome = Outcome::of(due.number, 0);
-    outcome.same("number", due.number, given.number);
-    outcome.same("place", due.place, given.place);
-    outcome.same("blocks", due.blocks, given.blocks);
-    outcome.same("records", due.records, given.records);
-    outcome.same_list("work", &vec![0; places], &work);
+    outcome.compare("number", due.number, given.number);
+    outcome.compare("place", due.place, given.place);
+    outcome.compare("blocks", due.blocks, given.blocks);
+    outcome.compare("records", due.records, given.records);
+    outcome.compare_list("work", &vec![0; places], &work);
     outcome
 }
 
@@ -96,11 +99,11 @@ fn read(random: &mut Random, file: &[u8], query: &Query, places: usize) -> Outco
     let asked = LentQuery::new(random, query);
     let given = library::read(file, &asked.query(), results.part_mut());
     let mut outcome = Outcome::of(due.number, due.matches);
-    outcome.same("number", due.number, given.number);
-    outcome.same("place", due.place, given.place);
-    outcome.same("matches", due.matches, given.matches);
-    outcome.same_list("result", &due.results, &results);
-    outcome.must(asked.unchanged(), "the query was changed");
+    outcome.compare("number", due.number, given.number);
+    outcome.compare("place", due.place, given.place);
+    outcome.compare("matches", due.matches, given.matches);
+    outcome.compare_list("result", &due.results, &results);
+    outcome.require(asked.is_unchanged(), "the query was changed");
     outcome
 }
 
@@ -117,13 +120,13 @@ fn search(
     let asked = LentQuery::new(random, query);
     let given = library::search(file, &asked.query(), opened.part_mut(), results.part_mut());
     let mut outcome = Outcome::of(due.number, due.matches);
-    outcome.same("number", due.number, given.number);
-    outcome.same("place", due.place, given.place);
-    outcome.same("matches", due.matches, given.matches);
-    outcome.same("opened", due.opened, given.opened);
-    outcome.same_list("opened", &due.opened_list, &opened);
-    outcome.same_list("result", &due.results, &results);
-    outcome.must(asked.unchanged(), "the query was changed");
+    outcome.compare("number", due.number, given.number);
+    outcome.compare("place", due.place, given.place);
+    outcome.compare("matches", due.matches, given.matches);
+    outcome.compare("opened", due.opened, given.opened);
+    outcome.compare_list("opened", &due.opened_list, &opened);
+    outcome.compare_list("result", &due.results, &results);
+    outcome.require(asked.is_unchanged(), "the query was changed");
     outcome
 }
 
@@ -132,17 +135,17 @@ fn record(file: &[u8], offset: u64, length: u64) -> Outcome {
     let within = reader::within(file, offset, length);
     let given = library::record(file, offset, length);
     let mut outcome = Outcome::of(u64::from(!within), 0);
-    outcome.same("part's offset", due_offset, given.offset);
-    outcome.same("part's length", due_length, given.size);
+    outcome.compare("part's offset", due_offset, given.offset);
+    outcome.compare("part's length", due_length, given.length);
     let given = library::within(file, offset, length);
-    outcome.same("within", u64::from(within), u64::from(given));
+    outcome.compare("within", u64::from(within), u64::from(given));
     let due = file.get(due_offset as usize..(due_offset + due_length) as usize);
     let given = library::bytes(file, offset, length);
-    outcome.must(due == Some(given), "part: other bytes");
+    outcome.require(due == Some(given), "part: other bytes");
     outcome
 }
 
-/// A query with rubbish around its parts.
+/// A query with arbitrary bytes around its parts.
 struct LentQuery {
     start: Lent<u8>,
     stop: Option<Lent<u8>>,
@@ -166,8 +169,8 @@ impl LentQuery {
         }
     }
 
-    fn unchanged(&self) -> bool {
-        let stop = self.stop.as_ref().map_or(true, Lent::unchanged);
-        self.start.unchanged() && stop && self.prefix.unchanged()
+    fn is_unchanged(&self) -> bool {
+        let stop = self.stop.as_ref().map_or(true, Lent::is_unchanged);
+        self.start.is_unchanged() && stop && self.prefix.is_unchanged()
     }
 }

@@ -12,7 +12,7 @@ pub fn damage(random: &mut Random, file: &mut Vec<u8>) {
     if length == 0 {
         return;
     }
-    let here = place(random, length);
+    let here = draw_place(random, length);
     match random.below(10) {
         0 => file.truncate(here),
         1 => file.extend(random.string(12)),
@@ -26,11 +26,12 @@ pub fn damage(random: &mut Random, file: &mut Vec<u8>) {
     }
 }
 
-/// A position, behind the header two times out of three.
-fn place(random: &mut Random, length: usize) -> usize {
-    match random.once_in(3) || length <= 120 {
-        true => random.below(length),
-        false => 106 + random.below(length - 106),
+/// Draws a position, after the header two times out of three.
+fn draw_place(random: &mut Random, length: usize) -> usize {
+    if random.once_in(3) || length <= 120 {
+        random.below(length)
+    } else {
+        106 + random.below(length - 106)
     }
 }
 

@@ -1,9 +1,9 @@
 //! Drawings: a file and the calls on it, from a seed and a number.
 
-use crate::calls::{calls, Asked};
+use crate::calls::{draw_calls, Asked};
 use crate::damage::{damage, repair, Repair};
-use crate::faults::{faulty, NUMBERS};
-use crate::hostile::hostile;
+use crate::faults::{draw_faulty, NUMBERS};
+use crate::hostile::draw_hostile;
 use crate::queries::strings_of;
 use crate::shapes::shape;
 use zs_reference::maker::random::{bend, Random};
@@ -19,15 +19,15 @@ pub struct Drawing {
     pub accepted: Option<u8>,
     /// The calls.
     pub calls: Vec<Asked>,
-    /// Numbers for the rubbish around and in what is lent.
+    /// Gives the arbitrary bytes and numbers around and in what is lent.
     pub random: Random,
 }
 
-/// The drawing of this number. The same seed and number give the same one.
-pub fn drawing(seed: u64, number: u64) -> Drawing {
+/// Makes the drawing of this number. The same seed and number give the same one.
+pub fn draw(seed: u64, number: u64) -> Drawing {
     let mut random = Random::new(Random::new(seed ^ number.rotate_left(32)).next());
-    let (image, file) = image_and_file(&mut random, number);
-    let calls = calls(&mut random, &file, &strings_of(&image));
+    let (image, file) = draw_file(&mut random, number);
+    let calls = draw_calls(&mut random, &file, &strings_of(&image));
     Drawing {
         accepted: root_level(&file),
         file,
@@ -36,14 +36,14 @@ pub fn drawing(seed: u64, number: u64) -> Drawing {
     }
 }
 
-/// By turns: sound files, files with one fault, bent ones, damaged ones, and hostile ones.
-fn image_and_file(random: &mut Random, number: u64) -> (Image, Vec<u8>) {
+/// Draws a file: by turns a sound one, one with a fault, a bent one, a damaged one, and a hostile one.
+fn draw_file(random: &mut Random, number: u64) -> (Image, Vec<u8>) {
     match number % 10 {
-        0..=1 => unchanged(shape(random).image()),
-        2..=6 => faulty(random, fault_of(number)),
-        7 => bent(random),
-        8 => damaged(random),
-        _ => unchanged(hostile(random)),
+        0..=1 => with_file(shape(random).image()),
+        2..=6 => draw_faulty(random, fault_of(number)),
+        7 => draw_bent(random),
+        8 => draw_damaged(random),
+        _ => with_file(draw_hostile(random)),
     }
 }
 
@@ -53,23 +53,24 @@ fn fault_of(number: u64) -> u64 {
     NUMBERS[(turn % NUMBERS.len() as u64) as usize]
 }
 
-fn unchanged(image: Image) -> (Image, Vec<u8>) {
+/// The image and the file that it gives.
+fn with_file(image: Image) -> (Image, Vec<u8>) {
     let file = image.bytes();
     (image, file)
 }
 
-/// One or two things changed; lengths, checksums and offsets follow.
-fn bent(random: &mut Random) -> (Image, Vec<u8>) {
+/// Draws a file and changes one or two things; lengths, checksums and offsets follow.
+fn draw_bent(random: &mut Random) -> (Image, Vec<u8>) {
     let mut image = shape(random).image();
     for _ in 0..1 + random.below(2) {
         bend(random, &mut image);
     }
-    unchanged(image)
+    with_file(image)
 }
 
-/// Bytes changed, and most times checksums repaired behind that.
-fn damaged(random: &mut Random) -> (Image, Vec<u8>) {
-    let (image, mut file) = unchanged(shape(random).image());
+/// Draws a file, changes bytes, and most times then repairs checksums.
+fn draw_damaged(random: &mut Random) -> (Image, Vec<u8>) {
+    let (image, mut file) = with_file(shape(random).image());
     for _ in 0..1 + random.below(3) {
         damage(random, &mut file);
     }

@@ -3,12 +3,12 @@
 use zs_reference::maker::random::Random;
 use zs_reference::maker::{Image, Plan, Target};
 
-/// Such a file.
-pub fn hostile(random: &mut Random) -> Image {
+/// Draws such a file.
+pub fn draw_hostile(random: &mut Random) -> Image {
     match random.below(3) {
         0 => many_ways(random),
-        1 => hidden(random),
-        _ => shared(random),
+        1 => hidden_blocks(random),
+        _ => shared_blocks(random),
     }
 }
 
@@ -26,12 +26,13 @@ fn many_ways(random: &mut Random) -> Image {
 }
 
 /// Whole blocks inside a record or a reserved block, named by entries.
-fn hidden(random: &mut Random) -> Image {
+fn hidden_blocks(random: &mut Random) -> Image {
     let inner = Image::new(vec![Plan::data(&["m", "n"])]).bytes();
     let block = &inner[106..];
-    let outer = match random.once_in(2) {
-        true => Plan::data(&[block]),
-        false => Plan::bytes(64 + random.below(192) as u8, block),
+    let outer = if random.once_in(2) {
+        Plan::data(&[block])
+    } else {
+        Plan::bytes(64 + random.below(192) as u8, block)
     };
     let shift = random.pick(&[1, 2, 3, 3]);
     let target = Target::Exactly(106 + shift, block.len() as u64);
@@ -43,7 +44,7 @@ fn hidden(random: &mut Random) -> Image {
 }
 
 /// Blocks of two levels that any entry may name, in any order.
-fn shared(random: &mut Random) -> Image {
+fn shared_blocks(random: &mut Random) -> Image {
     let data = 2 + random.below(4);
     let mut blocks: Vec<Plan> = (0..data)
         .map(|_| {

@@ -13,7 +13,7 @@ pub struct Lent<T> {
 }
 
 impl Lent<u64> {
-    /// A list of so many places, full of rubbish. No place is 0.
+    /// A list of so many places with arbitrary numbers, none of them 0.
     pub fn list(random: &mut Random, places: usize) -> Self {
         let all = (0..places + 2 * GUARDS)
             .map(|_| random.next() | 1)
@@ -23,7 +23,7 @@ impl Lent<u64> {
 }
 
 impl Lent<u8> {
-    /// A byte string, with rubbish around it.
+    /// A byte string, with arbitrary bytes around it.
     pub fn bytes(random: &mut Random, bytes: &[u8]) -> Self {
         let mut all = random.next().to_le_bytes()[..GUARDS].to_vec();
         all.extend(bytes);
@@ -50,13 +50,13 @@ impl<T: Clone + PartialEq> Lent<T> {
     }
 
     /// Whether the guards are as they were.
-    pub fn guarded(&self) -> bool {
+    pub fn guards_hold(&self) -> bool {
         let end = self.all.len() - GUARDS;
         self.all[..GUARDS] == self.kept[..GUARDS] && self.all[end..] == self.kept[end..]
     }
 
     /// Whether everything is as it was.
-    pub fn unchanged(&self) -> bool {
+    pub fn is_unchanged(&self) -> bool {
         self.all == self.kept
     }
 }

@@ -1,6 +1,6 @@
 //! Queries biased to the bounds of a file.
 
-use crate::strings::near;
+use crate::strings::vary;
 use zs_reference::maker::random::Random;
 use zs_reference::maker::{Content, Image};
 use zs_reference::reader::Query;
@@ -26,7 +26,7 @@ pub fn query(random: &mut Random, strings: &[Vec<u8>]) -> Query {
         1 => query.prefix = part(random, strings),
         2 => query.start = part(random, strings),
         3 => query.stop = Some(part(random, strings)),
-        4 => query = around(random, strings),
+        4 => query = narrow_range(random, strings),
         5 | 6 => query = range(random, strings),
         7 => {
             query.start = part(random, strings);
@@ -50,13 +50,13 @@ fn part(random: &mut Random, strings: &[Vec<u8>]) -> Vec<u8> {
         0 => Vec::new(),
         1 => random.string(3),
         _ => {
-            let string = some(random, strings);
-            near(random, &string)
+            let string = some_string(random, strings);
+            vary(random, &string)
         }
     }
 }
 
-fn some(random: &mut Random, strings: &[Vec<u8>]) -> Vec<u8> {
+fn some_string(random: &mut Random, strings: &[Vec<u8>]) -> Vec<u8> {
     strings
         .get(random.below(strings.len()))
         .cloned()
@@ -65,22 +65,24 @@ fn some(random: &mut Random, strings: &[Vec<u8>]) -> Vec<u8> {
 
 /// A beginning of one of the strings, short more often than not.
 fn beginning(random: &mut Random, strings: &[Vec<u8>]) -> Vec<u8> {
-    let mut string = some(random, strings);
-    let length = match random.once_in(2) {
-        true => random.below(3),
-        false => random.below(string.len() + 1),
+    let mut string = some_string(random, strings);
+    let length = if random.once_in(2) {
+        random.below(3)
+    } else {
+        random.below(string.len() + 1)
     };
     string.truncate(length);
     string
 }
 
-/// Two parts, the lower one as start; once in a while the other way round.
+/// Two parts, the lower one as start; sometimes the other way round.
 fn range(random: &mut Random, strings: &[Vec<u8>]) -> Query {
     let (one, other) = (part(random, strings), part(random, strings));
     let turned = random.once_in(12);
-    let (start, stop) = match (one <= other) != turned {
-        true => (one, other),
-        false => (other, one),
+    let (start, stop) = if (one <= other) != turned {
+        (one, other)
+    } else {
+        (other, one)
     };
     Query {
         start,
@@ -89,18 +91,20 @@ fn range(random: &mut Random, strings: &[Vec<u8>]) -> Query {
     }
 }
 
-/// One string alone: from itself, or just below, to just behind it.
-fn around(random: &mut Random, strings: &[Vec<u8>]) -> Query {
-    let string = some(random, strings);
+/// One string alone: from itself, or one just below, up to the least string above it.
+fn narrow_range(random: &mut Random, strings: &[Vec<u8>]) -> Query {
+    let string = some_string(random, strings);
     let mut stop = string.clone();
     stop.push(0x00);
-    let start = match random.once_in(2) {
-        true => string.clone(),
-        false => string[..string.len().saturating_sub(1)].to_vec(),
+    let start = if random.once_in(2) {
+        string.clone()
+    } else {
+        string[..string.len().saturating_sub(1)].to_vec()
     };
-    let prefix = match random.once_in(3) {
-        true => string,
-        false => Vec::new(),
+    let prefix = if random.once_in(3) {
+        string
+    } else {
+        Vec::new()
     };
     Query {
         start,

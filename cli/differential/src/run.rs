@@ -6,16 +6,16 @@ use std::path::PathBuf;
 
 use crate::call::Call;
 use crate::compare::{compare, Outcome};
-use crate::drawing::drawing;
+use crate::drawing::draw;
 use crate::tally::Tally;
 
 /// No more cases than this are saved in one run; more of them say little.
 const MOST_SAVED: u64 = 200;
 
-/// A run under way.
+/// A run and its counts so far.
 #[derive(Debug)]
 pub struct Run {
-    /// Where every drawing begins.
+    /// What every drawing is drawn from.
     pub seed: u64,
     /// Counts so far.
     pub tally: Tally,
@@ -24,7 +24,7 @@ pub struct Run {
 }
 
 impl Run {
-    /// A run that hasn't begun.
+    /// A run without drawings yet.
     pub fn new(seed: u64, folder: PathBuf) -> Self {
         Run {
             seed,
@@ -39,7 +39,7 @@ impl Run {
     /// Says why a case can't be saved.
     pub fn step(&mut self) -> io::Result<()> {
         let number = self.tally.files;
-        let mut drawing = drawing(self.seed, number);
+        let mut drawing = draw(self.seed, number);
         self.tally.files += 1;
         for (at, (call, room)) in drawing.calls.iter().enumerate() {
             let outcome = compare(&mut drawing.random, &drawing.file, call);

@@ -9,24 +9,24 @@ pub fn shape(random: &mut Random) -> Tree {
     let kind = Kind::draw(random);
     let mut tree = Tree::new::<Vec<u8>>(&[]);
     match random.below(14) {
-        0 => chain(random, &kind, &mut tree),
-        1 => wide(random, &kind, &mut tree),
-        _ => usual(random, &kind, &mut tree),
+        0 => fill_chain(random, &kind, &mut tree),
+        1 => fill_wide(random, &kind, &mut tree),
+        _ => fill_usual(random, &kind, &mut tree),
     }
     if random.once_in(2) {
         tree.ragged = Some(random.next());
     }
     tree.keys = keys(random);
     tree.placing = placing(random);
-    reserved(random, &mut tree);
+    add_reserved(random, &mut tree);
     tree.metadata = metadata(random);
     let longest = random.pick(&[0, 0, 4, 40]);
     tree.extra = random.string(longest);
     tree
 }
 
-/// A few data blocks under one to four levels.
-fn usual(random: &mut Random, kind: &Kind, tree: &mut Tree) {
+/// Fills a tree with a few data blocks under one to four levels.
+fn fill_usual(random: &mut Random, kind: &Kind, tree: &mut Tree) {
     let most = if kind.is_long() { 4 } else { 9 };
     tree.groups = groups(random, kind, most, 4);
     tree.fan_out = (0..1 + random.below(3))
@@ -35,21 +35,23 @@ fn usual(random: &mut Random, kind: &Kind, tree: &mut Tree) {
     tree.root_level = 1 + random.below(4) as u8;
 }
 
-/// One to three data blocks under many levels, most of them of one entry.
-fn chain(random: &mut Random, kind: &Kind, tree: &mut Tree) {
+/// Fills a tree with one to three data blocks under many levels, most of them of one entry.
+fn fill_chain(random: &mut Random, kind: &Kind, tree: &mut Tree) {
     tree.groups = groups(random, kind, 3, 2);
-    tree.root_level = match random.once_in(3) {
-        true => 63,
-        false => 5 + random.below(58) as u8,
+    tree.root_level = if random.once_in(3) {
+        63
+    } else {
+        5 + random.below(58) as u8
     };
-    tree.fan_out = match kind.is_long() {
-        true => vec![3],
-        false => vec![1; random.below(usize::from(tree.root_level))],
+    tree.fan_out = if kind.is_long() {
+        vec![3]
+    } else {
+        vec![1; random.below(usize::from(tree.root_level))]
     };
 }
 
-/// Many data blocks.
-fn wide(random: &mut Random, kind: &Kind, tree: &mut Tree) {
+/// Fills a tree with many data blocks.
+fn fill_wide(random: &mut Random, kind: &Kind, tree: &mut Tree) {
     let most = if kind.is_long() { 6 } else { 24 };
     tree.groups = groups(random, kind, most, 3);
     tree.fan_out = vec![2 + random.below(5)];
@@ -88,16 +90,16 @@ fn placing(random: &mut Random) -> Placing {
     random.pick(&[
         Placing::After,
         Placing::Before,
-        Placing::BehindChildren,
-        Placing::AheadOfChildren,
-        Placing::BehindFirst,
+        Placing::AfterChildren,
+        Placing::BeforeChildren,
+        Placing::AfterFirst,
         Placing::Scattered(seed),
         Placing::Scattered(seed),
     ])
 }
 
-/// Reserved blocks anywhere, with any payload.
-fn reserved(random: &mut Random, tree: &mut Tree) {
+/// Adds reserved blocks anywhere, with any payload.
+fn add_reserved(random: &mut Random, tree: &mut Tree) {
     if random.once_in(2) {
         return;
     }

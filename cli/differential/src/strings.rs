@@ -44,17 +44,18 @@ impl Kind {
         let mut string = self.stem.clone();
         for _ in 0..random.below(self.longest + 1) {
             let any = random.next() as u8;
-            string.push(match self.letters.is_empty() {
-                true => any,
-                false => random.pick(&self.letters),
+            string.push(if self.letters.is_empty() {
+                any
+            } else {
+                random.pick(&self.letters)
             });
         }
         string
     }
 }
 
-/// A string near the given one: itself, a beginning, a little longer, or its last byte one more or less.
-pub fn near(random: &mut Random, string: &[u8]) -> Vec<u8> {
+/// Gives a string near the given one: itself, a beginning, a little longer, or its last byte one more or less.
+pub fn vary(random: &mut Random, string: &[u8]) -> Vec<u8> {
     let mut near = string.to_vec();
     match random.below(9) {
         0 => near.truncate(random.below(string.len() + 1)),

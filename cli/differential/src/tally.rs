@@ -4,24 +4,22 @@ use std::fmt;
 
 use crate::call::{Call, Room};
 use crate::compare::Outcome;
+use zs_library::refusals;
 
-/// Refusal numbers go up to 27.
-const NUMBERS: usize = 28;
+/// No refusal, and all refusals.
+const NUMBERS: usize = refusals::GREATEST as usize + 1;
+/// The refusal that no drawn file gets: it takes more than 2^30 bytes.
+const TOO_LONG: u64 = 1;
 /// The least count of each number that a call can give.
 const LEAST: u64 = 100;
 /// The least count of searches in accepted files with two or more levels below the root.
 const LEAST_DEEP: u64 = 5000;
 
-/// The refusals that each call can give, 0 for none of them, and 1 left out: it takes a file above 2^30 bytes.
-const CHECK: &[usize] = &[
-    0, 2, 3, 4, 5, 6, 7, 8, 9, 10, 11, 12, 13, 14, 15, 16, 17, 18, 19, 20, 21, 22, 23, 24, 25,
-];
-const READ: &[usize] = &[
-    0, 2, 3, 4, 5, 6, 7, 8, 9, 10, 11, 12, 13, 14, 15, 16, 21, 27,
-];
-const SEARCH: &[usize] = &[
-    0, 2, 3, 4, 5, 6, 7, 8, 9, 10, 11, 12, 13, 14, 15, 16, 17, 19, 21, 26, 27,
-];
+/// The numbers that a call must give: 0, for no refusal, and its refusals.
+fn due_numbers(call: refusals::Call) -> impl Iterator<Item = usize> {
+    let refusals = refusals::numbers(call).filter(|number| *number != TOO_LONG);
+    std::iter::once(0).chain(refusals.map(|number| number as usize))
+}
 
 /// Counts of one call.
 #[derive(Debug, Clone, Default)]
@@ -101,19 +99,19 @@ impl Tally {
     /// Numbers that a call can give and didn't give often enough.
     fn rare_numbers(&self) -> Vec<String> {
         let mut rare = Vec::new();
-        for (call, column, numbers) in [
-            ("check", &self.check, CHECK),
-            ("read", &self.read, READ),
-            ("search", &self.search, SEARCH),
+        for (name, column, call) in [
+            ("check", &self.check, refusals::Call::Check),
+            ("read", &self.read, refusals::Call::Read),
+            ("search", &self.search, refusals::Call::Search),
         ] {
-            let few = numbers.iter().filter(|n| column.numbers[**n] < LEAST);
-            rare.extend(few.map(|n| format!("{call} {n}: {} times", column.numbers[*n])));
+            let few = due_numbers(call).filter(|n| column.numbers[*n] < LEAST);
+            rare.extend(few.map(|n| format!("{name} {n}: {} times", column.numbers[n])));
         }
         rare
     }
 
     /// What the run falls short of.
-    pub fn missing(&self) -> Vec<String> {
+    pub fn shortfalls(&self) -> Vec<String> {
         let mut missing = self.rare_numbers();
         for (enough, what) in [
             (self.records.iter().all(|n| *n >= LEAST), "records"),

@@ -3,9 +3,10 @@
 use std::collections::BTreeSet;
 
 use zs_differential::damage::{repair, Repair};
-use zs_differential::drawing::drawing;
-use zs_differential::faults::{faulty, NUMBERS};
+use zs_differential::drawing::draw;
+use zs_differential::faults::{draw_faulty, NUMBERS};
 use zs_differential::shapes::shape;
+use zs_library::refusals::{numbers, Call};
 use zs_reference::maker::random::Random;
 use zs_reference::maker::{Content, Entry, Image, Target};
 use zs_reference::reader::check;
@@ -40,13 +41,13 @@ fn note_blocks(image: &Image, seen: &mut Seen) {
     let first = levels.iter().position(|level| *level == 0).unwrap_or(0);
     let last = levels.iter().rposition(|level| *level == 0).unwrap_or(0);
     let is_index = |level: &u8| (1..64).contains(level);
-    note(seen, levels[..first].iter().any(is_index), "index ahead");
+    note(seen, levels[..first].iter().any(is_index), "index before");
     note(
         seen,
         levels[first..last].iter().any(is_index),
         "index between",
     );
-    note(seen, levels[last..].iter().any(is_index), "index behind");
+    note(seen, levels[last..].iter().any(is_index), "index after");
     note(
         seen,
         levels[first..last].iter().any(|l| *l >= 64),
@@ -106,11 +107,18 @@ fn note_records(image: &Image, seen: &mut Seen) {
 }
 
 #[test]
+fn every_refusal_of_a_file_has_its_fault() {
+    // 1 takes a file above 2^30 bytes, 18 a short work list.
+    let due = numbers(Call::Check).filter(|number| ![1, 18].contains(number));
+    assert_eq!(due.collect::<Vec<_>>(), NUMBERS);
+}
+
+#[test]
 fn every_fault_can_be_made() {
     let mut random = Random::new(2);
     for number in NUMBERS {
         for _ in 0..20 {
-            let (_, file) = faulty(&mut random, number);
+            let (_, file) = draw_faulty(&mut random, number);
             assert_eq!(check(&file, AMPLE).number, number);
         }
     }
@@ -135,8 +143,8 @@ fn repairing_a_sound_file_changes_nothing() {
 #[test]
 fn a_seed_and_a_number_give_one_drawing() {
     for number in 0..200 {
-        let (one, other) = (drawing(4, number), drawing(4, number));
+        let (one, other) = (draw(4, number), draw(4, number));
         assert_eq!((one.file, one.calls), (other.file, other.calls));
-        assert!(drawing(5, number).calls.len() > 4);
+        assert!(draw(5, number).calls.len() > 4);
     }
 }

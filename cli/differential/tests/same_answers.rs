@@ -6,7 +6,7 @@ use std::path::Path;
 use zs_differential::run::Run;
 
 const SEED: u64 = 20_261_115;
-/// Files drawn; each is good for some ten calls.
+/// Files drawn; each gets some twenty calls.
 const FILES: u64 = 6000;
 const LEAST_CASES: u64 = 20_000;
 
@@ -20,5 +20,5 @@ fn the_same_answers() {
     println!("\nseed {SEED}\n{}", run.tally);
     assert_eq!(run.tally.differing, 0, "cases that differ");
     assert!(run.tally.cases() >= LEAST_CASES);
-    assert_eq!(run.tally.missing(), Vec::<String>::new(), "too few");
+    assert_eq!(run.tally.shortfalls(), Vec::<String>::new(), "too few");
 }

@@ -1,6 +1,13 @@
-//! Safe calls of the proved library. This is the only file with unsafe code: each call hands over slices as pointer and length, and
-//! the contracts of the functions behind them hold for every slice, so nothing is asked of the caller.
+//! Safe calls of the proved library, and [`map`], which is unsafe.
+//!
+//! Each call hands over slices as pointer and length, and the contracts of the functions that are called hold for every slice, so
+//! nothing is asked of the caller. Only [`map`] asks for a promise: that nobody changes the file. Beside this file, unsafe code stands
+//! where the command calls [`map`] (`cli/command/src/input.rs`), in the test of long files, and in the benchmark
+//! (`bench/src/foreign.rs`).
 #![warn(missing_docs)]
+#![deny(unsafe_op_in_unsafe_fn)]
+
+pub mod refusals;
 
 use std::fs::File;
 use std::io;
@@ -65,7 +72,7 @@ pub struct Part {
     /// The offset of its first byte.
     pub offset: u64,
     /// Its length.
-    pub size: u64,
+    pub length: u64,
 }
 
 // As include/zs.h has them. The structs above are C's: 64-bit numbers in this order.
@@ -99,8 +106,8 @@ extern "C" {
         results: *mut u64,
         results_len: usize,
     ) -> Found;
-    fn zs_record(file: *const u8, file_len: usize, offset: u64, size: u64) -> Part;
-    fn zs_within(file: *const u8, file_len: usize, offset: u64, size: u64) -> bool;
+    fn zs_record(file: *const u8, file_len: usize, offset: u64, length: u64) -> Part;
+    fn zs_within(file: *const u8, file_len: usize, offset: u64, length: u64) -> bool;
 }
 
 /// Checks the file. `work` needs a place for each ordinary block and is all zeros afterwards.
@@ -155,30 +162,37 @@ pub fn search(file: &[u8], query: &Query, opened: &mut [u64], results: &mut [u64
     }
 }
 
-/// Where the part lies; offset and size 0 where it isn't within the file.
-pub fn record(file: &[u8], offset: u64, size: u64) -> Part {
+/// Where the part lies; offset and length 0 where it isn't within the file.
+pub fn record(file: &[u8], offset: u64, length: u64) -> Part {
     // SAFETY: the pointer comes with the length of the slice it is taken from.
-    unsafe { zs_record(file.as_ptr(), file.len(), offset, size) }
+    unsafe { zs_record(file.as_ptr(), file.len(), offset, length) }
 }
 
 /// That very part of the file; its empty part at 0 where the part isn't within the file.
-pub fn bytes(file: &[u8], offset: u64, size: u64) -> &[u8] {
-    let part = record(file, offset, size);
-    let (start, length) = (part.offset as usize, part.size as usize);
-    file.get(start..)
-        .and_then(|behind| behind.get(..length))
+pub fn bytes(file: &[u8], offset: u64, length: u64) -> &[u8] {
+    let part = record(file, offset, length);
+    let from_start = file.get(part.offset as usize..);
+    from_start
+        .and_then(|rest| rest.get(..part.length as usize))
         .unwrap_or(&[])
 }
 
 /// Whether the part lies within the file.
-pub fn within(file: &[u8], offset: u64, size: u64) -> bool {
-    // SAFETY: as above.
-    unsafe { zs_within(file.as_ptr(), file.len(), offset, size) }
+pub fn within(file: &[u8], offset: u64, length: u64) -> bool {
+    // SAFETY: the pointer comes with the length of the slice it is taken from.
+    unsafe { zs_within(file.as_ptr(), file.len(), offset, length) }
 }
 
-/// Maps a whole file. Whoever calls this assumes that nobody changes or cuts the file while the mapping lives: the library's promises
-/// are about bytes that stay as they are, and a look behind the end of a file that was cut meanwhile ends the process.
-pub fn map(file: &File) -> io::Result<Mapping> {
-    // SAFETY: the mapping is private, read only and as long as the file; that the bytes stay as they are is the assumption above.
+/// Maps a whole file.
+///
+/// # Errors
+/// Those of the operating system, if it can't map the file.
+///
+/// # Safety
+/// While the mapping lives, nobody may change or cut the file, in this process or in another. The mapping is shared, so a change of the
+/// file is a change of the slice, and the library's promises are about bytes that stay as they are; a read past the end of a file that
+/// was cut ends the process.
+pub unsafe fn map(file: &File) -> io::Result<Mapping> {
+    // SAFETY: the mapping is read only and as long as the file; that its bytes stay as they are is the caller's promise.
     unsafe { Mapping::map(file) }
 }

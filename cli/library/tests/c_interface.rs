@@ -11,7 +11,7 @@ fn library() -> PathBuf {
 }
 
 /// Compiles the program that calls every function.
-fn compiled(to: &Path) {
+fn compile(to: &Path) {
     let status = Command::new("cc")
         .args(["-std=c99", "-Wall", "-Wextra", "-Werror", "-pedantic"])
         .arg("-I")
@@ -30,8 +30,8 @@ fn a_c_program_gets_the_answers_of_the_two_block_example() {
     let folder = std::env::temp_dir().join(format!("zs-c-{}", std::process::id()));
     std::fs::create_dir_all(&folder).expect("a temporary folder");
     let program = folder.join("interface");
-    compiled(&program);
-    let example = Path::new(HERE).join("../../crates/archives/data/two-blocks");
+    compile(&program);
+    let example = Path::new(HERE).join("../../crates/test_archives/data/two-blocks");
     let output = Command::new(&program).arg(example).output().expect("a run");
     std::fs::remove_dir_all(&folder).expect("the temporary folder");
     let due = "check 0 0 3 4\nwork 0 0 0 0\n\

@@ -14,8 +14,8 @@ fn number_of_sparse(name: &str, length: u64) -> u64 {
         .open(&path)
         .expect("a temporary file");
     file.set_len(length).expect("room for a sparse file");
-    // The file was made by this test, and nobody changes it while it is mapped.
-    let map = map(&file).expect("a mapping");
+    // SAFETY: this test has just made the file, under a name with the number of this process; nobody changes it while it is mapped.
+    let map = unsafe { map(&file) }.expect("a mapping");
     let all = Query {
         start: &[],
         stop: None,

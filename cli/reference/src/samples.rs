@@ -1,4 +1,4 @@
-//! The sample archives: contacts that nobody has, with numbers that nobody is given (555-01xx).
+//! The sample archives: invented contacts, with telephone numbers that are reserved for fiction (555-01xx).
 //!
 //! They are drawn from a fixed seed, so `samples/` in the repository can be made again byte for byte.
 
@@ -66,20 +66,20 @@ pub fn all() -> Vec<Sample> {
 fn contacts() -> Vec<u8> {
     let mut random = Random::new(1955);
     let mut records: Vec<Vec<u8>> = (0..1400).map(|_| contact(&mut random)).collect();
-    records.extend((0..60).map(unlisted));
+    records.extend((0..60).map(unlisted_contact));
     records.extend(vec![REPEATED.as_bytes().to_vec(); TIMES_REPEATED]);
     let about =
-        br#"{"about": "contacts that nobody has", "record": "name TAB number", "text": "Latin-1"}"#;
+        br#"{"about": "invented sample contacts", "record": "name TAB number", "text": "Latin-1"}"#;
     tree(records, 12, 6, about).bytes()
 }
 
-/// A handful of contacts, small enough for every bit to be flipped.
+/// A few contacts, few enough for every bit to be flipped.
 fn small() -> Vec<u8> {
     let mut random = Random::new(12);
     let mut records: Vec<Vec<u8>> = (0..9).map(|_| contact(&mut random)).collect();
-    records.extend((0..2).map(unlisted));
+    records.extend((0..2).map(unlisted_contact));
     records.extend(vec![REPEATED.as_bytes().to_vec(); 3]);
-    let mut tree = tree(records, 2, 3, br#"{"about": "contacts that nobody has"}"#);
+    let mut tree = tree(records, 2, 3, br#"{"about": "invented sample contacts"}"#);
     tree.reserved = vec![(3, 64, b"reserved, to be passed over".to_vec())];
     tree.bytes()
 }
@@ -91,7 +91,7 @@ fn tree(mut records: Vec<Vec<u8>>, to_a_block: usize, fan_out: usize, metadata: 
     tree.groups = records.chunks(to_a_block).map(<[_]>::to_vec).collect();
     tree.fan_out = vec![fan_out];
     tree.keys = Keys::Separator;
-    tree.placing = Placing::BehindChildren;
+    tree.placing = Placing::AfterChildren;
     tree.metadata = metadata.to_vec();
     tree
 }
@@ -103,8 +103,8 @@ fn contact(random: &mut Random) -> Vec<u8> {
     record
 }
 
-/// A contact whose name begins with bytes FF, behind all letters.
-fn unlisted(number: usize) -> Vec<u8> {
+/// A contact whose name begins with bytes FF, which are above all letters.
+fn unlisted_contact(number: usize) -> Vec<u8> {
     let mut record = vec![0xff; 1 + number % 3];
     record.extend(format!("unlisted {number:02}\t555-01{number:02}").bytes());
     record

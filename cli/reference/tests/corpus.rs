@@ -59,7 +59,7 @@ fn each_refusal_has_two_files() {
 #[test]
 fn limits_hold() {
     let corpus = Corpus::whole();
-    assert_eq!(corpus.beyond_limits(), None);
+    assert_eq!(corpus.broken_limit(), None);
     let names: BTreeSet<&str> = corpus.files.iter().map(|file| file.name.as_str()).collect();
     assert_eq!(names.len(), corpus.files.len());
     let asked: BTreeSet<&str> = corpus.cases.iter().map(|case| case.name.as_str()).collect();
@@ -92,8 +92,8 @@ fn calls_can_be_chosen() {
     }
 }
 
-/// Reads a case back as the brief of the format has it.
-fn decoded(bytes: &mut &[u8]) -> Case {
+/// Reads a case back as README.md describes it.
+fn decode(bytes: &mut &[u8]) -> Case {
     let name = String::from_utf8(take_short(bytes)).expect("a name");
     let number = take(bytes, 1)[0];
     let call = ALL_CALLS[usize::from(number) - 1];
@@ -132,7 +132,7 @@ fn cases_read_back() {
     let stored = corpus.encoded_cases();
     let mut rest = &stored[..];
     for case in &corpus.cases {
-        assert_eq!(decoded(&mut rest), *case);
+        assert_eq!(decode(&mut rest), *case);
     }
     assert!(rest.is_empty());
 }

@@ -63,7 +63,7 @@ fn compare_with_records(tree: &Tree, file: &[u8], query: &Query, found: &Found) 
 
 /// Opened exactly by the rule, and at most two in vain on each level below the root.
 fn compare_opened(file: &[u8], query: &Query, found: &Found) {
-    let apart = support::apart(file);
+    let apart = support::take_apart(file);
     let seen = Seen::of(&apart).expect("a sound file");
     let must = seen.must_open(query);
     let starts: Vec<u64> = must.iter().map(|block| block.start).collect();
@@ -122,7 +122,7 @@ fn compare_number(number: u64, faults: &BTreeSet<u64>) {
     let first = faults.iter().next().copied().unwrap_or(0);
     let block_stage = |fault: &u64| (10..=16).contains(fault) || *fault == 21;
     match (first, faults.iter().any(block_stage)) {
-        // Among header refusals and among those behind the block stage the lowest decides.
+        // Among header refusals and among those after the block stage the lowest decides.
         (0..=9, _) | (_, false) => assert_eq!(number, first, "{faults:?}"),
         // Which block comes first isn't told by the set.
         (_, true) => assert!(faults.contains(&number) && block_stage(&number)),
@@ -164,7 +164,7 @@ fn compare_local(random: &mut Random, file: &[u8], query: &Query, found: &Found)
     if found.number != 0 {
         return;
     }
-    let apart = support::apart(file);
+    let apart = support::take_apart(file);
     let blocks = match &apart.blocks {
         Some(blocks) => blocks,
         None => return,

@@ -1,4 +1,4 @@
-//! The opening test against all byte strings of a small world.
+//! The opening test against all short byte strings over a small alphabet.
 
 use zs_reference::maker::random::Random;
 use zs_reference::reader::{may_hold_match, Query};

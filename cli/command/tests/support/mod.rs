@@ -1,4 +1,4 @@
-//! Runs the command, and keeps its files in a folder that goes away.
+//! Runs the command, and keeps its files in a folder that is removed afterwards.
 #![allow(dead_code)]
 
 use std::ffi::OsStr;
@@ -11,7 +11,7 @@ pub const ZS: &str = env!("CARGO_BIN_EXE_zs");
 pub const CONTACTS: &str = concat!(env!("CARGO_MANIFEST_DIR"), "/../../samples/contacts.zs");
 pub const SMALL: &str = concat!(env!("CARGO_MANIFEST_DIR"), "/../../samples/small.zs");
 
-/// What a run came to.
+/// What a run gave.
 #[derive(Debug)]
 pub struct Run {
     pub status: i32,
@@ -49,7 +49,7 @@ pub fn shell(line: &str, folder: &Folder) -> Run {
     Run::of(command.output().expect("a shell runs"))
 }
 
-/// A folder that goes away with what is in it.
+/// A folder that is removed with what is in it.
 pub struct Folder(PathBuf);
 
 impl Folder {
@@ -95,7 +95,7 @@ impl Drop for Folder {
 }
 
 /// The sample with one bit flipped in its first data block, and the place of that block.
-pub fn damaged() -> (Vec<u8>, usize) {
+pub fn damaged_sample() -> (Vec<u8>, usize) {
     let mut file = fs::read(CONTACTS).expect("the sample");
     let header = u64::from_le_bytes(file[8..16].try_into().expect("eight bytes"));
     let place = 24 + header as usize;

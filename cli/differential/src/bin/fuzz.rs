@@ -12,7 +12,7 @@ use zs_differential::run::Run;
 
 /// Where cases that differ are saved.
 const FOLDER: &str = "differences";
-/// Between two signs of life.
+/// Between two lines of progress.
 const PAUSE: Duration = Duration::from_secs(10);
 
 /// What the command line asks for.
@@ -54,16 +54,16 @@ fn main() -> ExitCode {
     let seed = asked.seed.unwrap_or_else(fresh_seed);
     println!("seed {seed}");
     let mut run = Run::new(seed, PathBuf::from(FOLDER));
-    let mut said = Instant::now();
+    let mut printed = Instant::now();
     while run.tally.cases() < asked.cases {
         if let Err(error) = run.step() {
             eprintln!("fuzz: {FOLDER}: {error}");
             return ExitCode::from(2);
         }
-        if said.elapsed() >= PAUSE {
+        if printed.elapsed() >= PAUSE {
             let (cases, differing) = (run.tally.cases(), run.tally.differing);
             println!("seed {seed}: {cases} cases, {differing} differ");
-            said = Instant::now();
+            printed = Instant::now();
         }
     }
     println!("seed {seed}\n{}", run.tally);

@@ -2,13 +2,14 @@
 
 use super::{is_ordinary, some_block};
 use zs_reference::maker::random::Random;
-use zs_reference::maker::{encoded, Content, Image, Plan, Target};
+use zs_reference::maker::{encode, Content, Image, Plan, Target};
 
 /// Damages the frame of a block, most times of an ordinary one.
 pub fn damage(random: &mut Random, number: u64, image: &mut Image) {
-    let wanted = match random.once_in(8) {
-        true => |_: &Content| true,
-        false => is_ordinary,
+    let wanted = if random.once_in(8) {
+        |_: &Content| true
+    } else {
+        is_ordinary
     };
     let block = match some_block(random, image, wanted) {
         Some(block) => block,
@@ -16,19 +17,19 @@ pub fn damage(random: &mut Random, number: u64, image: &mut Image) {
     };
     let plan = &mut image.blocks[block];
     match number {
-        10 => past_end(random, image, block),
-        11 => plan.number = Some(too_wide(random)),
+        10 => run_past_end(random, image, block),
+        11 => plan.number = Some(wide_number(random)),
         12 => {
             let value = some_value(random);
-            plan.number = Some(not_shortest(random, value));
+            plan.number = Some(long_number(random, value));
         }
-        13 => no_length(random, plan),
-        _ => wrong_crc(random, plan),
+        13 => clear_length(random, plan),
+        _ => spoil_crc(random, plan),
     }
 }
 
 /// 10: a number that runs past the file's end, or is cut off by it.
-fn past_end(random: &mut Random, image: &mut Image, block: usize) {
+fn run_past_end(random: &mut Random, image: &mut Image, block: usize) {
     let last = image.blocks.len() - 1;
     match random.below(5) {
         0 => {
@@ -36,32 +37,32 @@ fn past_end(random: &mut Random, image: &mut Image, block: usize) {
             let right = image.blocks[block].payload(&image.places()).len() as u64 + 1;
             let high = right + random.pick(&[1 << 16, 1 << 32, 1 << 62]);
             let far = [high, high, (1 << 63) - 1, (1 << 63) - 9];
-            image.blocks[block].number = Some(encoded(random.pick(&far)));
+            image.blocks[block].number = Some(encode(random.pick(&far)));
         }
         1 => {
             // One to nine bytes more than the last block has.
             let size = image.blocks[last].payload(&image.places()).len() + 2;
-            image.blocks[last].number = Some(encoded((size + random.below(9)) as u64));
+            image.blocks[last].number = Some(encode((size + random.below(9)) as u64));
         }
         2 => {
             let rest = image.bytes().len();
-            image.blocks[block].number = Some(encoded((rest + random.below(20)) as u64));
+            image.blocks[block].number = Some(encode((rest + random.below(20)) as u64));
         }
         3 => image.tail = vec![0x80 + random.below(128) as u8; 1 + random.below(8)],
         _ => {
-            image.tail = encoded(1 + random.below(200) as u64);
+            image.tail = encode(1 + random.below(200) as u64);
             image.tail.extend(random.string(8));
         }
     }
-    // A search comes to the end of the file only if it is told to.
+    // A search reads the end of the file only if the header names it.
     if !image.tail.is_empty() && random.once_in(2) {
         let end = image.bytes().len() - image.tail.len();
         image.root = Target::Exactly(end as u64, 20);
     }
 }
 
-/// 13: L is 0, with or without bytes behind it.
-fn no_length(random: &mut Random, plan: &mut Plan) {
+/// 13: L is 0, with or without bytes after it.
+fn clear_length(random: &mut Random, plan: &mut Plan) {
     plan.number = Some(vec![0]);
     if random.once_in(2) {
         plan.level = None;
@@ -70,7 +71,7 @@ fn no_length(random: &mut Random, plan: &mut Plan) {
 }
 
 /// 14: flipped bits of the CRC, or a number L that is a little off.
-fn wrong_crc(random: &mut Random, plan: &mut Plan) {
+fn spoil_crc(random: &mut Random, plan: &mut Plan) {
     plan.crc_flips = match random.below(3) {
         0 => 1 << random.below(64),
         1 => u64::MAX,
@@ -78,8 +79,8 @@ fn wrong_crc(random: &mut Random, plan: &mut Plan) {
     };
 }
 
-/// Nine bytes from 80 hex up, and perhaps more behind them.
-pub fn too_wide(random: &mut Random) -> Vec<u8> {
+/// Nine bytes from 80 hex up, and perhaps more after them.
+pub fn wide_number(random: &mut Random) -> Vec<u8> {
     let mut number: Vec<u8> = (0..9).map(|_| 0x80 | random.next() as u8).collect();
     if random.once_in(3) {
         number = vec![random.pick(&[0x80, 0xff]); 9];
@@ -93,8 +94,8 @@ pub fn too_wide(random: &mut Random) -> Vec<u8> {
 }
 
 /// A number with up to eight bytes, the last of them 00.
-pub fn not_shortest(random: &mut Random, value: u64) -> Vec<u8> {
-    let mut number = encoded(value);
+pub fn long_number(random: &mut Random, value: u64) -> Vec<u8> {
+    let mut number = encode(value);
     if let Some(last) = number.last_mut() {
         *last |= 0x80;
     }

@@ -8,20 +8,20 @@ const HIGH_BITS: [u64; 4] = [1 << 16, 1 << 31, 1 << 32, 1 << 63];
 
 const UNFINISHED: [u8; 8] = *b"\xabZStoBe\x01";
 
-/// The file with a fault in its header.
-pub fn damaged(random: &mut Random, number: u64, mut image: Image) -> Vec<u8> {
+/// Gives the file with a fault in its header.
+pub fn damage(random: &mut Random, number: u64, mut image: Image) -> Vec<u8> {
     match number {
         2 => image.magic = UNFINISHED,
-        3 => return no_magic(random, &mut image),
-        4 => return too_short(random, &mut image),
-        5 => return wrong_crc(random, &mut image),
-        6 => wrong_length(random, &mut image),
-        7 => codec(random, &mut image),
-        8 => return wrong_total(random, &mut image),
-        _ => metadata(random, &mut image),
+        3 => return spoil_magic(random, &mut image),
+        4 => return cut_header(random, &mut image),
+        5 => return spoil_crc(random, &mut image),
+        6 => spoil_lengths(random, &mut image),
+        7 => change_codec(random, &mut image),
+        8 => return spoil_total(random, &mut image),
+        _ => spoil_metadata(random, &mut image),
     }
     let mut file = image.bytes();
-    // An unfinished file may be anything behind its magic.
+    // After its magic an unfinished file may be anything.
     if number == 2 && random.once_in(2) {
         file.truncate(8 + random.below(file.len()));
     }
@@ -29,7 +29,7 @@ pub fn damaged(random: &mut Random, number: u64, mut image: Image) -> Vec<u8> {
 }
 
 /// 3: other first bytes, or fewer than eight.
-fn no_magic(random: &mut Random, image: &mut Image) -> Vec<u8> {
+fn spoil_magic(random: &mut Random, image: &mut Image) -> Vec<u8> {
     match random.below(4) {
         0 => image.magic = random.next().to_le_bytes(),
         1 => image.magic = *b"\xabZSxxxx\x01",
@@ -47,7 +47,7 @@ fn no_magic(random: &mut Random, image: &mut Image) -> Vec<u8> {
 }
 
 /// 4: fewer than 16 bytes, or a header that runs past the end.
-fn too_short(random: &mut Random, image: &mut Image) -> Vec<u8> {
+fn cut_header(random: &mut Random, image: &mut Image) -> Vec<u8> {
     let length = image.bytes().len();
     let header = image.blocks_at() as usize;
     match random.below(4) {
@@ -72,7 +72,7 @@ fn too_short(random: &mut Random, image: &mut Image) -> Vec<u8> {
 }
 
 /// 5: a wrong CRC, or a changed byte under a CRC that stays.
-fn wrong_crc(random: &mut Random, image: &mut Image) -> Vec<u8> {
+fn spoil_crc(random: &mut Random, image: &mut Image) -> Vec<u8> {
     match random.below(3) {
         0 => image.header_crc_flips = 1 << random.below(64),
         1 => image.header_crc_flips = random.next(),
@@ -87,7 +87,7 @@ fn wrong_crc(random: &mut Random, image: &mut Image) -> Vec<u8> {
 }
 
 /// 6: H below 80, or M above H-80.
-fn wrong_length(random: &mut Random, image: &mut Image) {
+fn spoil_lengths(random: &mut Random, image: &mut Image) {
     let room = (image.metadata.len() + image.extra.len()) as u64;
     match random.below(4) {
         0 => image.header_cut = Some(random.pick(&[0, 1, 71, 72, 79])),
@@ -102,7 +102,7 @@ fn wrong_length(random: &mut Random, image: &mut Image) {
 }
 
 /// 7: another codec.
-fn codec(random: &mut Random, image: &mut Image) {
+fn change_codec(random: &mut Random, image: &mut Image) {
     match random.below(3) {
         0 => image.codec = *b"deflate\0\0\0\0\0\0\0\0\0",
         1 => image.codec = *b"none            ",
@@ -110,8 +110,8 @@ fn codec(random: &mut Random, image: &mut Image) {
     }
 }
 
-/// 8: another total length, or other bytes behind it than it says.
-fn wrong_total(random: &mut Random, image: &mut Image) -> Vec<u8> {
+/// 8: another total length, or more or fewer bytes than it says.
+fn spoil_total(random: &mut Random, image: &mut Image) -> Vec<u8> {
     let mut file = image.bytes();
     let length = file.len() as u64;
     match random.below(5) {
@@ -131,8 +131,8 @@ fn wrong_total(random: &mut Random, image: &mut Image) -> Vec<u8> {
     image.bytes()
 }
 
-/// 9: metadata that isn't in braces. Bytes behind it don't count.
-fn metadata(random: &mut Random, image: &mut Image) {
+/// 9: metadata that isn't in braces. Bytes after it don't count.
+fn spoil_metadata(random: &mut Random, image: &mut Image) {
     let choices: [&[u8]; 8] = [b"", b"{", b"}", b"}{", b"{} ", b" {}", b"[]", b"{\"a\": 1]"];
     match random.below(3) {
         0 => image.metadata_length = Some(random.below(image.metadata.len()) as u64),

@@ -1,10 +1,10 @@
 //! Faults of a payload: 11, 12, 15, and 16 and 21.
 
-use super::framing::{not_shortest, too_wide};
+use super::framing::{long_number, wide_number};
 use super::{is_ordinary, some_block, some_entries, some_records};
-use crate::strings::near;
+use crate::strings::vary;
 use zs_reference::maker::random::Random;
-use zs_reference::maker::{encoded, Content, Image, Place, Plan};
+use zs_reference::maker::{encode, Content, Image, Place, Plan};
 
 /// A piece of a payload.
 enum Piece {
@@ -38,12 +38,12 @@ fn pieces(plan: &Plan, places: &[Place]) -> Vec<Piece> {
 }
 
 /// Writes the pieces, one number among them as `wrong` says.
-fn joined(pieces: &[Piece], fault: usize, mut wrong: impl FnMut(u64) -> Vec<u8>) -> Vec<u8> {
+fn join(pieces: &[Piece], fault: usize, mut wrong: impl FnMut(u64) -> Vec<u8>) -> Vec<u8> {
     let mut out = Vec::new();
     for (at, piece) in pieces.iter().enumerate() {
         match piece {
             Piece::Number(value) if at == fault => out.extend(wrong(*value)),
-            Piece::Number(value) => out.extend(encoded(*value)),
+            Piece::Number(value) => out.extend(encode(*value)),
             Piece::Bytes(bytes) => out.extend(bytes),
         }
     }
@@ -53,8 +53,8 @@ fn joined(pieces: &[Piece], fault: usize, mut wrong: impl FnMut(u64) -> Vec<u8>)
 /// 11 and 12: one number of a payload in a wrong form.
 pub fn damage_number(random: &mut Random, number: u64, image: &mut Image) {
     change_number(random, image, |random, value| match number {
-        11 => too_wide(random),
-        _ => not_shortest(random, value),
+        11 => wide_number(random),
+        _ => long_number(random, value),
     });
 }
 
@@ -69,17 +69,17 @@ fn change_number(
         let plan = &mut image.blocks[block];
         let pieces = pieces(plan, &places);
         let fault = random.below(pieces.len());
-        let payload = joined(&pieces, fault, |value| wrong(random, value));
+        let payload = join(&pieces, fault, |value| wrong(random, value));
         plan.content = Content::Bytes(payload);
     }
 }
 
-/// 15: an empty payload, one cut short, one with something behind it, or a length too great.
+/// 15: an empty payload, one cut short, one with something after it, or a length too great.
 pub fn cut(random: &mut Random, image: &mut Image) {
     let places = image.places();
     if random.once_in(3) {
         let more = random.pick(&[1, 2, 4, 1 << 8, 1 << 16, 1 << 32, 1 << 62]);
-        return change_number(random, image, |_, value| encoded(value + more));
+        return change_number(random, image, |_, value| encode(value + more));
     }
     if let Some(block) = some_block(random, image, is_ordinary) {
         let plan = &mut image.blocks[block];
@@ -99,8 +99,8 @@ pub fn disorder_records(random: &mut Random, image: &mut Image) {
     if let Some(records) = some_records(random, image) {
         let (one, other) = (random.below(records.len()), random.below(records.len()));
         match random.below(3) {
-            0 => records.insert(0, near(random, &records[one].clone())),
-            1 => records.push(near(random, &records[one].clone())),
+            0 => records.insert(0, vary(random, &records[one].clone())),
+            1 => records.push(vary(random, &records[one].clone())),
             _ => records.swap(one, other),
         }
     }
@@ -112,10 +112,10 @@ pub fn disorder_keys(random: &mut Random, image: &mut Image) {
         let (one, other) = (random.below(entries.len()), random.below(entries.len()));
         match random.below(3) {
             0 => entries.swap(one, other),
-            1 => entries[one].key = near(random, &entries[other].key.clone()),
+            1 => entries[one].key = vary(random, &entries[other].key.clone()),
             _ => {
                 let mut entry = entries[other].clone();
-                entry.key = near(random, &entry.key);
+                entry.key = vary(random, &entry.key);
                 entries.push(entry);
             }
         }

@@ -15,7 +15,7 @@ const USAGE: &str = "usage: make-archives DIR [read] [check] [search] [record]";
 
 fn main() -> ExitCode {
     let arguments: Vec<String> = std::env::args().skip(1).collect();
-    let (folder, calls) = match parsed(&arguments) {
+    let (folder, calls) = match parse(&arguments) {
         Some(parsed) => parsed,
         None => {
             eprintln!("{USAGE}");
@@ -34,21 +34,22 @@ fn main() -> ExitCode {
     }
 }
 
-/// The folder and the calls asked for.
-fn parsed(arguments: &[String]) -> Option<(&str, Vec<Call>)> {
+/// Gives the folder and the calls asked for.
+fn parse(arguments: &[String]) -> Option<(&str, Vec<Call>)> {
     let (folder, words) = arguments.split_first()?;
     let call = |word: &String| ALL_CALLS.into_iter().find(|call| call.word() == word);
     let calls: Vec<Call> = words.iter().map(call).collect::<Option<_>>()?;
-    match calls.is_empty() {
-        true => Some((folder, ALL_CALLS.to_vec())),
-        false => Some((folder, calls)),
+    if calls.is_empty() {
+        Some((folder, ALL_CALLS.to_vec()))
+    } else {
+        Some((folder, calls))
     }
 }
 
 /// Writes everything and says how much it was.
 fn write(folder: &Path, calls: &[Call]) -> Result<String, Box<dyn Error>> {
     let corpus = Corpus::whole().with_calls(calls);
-    if let Some(complaint) = corpus.beyond_limits() {
+    if let Some(complaint) = corpus.broken_limit() {
         return Err(complaint.into());
     }
     let data = folder.join("data");
@@ -59,7 +60,7 @@ fn write(folder: &Path, calls: &[Call]) -> Result<String, Box<dyn Error>> {
     let cases = corpus.encoded_cases();
     fs::write(data.join("cases"), &cases)?;
     fs::write(folder.join("stdout"), corpus.lines())?;
-    warn_of_strangers(&data, &corpus)?;
+    warn_of_other_files(&data, &corpus)?;
     let bytes: usize = corpus.files.iter().map(|file| file.bytes.len()).sum();
     Ok(format!(
         "{} files ({bytes} bytes), {} cases ({} bytes)",
@@ -69,8 +70,8 @@ fn write(folder: &Path, calls: &[Call]) -> Result<String, Box<dyn Error>> {
     ))
 }
 
-/// Files left over from another run are named, and left alone.
-fn warn_of_strangers(data: &Path, corpus: &Corpus) -> Result<(), Box<dyn Error>> {
+/// Warns of files that another run left; they stay.
+fn warn_of_other_files(data: &Path, corpus: &Corpus) -> Result<(), Box<dyn Error>> {
     for entry in fs::read_dir(data)? {
         let name = entry?.file_name().to_string_lossy().into_owned();
         let known = name == "cases" || corpus.files.iter().any(|file| file.name == name);

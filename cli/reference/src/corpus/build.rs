@@ -49,8 +49,8 @@ pub fn two_levels() -> Tree {
     tree
 }
 
-/// The image of a tree with one thing changed.
-pub fn changed(tree: &Tree, change: impl FnOnce(&mut Image)) -> Image {
+/// Gives the image of a tree with one thing changed.
+pub fn alter(tree: &Tree, change: impl FnOnce(&mut Image)) -> Image {
     let mut image = tree.image();
     change(&mut image);
     image
@@ -58,27 +58,27 @@ pub fn changed(tree: &Tree, change: impl FnOnce(&mut Image)) -> Image {
 
 impl Corpus {
     /// Adds a file without cases.
-    pub fn file(&mut self, name: &str, bytes: Vec<u8>, claim: Claim) {
+    pub fn add_file(&mut self, name: &str, bytes: Vec<u8>, claim: Claim) {
         let name = name.to_string();
         self.files.push(File { name, bytes, claim });
     }
 
     /// Adds an accepted file with its usual cases.
-    pub fn sound(&mut self, name: &str, bytes: Vec<u8>) {
-        self.file(name, bytes, Claim::Sound);
-        self.usual_cases(name);
+    pub fn add_sound(&mut self, name: &str, bytes: Vec<u8>) {
+        self.add_file(name, bytes, Claim::Sound);
+        self.ask_usual(name);
     }
 
     /// Adds a file with one fault and its usual cases.
-    pub fn refused(&mut self, name: &str, bytes: Vec<u8>, number: u64, place: u64) {
-        self.file(name, bytes, Claim::Only(number, place));
-        self.usual_cases(name);
+    pub fn add_refused(&mut self, name: &str, bytes: Vec<u8>, number: u64, place: u64) {
+        self.add_file(name, bytes, Claim::Only(number, place));
+        self.ask_usual(name);
     }
 
     /// Adds a file with several faults and its usual cases. The claim is of the first one.
-    pub fn refused_first(&mut self, name: &str, bytes: Vec<u8>, number: u64, place: u64) {
-        self.file(name, bytes, Claim::First(number, place));
-        self.usual_cases(name);
+    pub fn add_refused_first(&mut self, name: &str, bytes: Vec<u8>, number: u64, place: u64) {
+        self.add_file(name, bytes, Claim::First(number, place));
+        self.ask_usual(name);
     }
 
     /// The bytes of a file added before.
@@ -88,7 +88,7 @@ impl Corpus {
     }
 
     /// Asks for everything by all calls but record, and checks.
-    pub fn usual_cases(&mut self, name: &str) {
+    pub fn ask_usual(&mut self, name: &str) {
         self.ask(name, &everything());
         let file = self.bytes_of(name);
         let checked = check(&file, usize::from(MOST_PLACES));
@@ -109,7 +109,7 @@ impl Corpus {
     /// Reads with a query, with fitting room.
     pub fn ask_read(&mut self, name: &str, query: &Query) {
         let answer = read(&self.bytes_of(name), query, usize::from(MOST_PLACES));
-        let spare = self.spare();
+        let spare = self.spare_places();
         let places = match answer.number {
             0 => 2 * answer.matches + spare,
             _ => 4 + spare,
@@ -123,7 +123,7 @@ impl Corpus {
         let file = self.bytes_of(name);
         let answer = search(&file, query, most, most);
         let few = search(&file, query, FEW, FEW);
-        let spare = self.spare();
+        let spare = self.spare_places();
         let (opened, results) = match answer.number {
             0 => (answer.opened + spare, 2 * answer.matches + spare),
             number if few.number == number => (FEW as u64, FEW as u64 + spare),
@@ -133,20 +133,20 @@ impl Corpus {
     }
 
     /// Places beyond those needed: none, one or two, by turns.
-    fn spare(&self) -> u64 {
+    fn spare_places(&self) -> u64 {
         self.cases.len() as u64 % 3
     }
 
     /// Reads with so many result places.
     pub fn read(&mut self, name: &str, query: &Query, result_places: u64) {
-        let mut case = Case::new(name, Call::Read).asking(query);
+        let mut case = Case::new(name, Call::Read).with_query(query);
         case.result_places = places(result_places);
         self.cases.push(case);
     }
 
     /// Searches with so many opened and result places.
     pub fn search(&mut self, name: &str, query: &Query, opened_places: u64, result_places: u64) {
-        let mut case = Case::new(name, Call::Search).asking(query);
+        let mut case = Case::new(name, Call::Search).with_query(query);
         case.other_places = places(opened_places);
         case.result_places = places(result_places);
         self.cases.push(case);
@@ -168,7 +168,7 @@ impl Corpus {
     }
 
     /// Asks for the records that a query finds, some of them.
-    pub fn records(&mut self, name: &str, query: &Query, some: usize) {
+    pub fn ask_records(&mut self, name: &str, query: &Query, some: usize) {
         let answer = read(&self.bytes_of(name), query, usize::from(MOST_PLACES));
         let matches = answer.matches as usize;
         for pair in answer.results.chunks_exact(2).take(some.min(matches)) {

@@ -83,7 +83,7 @@ impl Case {
     }
 
     /// The same case under a query.
-    pub fn asking(mut self, query: &Query) -> Self {
+    pub fn with_query(mut self, query: &Query) -> Self {
         self.start = query.start.clone();
         self.stop_given = query.stop.is_some();
         self.stop = query.stop.clone().unwrap_or_default();
@@ -100,8 +100,8 @@ impl Case {
         }
     }
 
-    /// The case as `data/cases` stores it.
-    pub fn encoded(&self) -> Vec<u8> {
+    /// Gives the case as `data/cases` stores it.
+    pub fn encode(&self) -> Vec<u8> {
         let mut out = Vec::new();
         put_short(&mut out, self.name.as_bytes());
         out.push(self.call.number());
@@ -169,13 +169,14 @@ impl Case {
     }
 
     fn record_line(&self, file: &[u8]) -> String {
-        let inside = match within(file, self.offset, self.length) {
-            true => "yes",
-            false => "no",
+        let inside = if within(file, self.offset, self.length) {
+            "yes"
+        } else {
+            "no"
         };
         let (offset, length) = record(file, self.offset, self.length);
-        let behind = file.get(offset as usize..).unwrap_or(&[]);
-        let part = behind.get(..length as usize).unwrap_or(&[]);
+        let rest = file.get(offset as usize..).unwrap_or(&[]);
+        let part = rest.get(..length as usize).unwrap_or(&[]);
         format!(
             "{} {}: within {inside} part {offset} {length} bytes {}",
             self.offset,
@@ -202,15 +203,16 @@ fn put_short(out: &mut Vec<u8>, bytes: &[u8]) {
     out.extend(bytes);
 }
 
-/// The numbers of a list, each behind a space.
+/// The numbers of a list, each after a space.
 fn list(numbers: &[u64]) -> String {
     numbers.iter().map(|number| format!(" {number}")).collect()
 }
 
 /// Bytes in hex, `-` for none.
 fn hex(bytes: &[u8]) -> String {
-    match bytes.is_empty() {
-        true => "-".to_string(),
-        false => bytes.iter().map(|byte| format!("{byte:02x}")).collect(),
+    if bytes.is_empty() {
+        "-".to_string()
+    } else {
+        bytes.iter().map(|byte| format!("{byte:02x}")).collect()
     }
 }

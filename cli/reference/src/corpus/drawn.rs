@@ -6,29 +6,29 @@ use crate::maker::random::{bend, break_bytes, query, tree, Random};
 /// Adds the files.
 pub fn add(corpus: &mut Corpus) {
     for number in 0..10 {
-        sound(corpus, number);
+        add_sound(corpus, number);
     }
     for number in 0..40 {
-        bent(corpus, number);
+        add_bent(corpus, number);
     }
     for number in 0..10 {
-        broken(corpus, number);
+        add_broken(corpus, number);
     }
 }
 
 /// An accepted file with three queries.
-fn sound(corpus: &mut Corpus, number: u64) {
+fn add_sound(corpus: &mut Corpus, number: u64) {
     let name = format!("drawn-{number:02}");
     let mut random = Random::new(1000 + number);
-    corpus.sound(&name, tree(&mut random, 8).bytes());
+    corpus.add_sound(&name, tree(&mut random, 8).bytes());
     for _ in 0..3 {
         corpus.ask(&name, &query(&mut random));
     }
-    corpus.records(&name, &query(&mut random), 1);
+    corpus.ask_records(&name, &query(&mut random), 1);
 }
 
 /// A file with one or two things changed, all checksums right.
-fn bent(corpus: &mut Corpus, number: u64) {
+fn add_bent(corpus: &mut Corpus, number: u64) {
     let name = format!("bent-{number:02}");
     let mut random = Random::new(2000 + number);
     let mut image = tree(&mut random, 5).image();
@@ -36,17 +36,17 @@ fn bent(corpus: &mut Corpus, number: u64) {
     if random.once_in(3) {
         bend(&mut random, &mut image);
     }
-    corpus.file(&name, image.bytes(), Claim::Nothing);
-    corpus.usual_cases(&name);
+    corpus.add_file(&name, image.bytes(), Claim::Nothing);
+    corpus.ask_usual(&name);
     corpus.ask_search(&name, &query(&mut random));
 }
 
 /// A file with bytes changed and nothing mended.
-fn broken(corpus: &mut Corpus, number: u64) {
+fn add_broken(corpus: &mut Corpus, number: u64) {
     let name = format!("broken-{number:02}");
     let mut random = Random::new(3000 + number);
     let mut file = tree(&mut random, 4).bytes();
     break_bytes(&mut random, &mut file);
-    corpus.file(&name, file, Claim::Nothing);
-    corpus.usual_cases(&name);
+    corpus.add_file(&name, file, Claim::Nothing);
+    corpus.ask_usual(&name);
 }

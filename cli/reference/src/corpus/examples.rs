@@ -6,10 +6,10 @@ use crate::maker::{Image, Plan, Tree};
 
 /// Adds the paper's examples.
 pub fn add(corpus: &mut Corpus) {
-    smallest(corpus);
-    two_blocks(corpus);
-    later_named_first(corpus);
-    beginnings(corpus);
+    add_smallest(corpus);
+    add_two_blocks(corpus);
+    add_later_named_first(corpus);
+    add_beginnings(corpus);
 }
 
 /// One empty record at 106, the root at 117, 130 bytes in all.
@@ -26,9 +26,9 @@ pub fn two_block_image() -> Image {
     ])
 }
 
-fn smallest(corpus: &mut Corpus) {
+fn add_smallest(corpus: &mut Corpus) {
     let name = "smallest";
-    corpus.sound(name, smallest_file());
+    corpus.add_sound(name, smallest_file());
     for places in [0, 1, 3] {
         corpus.read(name, &everything(), places);
         corpus.check(name, places);
@@ -72,9 +72,9 @@ fn parts_around(length: u64) -> Vec<(u64, u64)> {
     ]
 }
 
-fn two_blocks(corpus: &mut Corpus) {
+fn add_two_blocks(corpus: &mut Corpus) {
     let name = "two-blocks";
-    corpus.sound(name, two_block_image().bytes());
+    corpus.add_sound(name, two_block_image().bytes());
     for work_places in [0, 2, 4] {
         corpus.check(name, work_places);
     }
@@ -89,8 +89,8 @@ fn two_blocks(corpus: &mut Corpus) {
     for query in two_block_queries() {
         corpus.ask(name, &query);
     }
-    ungiven_stop(corpus, name);
-    corpus.records(name, &everything(), 4);
+    add_ungiven_stop(corpus, name);
+    corpus.ask_records(name, &everything(), 4);
     for (offset, length) in [(0, 154), (109, 46), (154, 0), (154, 1)] {
         corpus.record(name, offset, length);
     }
@@ -121,7 +121,7 @@ fn two_block_queries() -> Vec<crate::reader::Query> {
 }
 
 /// Where no stop is given, its bytes mean nothing.
-fn ungiven_stop(corpus: &mut Corpus, name: &str) {
+fn add_ungiven_stop(corpus: &mut Corpus, name: &str) {
     corpus.read(name, &everything(), 8);
     corpus.search(name, &everything(), 3, 8);
     let added = corpus.cases.len();
@@ -131,27 +131,28 @@ fn ungiven_stop(corpus: &mut Corpus, name: &str) {
 }
 
 /// Both keys `78`, the later block named first: refusal 22 at the earlier block.
-fn later_named_first(corpus: &mut Corpus) {
+fn add_later_named_first(corpus: &mut Corpus) {
     let image = Image::new(vec![
         Plan::data(&["x", "x"]),
         Plan::data(&["x", "y"]),
         Plan::index(1, &[("x", 1), ("x", 0)]),
     ]);
     let name = "22-paper";
-    corpus.refused(name, image.bytes(), 22, image.start(0));
+    corpus.add_refused(name, image.bytes(), 22, image.start(0));
     corpus.ask(name, &prefix(b"y"));
     corpus.ask(name, &prefix(b"x"));
 }
 
 /// The first 0 to 24 bytes of a good file.
-fn beginnings(corpus: &mut Corpus) {
+fn add_beginnings(corpus: &mut Corpus) {
     let whole = two_block_image().bytes();
     for length in 0..=24 {
         let name = format!("first-{length:02}");
         let beginning = whole[..length].to_vec();
-        match length < 8 {
-            true => corpus.refused_first(&name, beginning, 3, 0),
-            false => corpus.refused(&name, beginning, 4, 0),
+        if length < 8 {
+            corpus.add_refused_first(&name, beginning, 3, 0);
+        } else {
+            corpus.add_refused(&name, beginning, 4, 0);
         }
     }
     for (offset, length) in [(0, 0), (0, 1), (1, 0)] {

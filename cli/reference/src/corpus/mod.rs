@@ -101,7 +101,7 @@ impl Corpus {
 
     /// The bytes of `data/cases`.
     pub fn encoded_cases(&self) -> Vec<u8> {
-        self.cases.iter().flat_map(Case::encoded).collect()
+        self.cases.iter().flat_map(Case::encode).collect()
     }
 
     /// The output due, one line for each case.
@@ -119,8 +119,8 @@ impl Corpus {
         out
     }
 
-    /// Says what is beyond the limits of the format of cases, if anything is.
-    pub fn beyond_limits(&self) -> Option<String> {
+    /// The first limit of the format of cases that is exceeded, in words.
+    pub fn broken_limit(&self) -> Option<String> {
         let long = self
             .files
             .iter()
@@ -128,7 +128,7 @@ impl Corpus {
         if let Some(file) = long {
             return Some(format!("{} is too long", file.name));
         }
-        if let Some(file) = self.files.iter().find(|file| !good_name(&file.name)) {
+        if let Some(file) = self.files.iter().find(|file| !is_good_name(&file.name)) {
             return Some(format!("{} is no good name", file.name));
         }
         let wide = |case: &&Case| case.result_places.max(case.other_places) > MOST_PLACES;
@@ -141,7 +141,7 @@ impl Corpus {
 }
 
 /// Whether a name may stand in a case.
-fn good_name(name: &str) -> bool {
+fn is_good_name(name: &str) -> bool {
     let good = |byte: u8| matches!(byte, b'a'..=b'z' | b'0'..=b'9' | b'_' | b'-');
     (1..=LONGEST_NAME).contains(&name.len()) && name != "cases" && name.bytes().all(good)
 }

@@ -1,22 +1,22 @@
 //! Files refused for the root, for the work list or for names: 17 to 20.
 
-use super::build::{changed, plain, prefix, stop, two_levels};
+use super::build::{alter, plain, prefix, stop, two_levels};
 use super::Corpus;
 use crate::maker::{Content, Entry, Image, Plan, Target};
 
 /// Adds the files.
 pub fn add(corpus: &mut Corpus) {
-    roots(corpus);
-    hidden_root(corpus);
-    work_lists(corpus);
-    entries_beside(corpus);
-    entries_of_wrong_level(corpus);
-    unnamed(corpus);
-    named_twice(corpus);
-    named_root(corpus);
+    add_roots(corpus);
+    add_hidden_root(corpus);
+    add_work_lists(corpus);
+    add_entries_beside(corpus);
+    add_entries_of_wrong_level(corpus);
+    add_unnamed(corpus);
+    add_named_twice(corpus);
+    add_named_root(corpus);
 }
 
-fn roots(corpus: &mut Corpus) {
+fn add_roots(corpus: &mut Corpus) {
     let end = plain().bytes().len() as u64;
     for (name, root) in [
         ("17-late", Target::Beside(3, 1, 0)),
@@ -33,24 +33,24 @@ fn roots(corpus: &mut Corpus) {
             Target::Exactly(plain().image().start(3), u64::MAX),
         ),
     ] {
-        let image = changed(&plain(), |image| image.root = root);
-        corpus.refused(name, image.bytes(), 17, 0);
+        let image = alter(&plain(), |image| image.root = root);
+        corpus.add_refused(name, image.bytes(), 17, 0);
     }
-    let image = changed(&plain(), |image| image.blocks.clear());
-    corpus.refused("17-no-blocks", image.bytes(), 17, 0);
+    let image = alter(&plain(), |image| image.blocks.clear());
+    corpus.add_refused("17-no-blocks", image.bytes(), 17, 0);
     corpus.search("17-no-blocks", &prefix(b"a"), 0, 2);
     let mut tree = plain();
     tree.reserved = vec![(9, 64, b"\0\x6a\x0e".to_vec())];
-    let image = changed(&tree, |image| image.root = Target::Block(4));
-    corpus.refused("17-reserved", image.bytes(), 17, 0);
-    let image = changed(&plain(), |image| {
+    let image = alter(&tree, |image| image.root = Target::Block(4));
+    corpus.add_refused("17-reserved", image.bytes(), 17, 0);
+    let image = alter(&plain(), |image| {
         image.blocks = vec![Plan::bytes(64, b""), Plan::bytes(255, b"x")];
     });
-    corpus.refused("17-none", image.bytes(), 17, 0);
+    corpus.add_refused("17-none", image.bytes(), 17, 0);
 }
 
 /// A whole index block inside a reserved one: the check must not take it, the search may.
-fn hidden_root(corpus: &mut Corpus) {
+fn add_hidden_root(corpus: &mut Corpus) {
     let mut tree = plain();
     let inner = tree.image();
     let places = inner.places();
@@ -59,18 +59,18 @@ fn hidden_root(corpus: &mut Corpus) {
     let outer = tree.image();
     // The inner block follows the reserved block's number and level byte.
     let at = outer.start(4) + 2;
-    let image = changed(&tree, |image| {
+    let image = alter(&tree, |image| {
         image.root = Target::Exactly(at, places[3].size);
     });
-    corpus.refused("17-hidden", image.bytes(), 17, 0);
+    corpus.add_refused("17-hidden", image.bytes(), 17, 0);
     corpus.ask("17-hidden", &prefix(b"b"));
 }
 
 /// 18: one place short, or none at all.
-fn work_lists(corpus: &mut Corpus) {
+fn add_work_lists(corpus: &mut Corpus) {
     let mut tree = two_levels();
     tree.reserved = vec![(2, 64, b"uncounted".to_vec())];
-    corpus.sound("seven-blocks", tree.bytes());
+    corpus.add_sound("seven-blocks", tree.bytes());
     for places in [0, 6, 8, 128] {
         corpus.check("seven-blocks", places);
     }
@@ -79,11 +79,11 @@ fn work_lists(corpus: &mut Corpus) {
 }
 
 /// An entry more, whose name fits no block. All blocks are still named once.
-fn with_more(corpus: &mut Corpus, name: &str, target: Target) {
-    let image = changed(&plain(), |image| {
+fn add_with_more(corpus: &mut Corpus, name: &str, target: Target) {
+    let image = alter(&plain(), |image| {
         push_entry(&mut image.blocks[3], b"e", target);
     });
-    corpus.refused(name, image.bytes(), 19, image.start(3));
+    corpus.add_refused(name, image.bytes(), 19, image.start(3));
 }
 
 fn push_entry(plan: &mut Plan, key: &[u8], target: Target) {
@@ -93,8 +93,8 @@ fn push_entry(plan: &mut Plan, key: &[u8], target: Target) {
     }
 }
 
-fn entries_beside(corpus: &mut Corpus) {
-    let end = changed(&plain(), |image| {
+fn add_entries_beside(corpus: &mut Corpus) {
+    let end = alter(&plain(), |image| {
         push_entry(&mut image.blocks[3], b"e", Target::Exactly(200, 15));
     });
     let end = end.bytes().len() as u64;
@@ -109,103 +109,103 @@ fn entries_beside(corpus: &mut Corpus) {
         ("19-2e63", Target::Exactly((1 << 63) - 1, 15)),
         ("19-size-2e63", Target::Exactly(106, (1 << 63) - 1)),
     ] {
-        with_more(corpus, name, target);
+        add_with_more(corpus, name, target);
         corpus.ask_search(name, &stop(b"c"));
     }
-    let image = changed(&plain(), |image| {
+    let image = alter(&plain(), |image| {
         if let Content::Entries(entries) = &mut image.blocks[3].content {
             entries[1].target = Target::Beside(1, 0, 1);
         }
     });
     let place = image.start(3);
-    corpus.refused_first("19-middle", image.bytes(), 19, place);
+    corpus.add_refused_first("19-middle", image.bytes(), 19, place);
 }
 
 /// Entries that name a true block of a wrong level; most of these are named twice then.
-fn entries_of_wrong_level(corpus: &mut Corpus) {
-    let image = changed(&plain(), |image| {
+fn add_entries_of_wrong_level(corpus: &mut Corpus) {
+    let image = alter(&plain(), |image| {
         push_entry(&mut image.blocks[3], b"e", Target::Block(3));
     });
     let place = image.start(3);
-    corpus.refused_first("19-itself", image.bytes(), 19, place);
+    corpus.add_refused_first("19-itself", image.bytes(), 19, place);
     corpus.ask_search("19-itself", &prefix(b"b"));
 
     let mut tree = plain();
     tree.reserved = vec![(1, 64, b"\x01e".to_vec())];
-    let image = changed(&tree, |image| {
+    let image = alter(&tree, |image| {
         push_entry(&mut image.blocks[4], b"e", Target::Block(1));
     });
-    corpus.refused("19-reserved", image.bytes(), 19, image.start(4));
+    corpus.add_refused("19-reserved", image.bytes(), 19, image.start(4));
 
-    let image = changed(&two_levels(), |image| {
+    let image = alter(&two_levels(), |image| {
         push_entry(&mut image.blocks[6], b"i", Target::Block(3));
     });
-    corpus.refused_first("19-skips", image.bytes(), 19, image.start(6));
+    corpus.add_refused_first("19-skips", image.bytes(), 19, image.start(6));
 
-    let image = changed(&two_levels(), |image| {
+    let image = alter(&two_levels(), |image| {
         push_entry(&mut image.blocks[4], b"d", Target::Block(5));
     });
-    corpus.refused_first("19-own-level", image.bytes(), 19, image.start(4));
+    corpus.add_refused_first("19-own-level", image.bytes(), 19, image.start(4));
 
-    let image = changed(&two_levels(), |image| {
+    let image = alter(&two_levels(), |image| {
         push_entry(&mut image.blocks[5], b"i", Target::Block(6));
     });
-    corpus.refused_first("19-upward", image.bytes(), 19, image.start(5));
+    corpus.add_refused_first("19-upward", image.bytes(), 19, image.start(5));
 }
 
 /// 20: blocks named by no entry.
-fn unnamed(corpus: &mut Corpus) {
+fn add_unnamed(corpus: &mut Corpus) {
     for (name, left_out) in [("20-first", 0), ("20-middle", 1), ("20-last", 2)] {
-        let image = changed(&plain(), |image| {
+        let image = alter(&plain(), |image| {
             if let Content::Entries(entries) = &mut image.blocks[3].content {
                 entries.remove(left_out);
             }
         });
-        corpus.refused(name, image.bytes(), 20, image.start(left_out));
+        corpus.add_refused(name, image.bytes(), 20, image.start(left_out));
     }
-    let image = changed(&two_levels(), |image| {
+    let image = alter(&two_levels(), |image| {
         if let Content::Entries(entries) = &mut image.blocks[6].content {
             entries.truncate(1);
         }
     });
-    corpus.refused("20-index", image.bytes(), 20, image.start(5));
+    corpus.add_refused("20-index", image.bytes(), 20, image.start(5));
     corpus.ask_search("20-index", &prefix(b"h"));
 }
 
 /// 20: blocks named by two entries, of one index block or of two.
-fn named_twice(corpus: &mut Corpus) {
-    let image = changed(&plain(), |image| {
+fn add_named_twice(corpus: &mut Corpus) {
+    let image = alter(&plain(), |image| {
         push_entry(&mut image.blocks[3], b"e", Target::Block(2));
     });
-    corpus.refused("20-twice", image.bytes(), 20, image.start(2));
+    corpus.add_refused("20-twice", image.bytes(), 20, image.start(2));
     corpus.ask("20-twice", &prefix(b"e"));
 
-    let image = changed(&two_levels(), |image| {
+    let image = alter(&two_levels(), |image| {
         push_entry(&mut image.blocks[4], b"d", Target::Block(2));
     });
-    corpus.refused("20-two-blocks", image.bytes(), 20, image.start(2));
+    corpus.add_refused("20-two-blocks", image.bytes(), 20, image.start(2));
 
-    let image = changed(&two_levels(), |image| {
+    let image = alter(&two_levels(), |image| {
         push_entry(&mut image.blocks[6], b"f", Target::Block(5));
     });
-    corpus.refused("20-index-twice", image.bytes(), 20, image.start(5));
+    corpus.add_refused("20-index-twice", image.bytes(), 20, image.start(5));
 
     // 256 and 257 times: a count that is kept in one byte comes out as 0 or 1.
     for (name, more) in [("20-256-times", 255), ("20-257-times", 256)] {
-        let image = changed(&plain(), |image| {
+        let image = alter(&plain(), |image| {
             for _ in 0..more {
                 push_entry(&mut image.blocks[3], b"d", Target::Block(2));
             }
         });
-        corpus.refused(name, image.bytes(), 20, image.start(2));
+        corpus.add_refused(name, image.bytes(), 20, image.start(2));
     }
 }
 
 /// 20: the root is named by a block above it, which is itself unnamed.
-fn named_root(corpus: &mut Corpus) {
+fn add_named_root(corpus: &mut Corpus) {
     let above = Plan::index(2, &[(b"ab", 3)]);
-    let image = changed(&plain(), |image| image.blocks.push(above));
-    corpus.refused("20-root-behind", image.bytes(), 20, image.start(3));
+    let image = alter(&plain(), |image| image.blocks.push(above));
+    corpus.add_refused("20-root-behind", image.bytes(), 20, image.start(3));
 
     let image = Image {
         root: Target::Block(4),
@@ -217,5 +217,5 @@ fn named_root(corpus: &mut Corpus) {
             Plan::index(1, &[("ab", 1), ("b", 2), ("d", 3)]),
         ])
     };
-    corpus.refused("20-root-ahead", image.bytes(), 20, image.start(0));
+    corpus.add_refused("20-root-ahead", image.bytes(), 20, image.start(0));
 }

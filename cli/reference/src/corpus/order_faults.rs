@@ -1,29 +1,29 @@
 //! Files refused for orders, keys or the hash: 22 to 25.
 
-use super::build::{changed, plain, prefix, query, start, stop, two_levels};
+use super::build::{alter, plain, prefix, query, start, stop, two_levels};
 use super::Corpus;
 use crate::checksums::sha256;
 use crate::maker::{Content, Image, Plan, Target};
 
 /// Adds the files.
 pub fn add(corpus: &mut Corpus) {
-    walk_order(corpus);
-    neighbours(corpus);
-    keys_of_one_level(corpus);
-    keys_of_two_levels(corpus);
-    keys_by_file_order(corpus);
-    hashes(corpus);
+    add_walk_order(corpus);
+    add_neighbours(corpus);
+    add_keys_of_one_level(corpus);
+    add_keys_of_two_levels(corpus);
+    add_keys_by_file_order(corpus);
+    add_hashes(corpus);
 }
 
 /// 22 alone needs equal keys and equal records.
-fn walk_order(corpus: &mut Corpus) {
+fn add_walk_order(corpus: &mut Corpus) {
     let image = Image::new(vec![
         Plan::data(&["x"]),
         Plan::data(&["x"]),
         Plan::data(&["x"]),
         Plan::index(1, &[("x", 0), ("x", 2), ("x", 1)]),
     ]);
-    corpus.refused("22-last-two", image.bytes(), 22, image.start(1));
+    corpus.add_refused("22-last-two", image.bytes(), 22, image.start(1));
     corpus.ask("22-last-two", &prefix(b"x"));
 
     let image = Image::new(vec![
@@ -35,7 +35,7 @@ fn walk_order(corpus: &mut Corpus) {
         Plan::index(1, &[("w", 0), ("x", 3)]),
         Plan::index(2, &[("w", 5), ("x", 4)]),
     ]);
-    corpus.refused("22-interlocked", image.bytes(), 22, image.start(1));
+    corpus.add_refused("22-interlocked", image.bytes(), 22, image.start(1));
 
     let image = Image::new(vec![
         Plan::index(2, &[("", 5), ("", 4)]),
@@ -49,7 +49,7 @@ fn walk_order(corpus: &mut Corpus) {
         root: Target::Block(0),
         ..image
     };
-    corpus.refused("22-subtrees", image.bytes(), 22, image.start(1));
+    corpus.add_refused("22-subtrees", image.bytes(), 22, image.start(1));
     corpus.ask("22-subtrees", &start(b"z"));
 }
 
@@ -57,7 +57,7 @@ fn walk_order(corpus: &mut Corpus) {
 type ThreeGroups<'a> = [&'a [&'a [u8]]; 3];
 
 /// 23 always brings 24 with it, or 22.
-fn neighbours(corpus: &mut Corpus) {
+fn add_neighbours(corpus: &mut Corpus) {
     let groups: [(&str, ThreeGroups, usize); 6] = [
         ("23-falling", [&[b"b"], &[b"a"], &[b"c"]], 1),
         ("23-last", [&[b"a"], &[b"c"], &[b"b"]], 2),
@@ -75,7 +75,7 @@ fn neighbours(corpus: &mut Corpus) {
             Plan::index(1, &[("", 0), ("", 2), ("", 3)]),
         ]);
         let place = image.start([0, 2, 3][fault]);
-        corpus.refused_first(name, image.bytes(), 23, place);
+        corpus.add_refused_first(name, image.bytes(), 23, place);
     }
     corpus.ask("23-falling", &prefix(b"a"));
 }
@@ -88,7 +88,7 @@ fn set_key(image: &mut Image, block: usize, entry: usize, key: &[u8]) {
 }
 
 /// In the plain file the keys may be: up to `ab`; `b` alone; `ca` to `d`.
-fn keys_of_one_level(corpus: &mut Corpus) {
+fn add_keys_of_one_level(corpus: &mut Corpus) {
     let keys: [(&str, usize, &[u8]); 6] = [
         ("24-first-high", 0, b"ab\0"),
         ("24-middle-low", 1, b"ab\xff"),
@@ -98,8 +98,8 @@ fn keys_of_one_level(corpus: &mut Corpus) {
         ("24-last-over", 2, b"f"),
     ];
     for (name, entry, key) in keys {
-        let image = changed(&plain(), |image| set_key(image, 3, entry, key));
-        corpus.refused(name, image.bytes(), 24, image.start(3));
+        let image = alter(&plain(), |image| set_key(image, 3, entry, key));
+        corpus.add_refused(name, image.bytes(), 24, image.start(3));
         corpus.ask_search(name, &start(b"b"));
     }
     corpus.ask("24-last-over", &prefix(b"d"));
@@ -107,7 +107,7 @@ fn keys_of_one_level(corpus: &mut Corpus) {
 }
 
 /// In the file of two levels the records go `a` to `d`, then `f` to `i`.
-fn keys_of_two_levels(corpus: &mut Corpus) {
+fn add_keys_of_two_levels(corpus: &mut Corpus) {
     let keys: [(&str, usize, usize, &[u8]); 5] = [
         ("24-root-high", 6, 1, b"g"),
         ("24-root-low", 6, 1, b"cc"),
@@ -117,14 +117,14 @@ fn keys_of_two_levels(corpus: &mut Corpus) {
         ("24-neighbour", 5, 0, b"c"),
     ];
     for (name, block, entry, key) in keys {
-        let image = changed(&two_levels(), |image| set_key(image, block, entry, key));
-        corpus.refused(name, image.bytes(), 24, image.start(block));
+        let image = alter(&two_levels(), |image| set_key(image, block, entry, key));
+        corpus.add_refused(name, image.bytes(), 24, image.start(block));
         corpus.ask_search(name, &query(b"c", Some(b"g"), b""));
     }
 }
 
 /// 24 is looked for in file order of the index blocks, not in the walk's order.
-fn keys_by_file_order(corpus: &mut Corpus) {
+fn add_keys_by_file_order(corpus: &mut Corpus) {
     let image = Image::new(vec![
         Plan::index(1, &[("d", 2)]),
         Plan::data(&["a"]),
@@ -133,7 +133,7 @@ fn keys_by_file_order(corpus: &mut Corpus) {
         Plan::index(2, &[("a", 3), ("c", 0)]),
     ]);
     let name = "24-backwards";
-    corpus.refused(name, image.bytes(), 24, image.start(0));
+    corpus.add_refused(name, image.bytes(), 24, image.start(0));
 
     let image = Image {
         root: Target::Block(0),
@@ -145,10 +145,10 @@ fn keys_by_file_order(corpus: &mut Corpus) {
             Plan::index(1, &[("d", 3)]),
         ])
     };
-    corpus.refused("24-two-levels", image.bytes(), 24, image.start(0));
+    corpus.add_refused("24-two-levels", image.bytes(), 24, image.start(0));
 }
 
-fn hashes(corpus: &mut Corpus) {
+fn add_hashes(corpus: &mut Corpus) {
     let mut tree = plain();
     tree.reserved = vec![(1, 64, b"\x01c".to_vec())];
     let records = [&b"ab"[..], b"b", b"b", b"ca", b"d", b"e"];
@@ -176,8 +176,8 @@ fn hashes(corpus: &mut Corpus) {
         ("25-reserved", sha256(with_reserved)),
         ("25-first-only", sha256([payloads[0]])),
     ] {
-        let image = changed(&tree, |image| image.hash = Some(hash));
-        corpus.refused(name, image.bytes(), 25, 0);
+        let image = alter(&tree, |image| image.hash = Some(hash));
+        corpus.add_refused(name, image.bytes(), 25, 0);
     }
     corpus.ask("25-zero", &stop(b"c"));
 }

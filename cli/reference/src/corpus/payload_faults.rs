@@ -1,81 +1,83 @@
 //! Files refused for a payload: 11, 12, 15, 16 and 21. The place is the block's start.
 
-use super::build::{changed, plain, prefix, stop};
+use super::build::{alter, plain, prefix, stop};
 use super::Corpus;
-use crate::maker::{encoded, Content, Plan};
+use crate::maker::{encode, Content, Plan};
 
 /// Adds the files.
 pub fn add(corpus: &mut Corpus) {
-    data_payloads(corpus);
-    index_payloads(corpus);
-    records_not_rising(corpus);
-    keys_not_rising(corpus);
+    add_data_payloads(corpus);
+    add_index_payloads(corpus);
+    add_records_not_rising(corpus);
+    add_keys_not_rising(corpus);
 }
 
 /// Adds the plain file with other bytes in one payload, refused at that block.
-fn with_payload(corpus: &mut Corpus, name: &str, block: usize, payload: &[u8], number: u64) {
+fn add_with_payload(corpus: &mut Corpus, name: &str, block: usize, payload: &[u8], number: u64) {
     let content = Content::Bytes(payload.to_vec());
-    let image = changed(&plain(), |image| image.blocks[block].content = content);
-    corpus.refused(name, image.bytes(), number, image.start(block));
+    let image = alter(&plain(), |image| image.blocks[block].content = content);
+    corpus.add_refused(name, image.bytes(), number, image.start(block));
 }
 
-fn data_payloads(corpus: &mut Corpus) {
-    let cases: [(&str, usize, &[u8], u64); 13] = [
-        ("15-data-empty", 0, b"", 15),
-        ("15-last-empty", 2, b"", 15),
-        ("15-rec-short", 1, b"\x01b\x03ca", 15),
-        ("15-rec-none", 1, b"\x01b\x01", 15),
-        ("15-rec-cut", 1, b"\x01b\x80", 15),
-        (
-            "15-rec-cut-8",
-            2,
-            b"\x01d\xff\xff\xff\xff\xff\xff\xff\xff",
-            15,
-        ),
-        (
-            "15-rec-2e63",
-            0,
-            b"\xff\xff\xff\xff\xff\xff\xff\xff\x7f",
-            15,
-        ),
-        (
-            "15-rec-2e62",
-            0,
-            b"\x80\x80\x80\x80\x80\x80\x80\x80\x40ab",
-            15,
-        ),
-        (
-            "11-rec",
-            0,
-            b"\x02ab\xff\xff\xff\xff\xff\xff\xff\xff\xff",
-            11,
-        ),
-        (
-            "11-rec-more",
-            1,
-            b"\x80\x80\x80\x80\x80\x80\x80\x80\x80\x01",
-            11,
-        ),
-        ("12-rec", 0, b"\x82\x00ab\x01b", 12),
-        ("12-rec-three", 2, b"\x01d\x81\x80\x00e", 12),
-        ("15-rec-crc", 2, b"\x01d\x09e", 15),
-    ];
-    for (name, block, payload, number) in cases {
-        with_payload(corpus, name, block, payload, number);
+/// Names, which block, its payload, and the refusal.
+const DATA_PAYLOADS: [(&str, usize, &[u8], u64); 13] = [
+    ("15-data-empty", 0, b"", 15),
+    ("15-last-empty", 2, b"", 15),
+    ("15-rec-short", 1, b"\x01b\x03ca", 15),
+    ("15-rec-none", 1, b"\x01b\x01", 15),
+    ("15-rec-cut", 1, b"\x01b\x80", 15),
+    (
+        "15-rec-cut-8",
+        2,
+        b"\x01d\xff\xff\xff\xff\xff\xff\xff\xff",
+        15,
+    ),
+    (
+        "15-rec-2e63",
+        0,
+        b"\xff\xff\xff\xff\xff\xff\xff\xff\x7f",
+        15,
+    ),
+    (
+        "15-rec-2e62",
+        0,
+        b"\x80\x80\x80\x80\x80\x80\x80\x80\x40ab",
+        15,
+    ),
+    (
+        "11-rec",
+        0,
+        b"\x02ab\xff\xff\xff\xff\xff\xff\xff\xff\xff",
+        11,
+    ),
+    (
+        "11-rec-more",
+        1,
+        b"\x80\x80\x80\x80\x80\x80\x80\x80\x80\x01",
+        11,
+    ),
+    ("12-rec", 0, b"\x82\x00ab\x01b", 12),
+    ("12-rec-three", 2, b"\x01d\x81\x80\x00e", 12),
+    ("15-rec-crc", 2, b"\x01d\x09e", 15),
+];
+
+fn add_data_payloads(corpus: &mut Corpus) {
+    for (name, block, payload, number) in DATA_PAYLOADS {
+        add_with_payload(corpus, name, block, payload, number);
     }
     corpus.ask_search("15-last-empty", &stop(b"b"));
     corpus.ask_search("11-rec", &prefix(b"c"));
 }
 
 /// Index payloads in which only the form of a number or the length is wrong.
-fn index_payloads(corpus: &mut Corpus) {
+fn add_index_payloads(corpus: &mut Corpus) {
     let image = plain().image();
     let good = image.blocks[3].payload(&image.places());
     let with = |more: &[u8]| [&good[..], more].concat();
-    let offset = encoded(image.start(0));
+    let offset = encode(image.start(0));
     let with_number = |number: &[u8]| {
-        let behind = &good[3 + offset.len()..];
-        [&good[..3], number, behind].concat()
+        let rest = &good[3 + offset.len()..];
+        [&good[..3], number, rest].concat()
     };
     let mut long_offset = offset.clone();
     if let Some(last) = long_offset.last_mut() {
@@ -100,11 +102,11 @@ fn index_payloads(corpus: &mut Corpus) {
         ("12-key", long_key, 12),
     ];
     for (name, payload, number) in cases {
-        with_payload(corpus, name, 3, &payload, number);
+        add_with_payload(corpus, name, 3, &payload, number);
     }
 }
 
-fn records_not_rising(corpus: &mut Corpus) {
+fn add_records_not_rising(corpus: &mut Corpus) {
     let cases: [(&str, usize, &[&[u8]]); 6] = [
         ("16-falling", 0, &[b"b", b"ab"]),
         ("16-beginning", 1, &[b"b\0", b"b"]),
@@ -114,8 +116,8 @@ fn records_not_rising(corpus: &mut Corpus) {
         ("16-last-byte", 0, &[b"ac", b"ab"]),
     ];
     for (name, block, records) in cases {
-        let image = changed(&plain(), |image| image.blocks[block] = Plan::data(records));
-        corpus.refused(name, image.bytes(), 16, image.start(block));
+        let image = alter(&plain(), |image| image.blocks[block] = Plan::data(records));
+        corpus.add_refused(name, image.bytes(), 16, image.start(block));
     }
     corpus.ask_search("16-falling", &prefix(b"e"));
 }
@@ -124,7 +126,7 @@ fn records_not_rising(corpus: &mut Corpus) {
 type ThreeEntries<'a> = [(&'a [u8], usize); 3];
 
 /// Keys that don't rise break the key rule or the walk's order too: 21 is only the first.
-fn keys_not_rising(corpus: &mut Corpus) {
+fn add_keys_not_rising(corpus: &mut Corpus) {
     let cases: [(&str, ThreeEntries); 4] = [
         ("21-falling", [(b"b", 0), (b"ab", 1), (b"d", 2)]),
         ("21-blocks", [(b"ab", 0), (b"d", 2), (b"b", 1)]),
@@ -132,7 +134,7 @@ fn keys_not_rising(corpus: &mut Corpus) {
         ("21-beginning", [(b"b\0", 0), (b"b", 1), (b"d", 2)]),
     ];
     for (name, entries) in cases {
-        let image = changed(&plain(), |image| image.blocks[3] = Plan::index(1, &entries));
-        corpus.refused_first(name, image.bytes(), 21, image.start(3));
+        let image = alter(&plain(), |image| image.blocks[3] = Plan::index(1, &entries));
+        corpus.add_refused_first(name, image.bytes(), 21, image.start(3));
     }
 }

@@ -13,17 +13,17 @@ pub fn add(corpus: &mut Corpus) {
     add_asked(corpus, "unsigned-order", unsigned(), &unsigned_queries());
     add_asked(corpus, "beginning-first", beginning(), &beginning_queries());
     for keys in [Keys::FirstRecord, Keys::LastBefore, Keys::Separator] {
-        equal_records(corpus, keys);
+        add_equal_records(corpus, keys);
     }
-    opened_in_vain(corpus);
+    add_opened_in_vain(corpus);
 }
 
 fn add_asked(corpus: &mut Corpus, name: &str, tree: Tree, queries: &[Query]) {
-    corpus.sound(name, tree.bytes());
+    corpus.add_sound(name, tree.bytes());
     for query in queries {
         corpus.ask(name, query);
     }
-    corpus.records(name, &everything(), 2);
+    corpus.ask_records(name, &everything(), 2);
 }
 
 fn all_ff() -> Tree {
@@ -135,7 +135,7 @@ fn beginning_queries() -> Vec<Query> {
 }
 
 /// Equal records in several blocks: a search must begin in the first of them.
-fn equal_records(corpus: &mut Corpus, keys: Keys) {
+fn add_equal_records(corpus: &mut Corpus, keys: Keys) {
     let mut tree = Tree::new(&[&["a", "b"], &["b", "b"], &["b", "c"], &["c"], &["c", "d"]]);
     tree.keys = keys;
     tree.fan_out = vec![2];
@@ -152,14 +152,14 @@ fn equal_records(corpus: &mut Corpus, keys: Keys) {
         stop(b"c"),
         stop(b"b"),
     ];
-    corpus.sound(name, tree.bytes());
+    corpus.add_sound(name, tree.bytes());
     for query in &queries {
         corpus.ask_search(name, query);
     }
 }
 
 /// On each level below the root, the first and the last block opened hold no match.
-fn opened_in_vain(corpus: &mut Corpus) {
+fn add_opened_in_vain(corpus: &mut Corpus) {
     let records: Vec<Vec<u8>> = (0..16_u8).map(|n| vec![b'a' + n]).collect();
     let groups: Vec<&[Vec<u8>]> = records.chunks(1).collect();
     let mut tree = Tree::new(&groups);

@@ -1,6 +1,6 @@
 //! A file field by field: what to write, and what to write wrongly.
 
-use super::layout::{crc_bytes, data_payloads, framed, put_number, Place};
+use super::layout::{crc_bytes, data_payloads, frame, put_number, Place};
 use crate::checksums::{crc64, sha256};
 
 /// Begins every finished file.
@@ -27,7 +27,7 @@ pub struct Image {
     pub metadata_length: Option<u64>,
     /// The metadata.
     pub metadata: Vec<u8>,
-    /// Header bytes behind the metadata, to be ignored by readers.
+    /// Header bytes after the metadata, to be ignored by readers.
     pub extra: Vec<u8>,
     /// Keeps only so many bytes of the header data, with H and CRC to fit.
     pub header_cut: Option<usize>,
@@ -35,7 +35,7 @@ pub struct Image {
     pub header_crc_flips: u64,
     /// The blocks in file order.
     pub blocks: Vec<Plan>,
-    /// Bytes behind the last block.
+    /// Bytes after the last block.
     pub tail: Vec<u8>,
 }
 
@@ -117,7 +117,7 @@ impl Plan {
         Plan::naming(level, &entries)
     }
 
-    /// An index block whose entries name what they like.
+    /// An index block whose entries name anything.
     pub fn naming<K: AsRef<[u8]>>(level: u8, entries: &[(K, Target)]) -> Self {
         let entry = |(key, target): &(K, Target)| Entry {
             key: key.as_ref().to_vec(),
@@ -208,7 +208,7 @@ impl Image {
         let places = self.places();
         let mut body = Vec::new();
         for plan in &self.blocks {
-            body.extend(framed(plan, &places));
+            body.extend(frame(plan, &places));
         }
         body.extend(&self.tail);
 

@@ -29,7 +29,9 @@ impl Keys {
             Keys::EmptyFirst if before.is_none() => Vec::new(),
             Keys::EmptyFirst => first,
             Keys::Mixed(seed) => mixed_key(seed ^ node as u64, before.as_deref(), first),
-            Keys::Between(seed) => between(seed ^ node as u64, before.unwrap_or_default(), first),
+            Keys::Between(seed) => {
+                key_between(seed ^ node as u64, before.unwrap_or_default(), first)
+            }
         }
     }
 }
@@ -57,11 +59,12 @@ fn mixed_key(seed: u64, before: Option<&[u8]>, first: Vec<u8>) -> Vec<u8> {
 }
 
 /// One of the two, cut, lowered or made longer; unchanged where that breaks the rule.
-fn between(seed: u64, before: Vec<u8>, first: Vec<u8>) -> Vec<u8> {
+fn key_between(seed: u64, before: Vec<u8>, first: Vec<u8>) -> Vec<u8> {
     let mut random = Random::new(seed);
-    let chosen = match random.once_in(2) {
-        true => before.clone(),
-        false => first.clone(),
+    let chosen = if random.once_in(2) {
+        before.clone()
+    } else {
+        first.clone()
     };
     let mut key = chosen.clone();
     key.truncate(random.below(key.len() + 2));
@@ -71,8 +74,9 @@ fn between(seed: u64, before: Vec<u8>, first: Vec<u8>) -> Vec<u8> {
     for _ in 0..random.below(4) {
         key.push(random.pick(&[0x00, 0x61, 0xff]));
     }
-    match before <= key && key <= first {
-        true => key,
-        false => chosen,
+    if before <= key && key <= first {
+        key
+    } else {
+        chosen
     }
 }

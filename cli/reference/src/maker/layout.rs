@@ -12,7 +12,7 @@ pub struct Place {
     pub size: u64,
 }
 
-/// Index blocks may name blocks behind them, so sizes and offsets lean on each other.
+/// Index blocks may name later blocks, so sizes and offsets depend on each other.
 /// Each round can only raise them, and a number has at most ten bytes; this is ample.
 const ROUNDS: usize = 1000;
 
@@ -21,7 +21,7 @@ impl Image {
     pub fn places(&self) -> Vec<Place> {
         let mut places = vec![Place::default(); self.blocks.len()];
         for _ in 0..ROUNDS {
-            let next = self.places_given(&places);
+            let next = self.places_from(&places);
             if next == places {
                 break;
             }
@@ -30,11 +30,12 @@ impl Image {
         places
     }
 
-    fn places_given(&self, guess: &[Place]) -> Vec<Place> {
+    /// The place of every block, given a guess for what the entries name.
+    fn places_from(&self, guess: &[Place]) -> Vec<Place> {
         let mut offset = self.blocks_at();
         let mut next = Vec::new();
         for plan in &self.blocks {
-            let size = framed(plan, guess).len() as u64;
+            let size = frame(plan, guess).len() as u64;
             next.push(Place { offset, size });
             offset += size;
         }
@@ -47,13 +48,13 @@ impl Image {
     }
 }
 
-/// A block with its number and CRC.
-pub fn framed(plan: &Plan, places: &[Place]) -> Vec<u8> {
+/// Gives a block with its number and CRC.
+pub fn frame(plan: &Plan, places: &[Place]) -> Vec<u8> {
     let mut covered: Vec<u8> = plan.level.into_iter().collect();
     covered.extend(plan.payload(places));
     let mut out = match &plan.number {
         Some(bytes) => bytes.clone(),
-        None => encoded(covered.len() as u64),
+        None => encode(covered.len() as u64),
     };
     out.extend(&covered);
     out.extend(crc_bytes(crc64(&covered) ^ plan.crc_flips));
@@ -71,8 +72,8 @@ pub fn crc_bytes(crc: u64) -> [u8; 8] {
     crc.to_le_bytes()
 }
 
-/// A number in its shortest form.
-pub fn encoded(value: u64) -> Vec<u8> {
+/// Gives a number in its shortest form.
+pub fn encode(value: u64) -> Vec<u8> {
     let mut out = Vec::new();
     put_number(&mut out, value);
     out

@@ -13,5 +13,5 @@ mod tree;
 
 pub use image::{Content, Entry, Image, Plan, Target};
 pub use keys::Keys;
-pub use layout::{encoded, Place};
+pub use layout::{encode, Place};
 pub use tree::{Placing, Tree};

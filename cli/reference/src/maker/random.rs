@@ -95,17 +95,20 @@ fn placing(random: &mut Random) -> Placing {
     random.pick(&[
         Placing::After,
         Placing::Before,
-        Placing::BehindChildren,
-        Placing::AheadOfChildren,
-        Placing::BehindFirst,
+        Placing::AfterChildren,
+        Placing::BeforeChildren,
+        Placing::AfterFirst,
     ])
 }
 
 /// A query over the same small alphabet.
 pub fn query(random: &mut Random) -> Query {
-    let sometimes = |random: &mut Random| match random.once_in(2) {
-        true => random.string(3),
-        false => Vec::new(),
+    let sometimes = |random: &mut Random| {
+        if random.once_in(2) {
+            random.string(3)
+        } else {
+            Vec::new()
+        }
     };
     Query {
         start: sometimes(random),
@@ -124,7 +127,7 @@ pub fn bend(random: &mut Random, image: &mut Image) {
     let here = random.below(blocks);
     match random.below(8) {
         0 => image.root = Target::Block(other),
-        1 => image.root = beside(random, here),
+        1 => image.root = target_beside(random, here),
         2 => image.blocks.swap(here, other.min(blocks - 1)),
         3 => image.blocks[here].level = Some(random.pick(&[0, 1, 2, 3, 63, 64, 255])),
         4 => drop(image.blocks.remove(here)),
@@ -132,11 +135,12 @@ pub fn bend(random: &mut Random, image: &mut Image) {
     }
 }
 
-fn beside(random: &mut Random, block: usize) -> Target {
+fn target_beside(random: &mut Random, block: usize) -> Target {
     let shift = random.pick(&[-1, 1]);
-    match random.once_in(2) {
-        true => Target::Beside(block, shift, 0),
-        false => Target::Beside(block, 0, shift),
+    if random.once_in(2) {
+        Target::Beside(block, shift, 0)
+    } else {
+        Target::Beside(block, 0, shift)
     }
 }
 
@@ -162,7 +166,7 @@ fn bend_content(random: &mut Random, content: &mut Content, blocks: usize) {
                 1 => drop(entries.remove(here)),
                 2 => entries.push(entries[here].clone()),
                 3 => entries[here].target = Target::Block(random.below(blocks + 1)),
-                4 => entries[here].target = beside(random, here),
+                4 => entries[here].target = target_beside(random, here),
                 _ => entries[here].key = random.string(3),
             }
         }

@@ -22,7 +22,7 @@ pub struct Tree {
     pub keys: Keys,
     /// Where index blocks stand.
     pub placing: Placing,
-    /// Reserved blocks: in front of which ordinary block, level, payload.
+    /// Reserved blocks: before which ordinary block, level, payload.
     pub reserved: Vec<(usize, u8, Vec<u8>)>,
     /// The metadata.
     pub metadata: Vec<u8>,
@@ -33,16 +33,16 @@ pub struct Tree {
 /// Where index blocks stand in the file.
 #[derive(Debug, Clone, Copy, PartialEq, Eq)]
 pub enum Placing {
-    /// Behind all data blocks, level by level, the root last.
+    /// After all data blocks, level by level, the root last.
     After,
-    /// In front of all data blocks, the root first.
+    /// Before all data blocks, the root first.
     Before,
-    /// Each behind all that it leads to.
-    BehindChildren,
-    /// Each in front of all that it leads to.
-    AheadOfChildren,
-    /// All of them behind the first data block.
-    BehindFirst,
+    /// Each after all that it leads to.
+    AfterChildren,
+    /// Each before all that it leads to.
+    BeforeChildren,
+    /// All of them after the first data block.
+    AfterFirst,
     /// Each anywhere, drawn from this seed.
     Scattered(u64),
 }
@@ -79,9 +79,10 @@ impl Tree {
 
     /// The file, open to be changed. Without groups it has no blocks.
     pub fn image(&self) -> Image {
-        let mut image = match self.groups.is_empty() {
-            true => Image::new(Vec::new()),
-            false => self.blocks_and_root(),
+        let mut image = if self.groups.is_empty() {
+            Image::new(Vec::new())
+        } else {
+            self.blocks_and_root()
         };
         image.metadata = self.metadata.clone();
         image.extra = self.extra.clone();
@@ -97,7 +98,7 @@ impl Tree {
             blocks.extend(self.reserved_before(number));
             blocks.push(self.plan(&nodes, *node, &block_of));
         }
-        blocks.extend(self.reserved_behind(order.len()));
+        blocks.extend(self.reserved_after(order.len()));
         let mut image = Image::new(blocks);
         image.root = Target::Block(block_of[nodes.len() - 1]);
         image
@@ -116,7 +117,7 @@ impl Tree {
         while level < 1 || row.len() > 1 || level < self.root_level.min(HIGHEST_LEVEL) {
             level += 1;
             let mut above = Vec::new();
-            for children in self.shared_out(&row, level) {
+            for children in self.share_out(&row, level) {
                 above.push(nodes.len());
                 let group = children.first().map_or(0, |child| nodes[*child].group);
                 nodes.push(Node {
@@ -130,8 +131,8 @@ impl Tree {
         nodes
     }
 
-    /// The children of each index block on a level.
-    fn shared_out(&self, row: &[usize], level: u8) -> Vec<Vec<usize>> {
+    /// Gives each index block on a level its children.
+    fn share_out(&self, row: &[usize], level: u8) -> Vec<Vec<usize>> {
         let most = self.entries_on(level);
         let mut random = self
             .ragged
@@ -141,9 +142,9 @@ impl Tree {
         let mut left = row;
         while !left.is_empty() {
             let entries = random.as_mut().map_or(most, |r| 1 + r.below(most));
-            let (share, behind) = left.split_at(entries.min(left.len()));
+            let (share, rest) = left.split_at(entries.min(left.len()));
             shares.push(share.to_vec());
-            left = behind;
+            left = rest;
         }
         shares
     }
@@ -169,10 +170,10 @@ impl Tree {
         match self.placing {
             Placing::After => (0..nodes.len()).collect(),
             Placing::Before => index.rev().chain(0..data).collect(),
-            Placing::BehindFirst => (0..1).chain(index.rev()).chain(1..data).collect(),
-            Placing::BehindChildren => below(nodes, root, false),
-            Placing::AheadOfChildren => below(nodes, root, true),
-            Placing::Scattered(seed) => scattered(seed, data, nodes.len()),
+            Placing::AfterFirst => (0..1).chain(index.rev()).chain(1..data).collect(),
+            Placing::AfterChildren => subtree_order(nodes, root, false),
+            Placing::BeforeChildren => subtree_order(nodes, root, true),
+            Placing::Scattered(seed) => scatter(seed, data, nodes.len()),
         }
     }
 
@@ -196,7 +197,7 @@ impl Tree {
         here.map(|(_, level, payload)| Plan::bytes(*level, payload))
     }
 
-    fn reserved_behind(&self, blocks: usize) -> impl Iterator<Item = Plan> + '_ {
+    fn reserved_after(&self, blocks: usize) -> impl Iterator<Item = Plan> + '_ {
         let here = self.reserved.iter().filter(move |(at, _, _)| *at >= blocks);
         here.map(|(_, level, payload)| Plan::bytes(*level, payload))
     }
@@ -222,8 +223,8 @@ impl Tree {
     }
 }
 
-/// The data blocks in order, and each index block at a place drawn from the seed.
-fn scattered(seed: u64, data: usize, all: usize) -> Vec<usize> {
+/// Gives the data blocks in order, and each index block at a place drawn from the seed.
+fn scatter(seed: u64, data: usize, all: usize) -> Vec<usize> {
     let mut random = Random::new(seed);
     let mut order: Vec<usize> = (0..data).collect();
     for node in data..all {
@@ -232,16 +233,16 @@ fn scattered(seed: u64, data: usize, all: usize) -> Vec<usize> {
     order
 }
 
-/// The blocks below and with `node`, parents ahead of or behind their children.
-fn below(nodes: &[Node], node: usize, ahead: bool) -> Vec<usize> {
+/// The blocks below and with `node`, parents before or after their children.
+fn subtree_order(nodes: &[Node], node: usize, parents_first: bool) -> Vec<usize> {
     let mut order = Vec::new();
-    if ahead {
+    if parents_first {
         order.push(node);
     }
     for child in &nodes[node].children {
-        order.extend(below(nodes, *child, ahead));
+        order.extend(subtree_order(nodes, *child, parents_first));
     }
-    if !ahead {
+    if !parents_first {
         order.push(node);
     }
     order

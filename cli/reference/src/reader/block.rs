@@ -15,7 +15,7 @@ const FIRST_RESERVED: u8 = 64;
 pub struct Block {
     /// Position of its first byte.
     pub start: usize,
-    /// Position just behind its CRC.
+    /// The position after its CRC.
     pub end: usize,
     /// Its level byte.
     pub level: u8,
@@ -57,14 +57,14 @@ impl Block {
 /// The block that begins at `start`: its number, 13, 10, 14.
 pub fn block_at(file: &[u8], start: usize) -> Result<Block, Refusal> {
     let refuse = |number| Refusal::at(number, start);
-    let behind = file.get(start..).unwrap_or(&[]);
-    let (length, digits) = number(behind).map_err(|fault| refuse(fault_number(fault, 10)))?;
+    let rest = file.get(start..).unwrap_or(&[]);
+    let (length, digits) = number(rest).map_err(|fault| refuse(fault_number(fault, 10)))?;
     if length == 0 {
         return Err(refuse(13));
     }
     let past_end = refuse(10);
     let length = usize::try_from(length).map_err(|_| past_end)?;
-    let body = behind.get(digits..).unwrap_or(&[]);
+    let body = rest.get(digits..).unwrap_or(&[]);
     let covered = body.get(..length).ok_or(past_end)?;
     let crc = u64_at(body, length).ok_or(past_end)?;
     if crc != crc64(covered) {
@@ -183,10 +183,12 @@ pub fn summarize<'a>(file: &'a [u8], block: &Block) -> Result<Summary<'a>, Refus
         summary.last = bytes;
         summary.count += 1;
     }
-    match rising {
-        true => Ok(summary),
-        false if block.is_data() => Err(refuse(16)),
-        false => Err(refuse(21)),
+    if rising {
+        Ok(summary)
+    } else if block.is_data() {
+        Err(refuse(16))
+    } else {
+        Err(refuse(21))
     }
 }
 
@@ -208,9 +210,10 @@ impl<'a> BlockStage<'a> {
     fn take_block(&mut self) -> Result<(Block, Option<Summary<'a>>), Refusal> {
         let block = block_at(self.file, self.at)?;
         self.at = block.end;
-        let summary = match block.is_ordinary() {
-            true => Some(summarize(self.file, &block)?),
-            false => None,
+        let summary = if block.is_ordinary() {
+            Some(summarize(self.file, &block)?)
+        } else {
+            None
         };
         Ok((block, summary))
     }

@@ -97,9 +97,10 @@ fn fits(entry: &Item, index: &Block, child: &Block) -> bool {
 fn test_hash(file: &[u8], blocks: &[Ordinary], header: &Header) -> Result<(), Refusal> {
     let data = blocks.iter().filter(|(block, _)| block.is_data());
     let payloads = data.filter_map(|(block, _)| file.get(block.payload.clone()));
-    match sha256(payloads) == header.hash {
-        true => Ok(()),
-        false => Err(Refusal::of_file(25)),
+    if sha256(payloads) == header.hash {
+        Ok(())
+    } else {
+        Err(Refusal::of_file(25))
     }
 }
 

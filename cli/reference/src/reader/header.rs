@@ -8,7 +8,7 @@ const GOOD_MAGIC: &[u8] = b"\xabZSfiLe\x01";
 const UNFINISHED_MAGIC: &[u8] = b"\xabZStoBe\x01";
 const CODEC_NONE: &[u8] = b"none\0\0\0\0\0\0\0\0\0\0\0\0";
 
-/// Bytes of the header data in front of the metadata.
+/// Bytes of the header data before the metadata.
 const FIXED_FIELDS: u64 = 80;
 
 /// What the later stages need of a sound header.
@@ -59,9 +59,9 @@ fn header_data(file: &[u8]) -> Result<&[u8], Refusal> {
 
 /// The metadata, unless H is below 80 or M above H-80.
 fn metadata(data: &[u8]) -> Option<&[u8]> {
-    let behind = data.get(FIXED_FIELDS as usize..)?;
+    let rest = data.get(FIXED_FIELDS as usize..)?;
     let length = usize::try_from(u64_at(data, 72)?).ok()?;
-    behind.get(..length)
+    rest.get(..length)
 }
 
 fn test_fields(file: &[u8], data: &[u8], metadata: &[u8]) -> Result<(), Refusal> {

@@ -23,7 +23,7 @@ pub use search::{search, Found};
 use refusal::Refusal;
 
 /// A list of `places` numbers that begins with `numbers` and goes on with zeros.
-fn filled_list(mut numbers: Vec<u64>, places: usize) -> Vec<u64> {
+fn fill_list(mut numbers: Vec<u64>, places: usize) -> Vec<u64> {
     numbers.resize(places, 0);
     numbers
 }

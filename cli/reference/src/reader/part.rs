@@ -7,8 +7,9 @@ pub fn within(file: &[u8], offset: u64, length: u64) -> bool {
 
 /// Offset and length of the part handed back: the very part asked for, or the empty one at 0.
 pub fn record(file: &[u8], offset: u64, length: u64) -> (u64, u64) {
-    match within(file, offset, length) {
-        true => (offset, length),
-        false => (0, 0),
+    if within(file, offset, length) {
+        (offset, length)
+    } else {
+        (0, 0)
     }
 }

@@ -25,16 +25,16 @@ impl Query {
 /// Whether any byte string, of any length, lies between the bounds and matches the query.
 ///
 /// The byte strings that begin with a prefix are those from the prefix up to, not including,
-/// the prefix's end. So each condition is a floor or a ceiling, and some string meets them
-/// all exactly if the highest floor lies under every ceiling.
+/// the prefix's end. So each condition is a lower or an upper limit, and some string meets
+/// them all exactly if the greatest lower limit meets every upper one.
 pub fn may_hold_match(lower: &[u8], upper: Option<&[u8]>, query: &Query) -> bool {
-    let floor = lower.max(&query.start).max(&query.prefix);
+    let least = lower.max(&query.start).max(&query.prefix);
     let end = end_of_prefix(&query.prefix);
-    let below = |ceiling: &Option<Vec<u8>>| match ceiling {
-        Some(ceiling) => floor < ceiling.as_slice(),
+    let below = |limit: &Option<Vec<u8>>| match limit {
+        Some(limit) => least < limit.as_slice(),
         None => true,
     };
-    upper.map_or(true, |upper| floor <= upper) && below(&query.stop) && below(&end)
+    upper.map_or(true, |upper| least <= upper) && below(&query.stop) && below(&end)
 }
 
 /// The least byte string above all that begin with `prefix`, if there is one.

@@ -3,7 +3,7 @@
 use super::block::BlockStage;
 use super::header::header;
 use super::query::Query;
-use super::{filled_list, Refusal};
+use super::{fill_list, Refusal};
 
 /// The answer of reading front to back.
 #[derive(Debug, Clone, PartialEq, Eq)]
@@ -25,13 +25,13 @@ pub fn read(file: &[u8], query: &Query, result_places: usize) -> ReadAnswer {
             number: 0,
             place: 0,
             matches,
-            results: filled_list(pairs, result_places),
+            results: fill_list(pairs, result_places),
         },
         Err(refusal) => ReadAnswer {
             number: refusal.number,
             place: refusal.place,
             matches: 0,
-            results: filled_list(Vec::new(), result_places),
+            results: fill_list(Vec::new(), result_places),
         },
     }
 }

@@ -1,4 +1,4 @@
-//! Refusals, as the functions of this module hand them on among each other.
+//! Refusals, as the functions of this module pass them to each other.
 
 /// A refusal: the paper's number for it, and its place.
 #[derive(Debug, Clone, Copy, PartialEq, Eq)]

@@ -3,7 +3,7 @@
 use super::block::{block_at, summarize, Block, Item};
 use super::header::{header, Header};
 use super::query::{may_hold_match, Query};
-use super::{filled_list, Refusal};
+use super::{fill_list, Refusal};
 
 /// The answer of a search.
 #[derive(Debug, Clone, PartialEq, Eq)]
@@ -30,16 +30,16 @@ pub fn search(file: &[u8], query: &Query, opened_places: usize, result_places: u
             place: 0,
             matches: (results.len() / 2) as u64,
             opened: opened.len() as u64,
-            opened_list: filled_list(opened, opened_places),
-            results: filled_list(results, result_places),
+            opened_list: fill_list(opened, opened_places),
+            results: fill_list(results, result_places),
         },
         Err(refusal) => Found {
             number: refusal.number,
             place: refusal.place,
             matches: 0,
             opened: 0,
-            opened_list: filled_list(Vec::new(), opened_places),
-            results: filled_list(Vec::new(), result_places),
+            opened_list: fill_list(Vec::new(), opened_places),
+            results: fill_list(Vec::new(), result_places),
         },
     }
 }
@@ -102,7 +102,7 @@ impl Name {
     }
 }
 
-/// A walk under way.
+/// A walk and its lists so far.
 struct Walk<'a> {
     file: &'a [u8],
     query: &'a Query,
@@ -126,9 +126,10 @@ impl<'a> Walk<'a> {
             return Err(name.unfit);
         }
         summarize(self.file, &block)?;
-        match block.is_data() {
-            true => self.compare_records(&block),
-            false => self.visit_children(&block, upper),
+        if block.is_data() {
+            self.compare_records(&block)
+        } else {
+            self.visit_children(&block, upper)
         }
     }
 

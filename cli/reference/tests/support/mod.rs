@@ -46,7 +46,7 @@ fn little_endian(bytes: &[u8]) -> u64 {
 }
 
 /// Takes a file apart and notes every fault of its header, blocks and payloads.
-pub fn apart(file: &[u8]) -> Apart {
+pub fn take_apart(file: &[u8]) -> Apart {
     let mut faults = BTreeSet::new();
     let nothing = |faults| Apart {
         faults,
@@ -71,7 +71,7 @@ pub fn apart(file: &[u8]) -> Apart {
         faults.insert(6);
         return nothing(faults);
     }
-    header_fields(file, h, &mut faults);
+    note_header_fields(file, h, &mut faults);
     let blocks = blocks(file, 24 + h, &mut faults);
     Apart {
         faults,
@@ -81,7 +81,7 @@ pub fn apart(file: &[u8]) -> Apart {
     }
 }
 
-fn header_fields(file: &[u8], h: usize, faults: &mut BTreeSet<u64>) {
+fn note_header_fields(file: &[u8], h: usize, faults: &mut BTreeSet<u64>) {
     let m = little_endian(&file[88..96]);
     if &file[72..76] != b"none" || file[76..88].iter().any(|byte| *byte != 0) {
         faults.insert(7);
@@ -100,7 +100,7 @@ fn header_fields(file: &[u8], h: usize, faults: &mut BTreeSet<u64>) {
     }
 }
 
-/// All ordinary blocks, going on behind a fault wherever the next block is still known.
+/// All ordinary blocks, going on after a fault wherever the next block is still known.
 fn blocks(file: &[u8], from: usize, faults: &mut BTreeSet<u64>) -> Option<Vec<Seen>> {
     let mut at = from;
     let mut blocks = Vec::new();
@@ -137,7 +137,7 @@ fn blocks(file: &[u8], from: usize, faults: &mut BTreeSet<u64>) -> Option<Vec<Se
     all_read.then_some(blocks)
 }
 
-/// The items of a payload that reaches from behind the level byte to the part's end.
+/// The items of a payload that reaches from after the level byte to the part's end.
 fn items(part: &[u8], level_at: usize, faults: &mut BTreeSet<u64>) -> Option<Vec<Item>> {
     let level = part[level_at];
     let mut at = level_at + 1;

@@ -5,13 +5,13 @@ use std::collections::BTreeSet;
 use zs_reference::checksums::sha256;
 use zs_reference::reader::{may_hold_match, Query};
 
-use super::{apart, Apart, Item, Seen};
+use super::{take_apart, Apart, Item, Seen};
 
 /// Every refusal of 2 to 17 and 19 to 25 that applies to a file.
 ///
 /// 20 needs a root; 22 and 24 need a tree, so they are judged only where 17, 19 and 20 hold.
 pub fn faults(file: &[u8]) -> BTreeSet<u64> {
-    let apart = apart(file);
+    let apart = take_apart(file);
     let mut faults = apart.faults.clone();
     if let Some(tree) = Tree::of(&apart) {
         tree.note_faults(&mut faults);
@@ -47,7 +47,7 @@ impl<'a> Tree<'a> {
         self.blocks.iter().find(is_root)
     }
 
-    fn named(&self, entry: &Item) -> Option<&'a Seen> {
+    fn find_named(&self, entry: &Item) -> Option<&'a Seen> {
         let mut blocks = self.blocks.iter();
         blocks.find(|block| names(entry, block))
     }
@@ -58,7 +58,7 @@ impl<'a> Tree<'a> {
             faults.insert(17);
         }
         let fits = |(index, entry): (&Seen, &Item)| {
-            let named = self.named(entry);
+            let named = self.find_named(entry);
             named.map_or(false, |block| block.level + 1 == index.level)
         };
         if !self.entries().all(fits) {
@@ -98,12 +98,17 @@ impl<'a> Tree<'a> {
         if block.level == 0 {
             return vec![block];
         }
-        let children = block.items.iter().filter_map(|entry| self.named(entry));
+        let children = block
+            .items
+            .iter()
+            .filter_map(|entry| self.find_named(entry));
         children.flat_map(|child| self.leaves(child)).collect()
     }
 
     fn keeps_key_rule(&self, entry: &Item) -> bool {
-        let leaves = self.named(entry).map_or_else(Vec::new, |b| self.leaves(b));
+        let leaves = self
+            .find_named(entry)
+            .map_or_else(Vec::new, |b| self.leaves(b));
         let records = leaves.iter().flat_map(|leaf| &leaf.items);
         match records.min_by_key(|record| record.at) {
             None => false,
@@ -154,7 +159,7 @@ impl<'a> Tree<'a> {
         for (number, entry) in block.items.iter().enumerate() {
             let next = block.items.get(number + 1).map(|next| &next.bytes[..]);
             let bound = next.or(upper);
-            if let Some(child) = self.named(entry).filter(|_| block.level > 0) {
+            if let Some(child) = self.find_named(entry).filter(|_| block.level > 0) {
                 let open = open && may_hold_match(&entry.bytes, bound, query);
                 self.keep_open(child, bound, open, query, kept);
             }

@@ -1,0 +1,138 @@
+//! The refusals in words: what each number means, what to do about it, what its place is, and which calls give it.
+//!
+//! These words stand nowhere else. The command prints them, the drawn comparison takes the numbers of each call from here, and a test
+//! holds README.md to this table. A new refusal is a new row.
+
+/// A call that can refuse.
+#[derive(Clone, Copy, Debug, PartialEq, Eq)]
+pub enum Call {
+    /// [`check`](crate::check).
+    Check,
+    /// [`read`](crate::read), front to back.
+    Read,
+    /// [`search`](crate::search), through the index.
+    Search,
+}
+
+/// A refusal.
+#[derive(Clone, Copy, Debug, PartialEq, Eq)]
+pub struct Row {
+    /// Its number.
+    pub number: u64,
+    /// The calls that give it.
+    pub calls: &'static [Call],
+    /// What its place is.
+    pub place: &'static str,
+    /// What is wrong. "This block" is the one at the place.
+    pub sentence: &'static str,
+    /// What to do about it.
+    pub advice: &'static str,
+}
+
+const EVERY: &[Call] = &[Call::Check, Call::Read, Call::Search];
+const CHECK: &[Call] = &[Call::Check];
+const SEARCH: &[Call] = &[Call::Search];
+const CHECK_AND_SEARCH: &[Call] = &[Call::Check, Call::Search];
+const READ_AND_SEARCH: &[Call] = &[Call::Read, Call::Search];
+
+const ZERO: &str = "0";
+const BLOCK: &str = "the block's first byte";
+const INDEX_BLOCK: &str = "the index block's first byte";
+const DATA_BLOCK: &str = "the data block's first byte";
+const FIRST_BLOCK: &str = "the first byte of the first such block";
+
+/// Where bytes are missing or were changed.
+const COPY: &str = "get an undamaged copy of the file";
+/// Where the checksums are right, so that the bytes are those that were written.
+const MAKE: &str = "make the archive again: its writer broke a rule of the format";
+/// Where the bytes at fault may have been changed or written so.
+const COPY_OR_MAKE: &str = "get an undamaged copy of the file, or make the archive again";
+
+/// All refusals, by rising numbers.
+#[rustfmt::skip]
+pub const TABLE: &[Row] = &[
+    row(1, EVERY, ZERO, "the file is longer than 1073741824 bytes (2^30)",
+        "put the records into several archives"),
+    row(2, EVERY, ZERO, "the file was never finished: its writer stopped before the end",
+        "make the archive again"),
+    row(3, EVERY, ZERO, "this is no ZS file: it doesn't begin as one",
+        "make sure that this is the right file"),
+    row(4, EVERY, ZERO, "the header doesn't fit in the file",
+        COPY),
+    row(5, EVERY, ZERO, "the header's checksum is wrong: its bytes were changed",
+        COPY),
+    row(6, EVERY, ZERO, "the header is too short for its fields or its metadata",
+        MAKE),
+    row(7, EVERY, ZERO, "the codec isn't `none`, the only one that is read",
+        "make the archive again with the codec `none`"),
+    row(8, EVERY, ZERO, "the file's length isn't the one that its header states",
+        COPY),
+    row(9, EVERY, ZERO, "the metadata doesn't begin with { and end with }",
+        "make the archive again with metadata in braces"),
+    row(10, EVERY, BLOCK, "this block is cut off: its number or its bytes run past the end of the file",
+        COPY_OR_MAKE),
+    row(11, EVERY, BLOCK, "a number in this block takes more than nine bytes",
+        COPY_OR_MAKE),
+    row(12, EVERY, BLOCK, "a number in this block isn't written in its shortest form",
+        COPY_OR_MAKE),
+    row(13, EVERY, BLOCK, "this block has the length 0",
+        COPY_OR_MAKE),
+    row(14, EVERY, BLOCK, "this block's checksum is wrong: its bytes were changed",
+        COPY),
+    row(15, EVERY, BLOCK, "this block holds nothing, or something in it runs past its end",
+        MAKE),
+    row(16, EVERY, BLOCK, "the records of this block are out of order",
+        MAKE),
+    row(17, CHECK_AND_SEARCH, ZERO, "the header doesn't name an index block as the root",
+        MAKE),
+    row(18, CHECK, ZERO, "there are more data and index blocks than the work list has places",
+        "give a work list with a place for each data and index block"),
+    row(19, CHECK_AND_SEARCH, INDEX_BLOCK, "an entry of this index block names no block that fits it",
+        MAKE),
+    row(20, CHECK, FIRST_BLOCK, "this block is named by no entry or by more than one, or is the root and is named",
+        MAKE),
+    row(21, EVERY, INDEX_BLOCK, "the keys of this index block are out of order",
+        MAKE),
+    row(22, CHECK, DATA_BLOCK, "the index leads to this data block after one that comes later in the file",
+        MAKE),
+    row(23, CHECK, DATA_BLOCK, "a record of this data block is less than one of the data block before it",
+        MAKE),
+    row(24, CHECK, INDEX_BLOCK, "a key of this index block is greater than the first record it leads to, or less than a record before that",
+        MAKE),
+    row(25, CHECK, ZERO, "the SHA-256 of the data isn't the one that the header states",
+        COPY_OR_MAKE),
+    row(26, SEARCH, ZERO, "the search opens more blocks than the opened list has places",
+        "check the file, then give an opened list with a place for each data and index block"),
+    row(27, READ_AND_SEARCH, ZERO, "more records match than --max-results allows, or the result list has fewer than two places per match",
+        "ask for fewer records, or give a greater --max-results or a longer result list"),
+];
+
+const fn row(
+    number: u64,
+    calls: &'static [Call],
+    place: &'static str,
+    sentence: &'static str,
+    advice: &'static str,
+) -> Row {
+    Row {
+        number,
+        calls,
+        place,
+        sentence,
+        advice,
+    }
+}
+
+/// The greatest number.
+pub const GREATEST: u64 = TABLE[TABLE.len() - 1].number;
+
+/// The row of a number, if it is that of a refusal.
+pub fn find(number: u64) -> Option<&'static Row> {
+    TABLE.iter().find(|row| row.number == number)
+}
+
+/// The numbers that a call gives, rising.
+pub fn numbers(call: Call) -> impl Iterator<Item = u64> {
+    let rows = TABLE.iter().filter(move |row| row.calls.contains(&call));
+    rows.map(|row| row.number)
+}
