@@ -15,8 +15,9 @@ use Rattle.endian.specs.FixedWidth.{littleEndian}
 use Rattle.crc64.specs.Crc64.{crc64}
 use Rattle.outcome.specs.Outcome.{answer, refused, _>>_, must}
 use Rattle.part.specs.Part.{part}
-use Rattle.header.specs.declared.Header.{Header}
-use Rattle.header.specs.Header.{magic, unfinishedMagic, codecNone, fieldAt, isMetadata, H, M, holdsHeader, headerCrcRight, holdsMetadata, fieldsOf, headerOf}
+use Rattle.header.specs.Header.{magic, unfinishedMagic, codecNone, fieldAt, isMetadata, H, M, holdsHeader, headerCrcRight, holdsMetadata, headerNumbers, fieldsOf, headerOf}
+-- the name under which the theorems cite it
+unfoldable pub use Rattle.header.specs.Header.{headerNumbers as numbersOf}
 
 -- ---- tests
 
@@ -107,7 +108,7 @@ metadata-within file held room =
 
 -- ---- the CRC
 
--- the number behind the header data is compared with the CRC of the data, which are lent
+-- the number after the header data is compared with the CRC of the data, which are lent
 pub headerCrcRight-by : (file : List ℕ) (h : ℕ) → h ≡ H file
     → headerCrcRight file ≡ eqb (littleEndian (take 8 (drop (16 + h) file))) (crc64 (take (16 + h - 16) (drop 16 file)))
 unfolding headerCrcRight fieldAt part
@@ -123,10 +124,6 @@ codec-lent file = ap (begins codecNone) (take-all (length file - 72) (drop 72 fi
 pub metadata-lent : (file : List ℕ) (m : ℕ) → m ≡ M file → isMetadata (take (96 + m - 96) (drop 96 file)) ≡ isMetadata (part file 96 (M file))
 unfolding part
 metadata-lent file m e = rw (add-sub-cancel-left, e)
-
--- the numbers of a file
-unfoldable pub numbersOf : List ℕ → Header
-numbersOf file = record { extent = H file; root = fieldAt file 16; rootsize = fieldAt file 24; metadata = M file }
 
 -- refusal 7: another codec
 pub fields-codec : (file : List ℕ) → begins codecNone (drop 72 file) ≡ false → fieldsOf file ≡ refused 7 0
@@ -146,8 +143,8 @@ fields-metadata file codec total broken = rw (codec, eq-eqb (fieldAt file 32) (l
 
 -- otherwise the numbers
 pub fields-good : (file : List ℕ) → begins codecNone (drop 72 file) ≡ true → fieldAt file 32 ≡ length file
-    → isMetadata (part file 96 (M file)) ≡ true → fieldsOf file ≡ answer (numbersOf file)
-unfolding fieldsOf must _>>_ numbersOf
+    → isMetadata (part file 96 (M file)) ≡ true → fieldsOf file ≡ answer (headerNumbers file)
+unfolding fieldsOf must _>>_
 fields-good file codec total kept = rw (codec, eq-eqb (fieldAt file 32) (length file) total, kept)
 
 -- ---- refusals 1 to 6

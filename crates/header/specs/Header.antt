@@ -50,13 +50,17 @@ headerCrcRight file = eqb (fieldAt file (16 + H file)) (crc64 (part file 16 (H f
 unfoldable pub holdsMetadata : List ℕ → Bool
 holdsMetadata file = leb 80 (H file) && leb (M file) (H file - 80)
 
+-- the numbers of the header; the blocks begin at 24 + H
+unfoldable pub headerNumbers : List ℕ → Header
+headerNumbers file = record { blocks = 24 + H file; root = fieldAt file 16; rootsize = fieldAt file 24; metadata = M file }
+
 -- the header, or the first of the refusals 7 to 9
 unfoldable pub fieldsOf : List ℕ → Outcome Header
 fieldsOf file = do
   must (begins codecNone (drop 72 file)) 7 0
   must (eqb (fieldAt file 32) (length file)) 8 0
   must (isMetadata (part file 96 (M file))) 9 0
-  answer (record { extent = H file; root = fieldAt file 16; rootsize = fieldAt file 24; metadata = M file })
+  answer (headerNumbers file)
 
 -- the header, or the first of the refusals 1 to 9
 unfoldable pub headerOf : List ℕ → Outcome Header
@@ -69,9 +73,9 @@ headerOf file = do
   must (holdsMetadata file) 6 0
   fieldsOf file
 
--- where the blocks begin: 24 + H
+-- where the blocks begin
 unfoldable pub blocksFrom : Header → ℕ
-blocksFrom h = 24 + h .extent
+blocksFrom h = h .blocks
 
 -- what an answer of `Header::read` says
 unfoldable pub headerSaid : HeaderOutcome → Outcome Header
