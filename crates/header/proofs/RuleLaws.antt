@@ -7,7 +7,7 @@ use Prim.Native.Nat.{ℕ, _+_, _-_, _^_, _≤_, _<_}
 use native.Mathlib.Nat.{add-sub-cancel-left}
 use native.Mathlib.Omega.{arith}
 use lib.Dec.{leb, eqb}
-use lib.ListN.{length, take, drop, getD, length-drop}
+use lib.ListN.{length, take, drop, length-drop}
 use lib.Seq.{take-all}
 use borrow.Author.Tests.{leb-true, leb-false, le-leb, lt-leb, eq-eqb, ne-eqb}
 use Rattle.byte_string.specs.Order.{begins}
@@ -15,7 +15,8 @@ use Rattle.endian.specs.FixedWidth.{littleEndian}
 use Rattle.crc64.specs.Crc64.{crc64}
 use Rattle.outcome.specs.Outcome.{answer, refused, _>>_, must}
 use Rattle.part.specs.Part.{part}
-use Rattle.header.specs.Header.{magic, unfinishedMagic, codecNone, fieldAt, isMetadata, H, M, holdsHeader, headerCrcRight, holdsMetadata, headerNumbers, fieldsOf, headerOf}
+use Rattle.header.specs.Metadata.{isMetadata}
+use Rattle.header.specs.Header.{magic, unfinishedMagic, codecNone, fieldAt, H, M, holdsHeader, headerCrcRight, holdsMetadata, headerNumbers, fieldsOf, headerOf}
 -- the name under which the theorems cite it
 unfoldable pub use Rattle.header.specs.Header.{headerNumbers as numbersOf}
 
@@ -37,23 +38,6 @@ leb-both⁻¹ a b c d e =
 
 leb-both : (a b c d : ℕ) → a ≤ b → c ≤ d → (leb a b && leb c d) ≡ true
 leb-both a b c d h k = rw (le-leb a b h, le-leb c d k)
-
--- ---- the metadata rule
-
--- fewer than two bytes
-pub metadata-short : (m : List ℕ) → length m < 2 → isMetadata m ≡ false
-unfolding isMetadata
-metadata-short m few = rw (lt-leb 2 (length m) few)
-
--- the first byte is not `{`
-pub metadata-unopened : (m : List ℕ) → 2 ≤ length m → (getD m 0 0 ≡ 0x7b → ⊥) → isMetadata m ≡ false
-unfolding isMetadata
-metadata-unopened m enough other = rw (le-leb 2 (length m) enough, ne-eqb (getD m 0 0) 0x7b other)
-
--- otherwise the last byte decides
-pub metadata-opened : (m : List ℕ) → 2 ≤ length m → getD m 0 0 ≡ 0x7b → isMetadata m ≡ eqb (getD m (length m - 1) 0) 0x7d
-unfolding isMetadata
-metadata-opened m enough first = rw (le-leb 2 (length m) enough, eq-eqb (getD m 0 0) 0x7b first)
 
 -- ---- the header data within the file
 

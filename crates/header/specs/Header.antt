@@ -3,12 +3,13 @@ use Prim.Native.Nat.{ℕ, _+_, _-_, _^_}
 use mathlib.Core.Bool.{Bool, not, _&&_}
 use mathlib.Core.List.{List, [], _∷_}
 use lib.Dec.{leb, eqb}
-use lib.ListN.{length, drop, getD, replicate}
+use lib.ListN.{length, drop, replicate}
 use Rattle.byte_string.specs.Order.{begins}
 use Rattle.endian.specs.FixedWidth.{littleEndian}
 use Rattle.crc64.specs.Crc64.{crc64}
 use Rattle.outcome.specs.Outcome.{Outcome, answer, refused, _>>_, must}
 use Rattle.part.specs.Part.{part}
+use Rattle.header.specs.Metadata.{isMetadata}
 use Rattle.header.specs.declared.Header.{Header}
 use Rattle.header.specs.declared.HeaderOutcome.{HeaderOutcome}
 use Rattle.header.specs.declared.HeaderOutcome.the-variants.{Answer as Good, Refused as Bad}
@@ -27,10 +28,6 @@ codecNone = 0x6e ∷ 0x6f ∷ 0x6e ∷ 0x65 ∷ replicate 12 0
 -- the header number of 8 bytes at a place
 unfoldable pub fieldAt : List ℕ → ℕ → ℕ
 fieldAt file at = littleEndian (part file at 8)
-
--- the metadata rule: at least two bytes, the first `{`, the last `}`
-unfoldable pub isMetadata : List ℕ → Bool
-isMetadata m = leb 2 (length m) && (eqb (getD m 0 0) 0x7b && eqb (getD m (length m - 1) 0) 0x7d)
 
 -- H, the length of the header data, and M, the length of the metadata
 unfoldable pub H : List ℕ → ℕ

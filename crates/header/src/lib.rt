@@ -2,6 +2,7 @@
 ghost use mathlib.Core.Path.{_≡_};
 ghost use mathlib.Core.Bool.{true};
 ghost use Rattle.header.specs.Header as header;
+ghost use Rattle.header.specs.Metadata.{isMetadata};
 
 // The numbers of a header. The hash, the codec and the metadata are read at their offsets.
 pub struct Header {
@@ -105,7 +106,7 @@ fn holds_metadata(file: &[u8]) -> bool
 
 // The metadata rule: at least two bytes, the first `{`, the last `}`.
 pub fn is_metadata(bytes: &[u8]) -> bool
-    ensures { λ r. ⌜ r ≡ header.isMetadata (now (bytes .entry)) ⌝ }
+    ensures { λ r. ⌜ r ≡ isMetadata (now (bytes .entry)) ⌝ }
 {
     if bytes.len() < 2 {
         return false;

@@ -10,7 +10,8 @@ use borrow.Author.Needs.{needs}
 use borrow.Author.Tests.{not-true, not-false}
 use Rattle.byte_string.specs.Order.{begins}
 use Rattle.part.specs.Part.{part}
-use Rattle.header.specs.Header.{H, M, codecNone, fieldAt, isMetadata, headerNumbers, headerSaid}
+use Rattle.header.specs.Metadata.{isMetadata}
+use Rattle.header.specs.Header.{H, M, codecNone, fieldAt, headerNumbers, headerSaid}
 use Rattle.header.proofs.RuleLaws.{holdsHeader⁻¹, metadata-within, codec-lent, metadata-lent, fields-codec, fields-total, fields-metadata, fields-good}
 use Rattle.header.proofs.fields.Statement.{statement}
 use Rattle.header.proofs.fields.Tie as tie
