@@ -6,15 +6,14 @@ use native.Mathlib.Numerals.{add-one}
 use native.Mathlib.Omega.{arith}
 use mathlib.Core.Path.{_≡_, refl, sym, ap, _∙_}
 use mathlib.Core.Logic.{_⊎_, inl, inr}
-use mathlib.Core.Bool.{true, false, not, _&&_}
+use mathlib.Core.Bool.{_&&_}
 use mathlib.Core.List.{List, [], _∷_}
-use lib.Dec.{eqb, ltb, leb, leb·zero, leb·suc-zero, leb·suc-suc}
+use lib.Dec.{eqb, leb, leb·zero, leb·suc-zero, leb·suc-suc}
 use lib.ListN.{length, getD, take, drop, drop-of-length-le}
 use lib.Seq.{drop-cons, getD-take}
-use borrow.Author.Tests.{eq-eqb, ne-eqb, lt-ltb, le-ltb}
-use Rattle.byte_string.specs.Order.{order, less, atMost, isLess, isMore, begins, agreeing}
-use Rattle.byte_string.proofs.OrderLaws.{Ways, ways, order-below, order-same, order-above, less-of-lt, nil-atMost}
-use Rattle.byte_string.proofs.OrderLaws.{not-less-of-atMost, atMost-of-not-less, not-atMost-of-less}
+use borrow.Author.Tests.{eq-eqb, ne-eqb}
+use Rattle.byte_string.specs.Order.{order, begins, agreeing}
+use Rattle.byte_string.proofs.OrderLaws.{Ways, ways, order-below, order-same, order-above}
 
 -- A first element on both sides, and on one.
 
@@ -142,45 +141,6 @@ module _ (x y : List ℕ) (n : ℕ) (e : n ≡ agreeing x y) where
       go (inl w) = absurd (omega arith)
       go (inr (inl w)) = absurd (parted h k w)
       go (inr (inr w)) = order-from ∙ rw (drop-cons x n 0 h, drop-cons y n 0 k) (order-above _ _ _ _ w)
-
-  -- nothing comes before what has ended
-  pub less-right-ended : length y ≤ n → less x y ≡ false
-  unfolding less
-  less-right-ended k = ap isLess (order-from ∙ rw (drop-of-length-le y k)) ∙ not-less-of-atMost [] (drop n x) (nil-atMost (drop n x))
-
-  pub less-left-ended : length x ≤ n → n < length y → less x y ≡ true
-  less-left-ended h k = less-of-lt x y (order-left-ended h k)
-
-  -- the elements there decide
-  pub less-parted : n < length x → n < length y → less x y ≡ ltb (getD x n 0) (getD y n 0)
-  unfolding less isLess
-  less-parted h k = go (ways (getD x n 0) (getD y n 0))
-    where
-      go : Ways (getD x n 0) (getD y n 0) → isLess (order x y) ≡ ltb (getD x n 0) (getD y n 0)
-      go (inl w) = rw (order-parted-below h k w, lt-ltb _ _ w)
-      go (inr (inl w)) = absurd (parted h k w)
-      go (inr (inr w)) = rw (order-parted-above h k (omega arith), le-ltb (getD x n 0) (getD y n 0) (omega arith))
-
-module _ (x y : List ℕ) (n : ℕ) (e : n ≡ agreeing x y) where
-  back : n ≡ agreeing y x
-  back = e ∙ agreeing-comm x y
-
-  -- what has ended is at most anything
-  pub atMost-left-ended : length x ≤ n → atMost x y ≡ true
-  atMost-left-ended h = atMost-of-not-less y x (less-right-ended y x n back h)
-
-  pub atMost-right-ended : n < length x → length y ≤ n → atMost x y ≡ false
-  atMost-right-ended h k = not-atMost-of-less y x (less-left-ended y x n back k h)
-
-  -- the elements there decide; they differ
-  pub atMost-parted : n < length x → n < length y → atMost x y ≡ ltb (getD x n 0) (getD y n 0)
-  unfolding atMost isMore
-  atMost-parted h k = go (ways (getD x n 0) (getD y n 0))
-    where
-      go : Ways (getD x n 0) (getD y n 0) → not (isMore (order x y)) ≡ ltb (getD x n 0) (getD y n 0)
-      go (inl w) = rw (order-parted-below x y n e h k w, lt-ltb _ _ w)
-      go (inr (inl w)) = absurd (parted x y n e h k w)
-      go (inr (inr w)) = rw (order-parted-above x y n e h k (omega arith), le-ltb (getD x n 0) (getD y n 0) (omega arith))
 
 -- x begins with p where they agree in all of p
 pub begins-agreeing : (p x : List ℕ) → begins p x ≡ leb (length p) (agreeing p x)

@@ -8,7 +8,7 @@ use mathlib.Core.Path.{_≡_, refl, sym, ap, _∙_}
 use mathlib.Core.Logic.{_⊎_, inl, inr}
 use mathlib.Core.Bool.{Bool, true, false, not, false≢true}
 use mathlib.Core.List.{List, [], _∷_, _++_}
-use Rattle.byte_string.specs.Order.{orElse, order, signed, isLess, isMore, less, atMost}
+use Rattle.byte_string.specs.Order.{orElse, order, isLess, isMore, less, atMost}
 
 -- Three examples, computed.
 
@@ -146,19 +146,6 @@ order-trans x y z Ordering·lt p q = order-trans-lt x y z p q
 order-trans x y z Ordering·eq p q = rw (order-eq x y p) q
 order-trans x y z Ordering·gt p q =
     order-flip z x ∙ ap flip (order-trans-lt z y x (order-flip y z ∙ ap flip q) (order-flip x y ∙ ap flip p))
-
--- the signed number tells the answer
-pub signed-inj : (o p : Ordering) → signed o ≡ signed p → o ≡ p
-unfolding signed
-signed-inj Ordering·lt Ordering·lt e = refl
-signed-inj Ordering·lt Ordering·eq e = cc
-signed-inj Ordering·lt Ordering·gt e = cc
-signed-inj Ordering·eq Ordering·lt e = cc
-signed-inj Ordering·eq Ordering·eq e = refl
-signed-inj Ordering·eq Ordering·gt e = cc
-signed-inj Ordering·gt Ordering·lt e = cc
-signed-inj Ordering·gt Ordering·eq e = cc
-signed-inj Ordering·gt Ordering·gt e = refl
 
 -- `less` and `atMost`, each by the other.
 

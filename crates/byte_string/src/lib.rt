@@ -1,7 +1,7 @@
 // The order of byte strings: unsigned bytes, a proper beginning first.
 //
-// `compare` gives the three-way answer. `at_most`, `less` and `begins_with` are the questions that callers ask, as bools.
-// All four rest on one loop, which finds where two byte strings part.
+// `compare` gives the three-way answer; `less` and `at_most` read theirs off it, so every comparison goes through `compare`.
+// `compare` and `begins_with` rest on one loop, which finds where two byte strings part.
 ghost use mathlib.Core.Path.{_≡_};
 ghost use Rattle.byte_string.specs.Order.{order, signed, less, atMost, begins, agreeing};
 
@@ -46,21 +46,14 @@ pub fn compare(x: &[u8], y: &[u8]) -> i8
 pub fn less(x: &[u8], y: &[u8]) -> bool
     ensures { λ r. ⌜ r ≡ less (now (x .entry)) (now (y .entry)) ⌝ }
 {
-    let n = agreement(x, y);
-    if y.len() <= n {
-        return false;
-    }
-    if x.len() <= n {
-        return true;
-    }
-    x[n] < y[n]
+    compare(x, y) < 0
 }
 
 // Whether x comes before y or equals it.
 pub fn at_most(x: &[u8], y: &[u8]) -> bool
     ensures { λ r. ⌜ r ≡ atMost (now (x .entry)) (now (y .entry)) ⌝ }
 {
-    !less(y, x)
+    compare(x, y) <= 0
 }
 
 // Whether x begins with p.

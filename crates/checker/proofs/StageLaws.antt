@@ -13,7 +13,7 @@ use Rattle.outcome.proofs.OutcomeLaws.{after-answer, after-refused, after-assoc
 use Rattle.lists.proofs.ListsLaws.{any-member, both⁻¹}
 use Rattle.header.specs.declared.Header.{Header}
 use Rattle.header.specs.Header.{headerOf, blocksFrom}
-use Rattle.header.proofs.HeaderLaws.{is-header}
+use Rattle.header.proofs.HeaderLaws.{is-header, blocks-from}
 use Rattle.block.specs.Block.{Block, isOrdinary, blocksAt}
 use Rattle.block.specs.Survey.{ordinary, isRoot}
 use Rattle.outcome.specs.declared.Refusal.{Refusal}
@@ -43,7 +43,7 @@ fault-some f h = rw (ne-eqb (f .number) 0 h)
 module _ (file : List ℕ) (h : Header) (bs : List Block) (header : headerOf file ≡ answer h) (read : blocksAt file (blocksFrom h) ≡ answer bs) (root : hasRoot h bs ≡ true) where
   -- where 19 and 20 pass too, the walk is ready
   pub ready : namingOf bs (h .root) ≡ answer tt → Ready file (blocksFrom h) (h .root) bs
-  unfolding namingOf hasRoot isRoot isOrdinary blocksFrom
+  unfolding namingOf hasRoot isRoot isOrdinary
   ready e =
       let named = passed⁻¹ (each (entriesFit bs) 19 (ordinary bs)) _ tt e in
       let top = any-member (λ b. isRoot (h .root) (h .rootsize) (b .frame)) bs root in
@@ -52,7 +52,7 @@ module _ (file : List ℕ) (h : Header) (bs : List Block) (header : headerOf fil
       let levels = both⁻¹ (leb 1 (f .level)) (leb (f .level) 63) (parts .1) in
       record {
         short = is-header file h header .small;
-        behind = omega arith;
+        behind = omega (arith, blocks-from file h header);
         read = read;
         top = top .0;
         top-member = top .1;

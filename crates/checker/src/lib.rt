@@ -67,7 +67,7 @@ fn check_blocks(file: &[u8], h: Header, work: &mut [u64]) -> Checked
     requires { ⌜ headerOf (now file) ≡ answer h ⌝ }
     ensures { λ r. ⌜ r ≡ checkAnswer (checkOf (now (file .entry)) (length (now (work .entry)))) ⌝ }
 {
-    let from = Header::AROUND + h.extent as usize;
+    let from = h.blocks;
     let stage = survey(file, from, h.root, h.rootsize);
     match stage {
         SurveyOutcome::Refused { number, place } => refusal(number, place as u64),
@@ -98,7 +98,7 @@ fn tree_fault(file: &[u8], h: Header, blocks: usize, work: &mut [u64]) -> Refusa
     requires { ⌜ headerOf (now file) ≡ answer h ⌝ }
     ensures { λ r. ⌜ ((bs : List Block) → blocksAt (now (file .entry)) (blocksFrom h) ≡ answer bs → hasRoot h bs ≡ true → length (ordinary bs) ≡ blocks → blocks ≤ length (now (work .entry)) → refusalOf r ≡ treeOf (now (file .entry)) h bs) ⌝ }
 {
-    let from = Header::AROUND + h.extent as usize;
+    let from = h.blocks;
     let fault = naming_fault(file, from, h.root, blocks, work);
     if fault.number != 0 {
         return fault;

@@ -1,6 +1,6 @@
 -- Laws of the CRC-64 register and checksum.
 -- Assumes nothing.
-use mathlib.Core.Path.{_≡_, refl, sym}
+use mathlib.Core.Path.{_≡_, refl, sym, ap, _∙_}
 use mathlib.Core.List.{List, [], _∷_, _++_}
 use Prim.Native.Nat.{ℕ, zero, suc, _+_, _-_, _*_, _/_, _%_, _^_, _≤_, _<_, suc-le-suc}
 use native.Mathlib.Nat.{sub-zero, zero-mul}
@@ -10,7 +10,7 @@ use lib.Bits.{bitXor, xor-lt, xor-zero-r}
 use lib.Dec.{lit<}
 use lib.ListN.{length, getD, take, drop, take-append-drop}
 use lib.Seq.{take-suc, take-all}
-use Rattle.crc64.specs.Crc64.{reversed, polynomial, allOnes, bitStep, bitSteps, byteStep, register, crc64}
+use Rattle.crc64.specs.Crc64.{reversed, polynomial, allOnes, bitStep, bitSteps, byteStep, registerStart, register, crcOf, crc64}
 
 -- ---- the constants
 
@@ -80,26 +80,37 @@ register-take r s i h = rw (add-one i, take-suc s i 0, register-append)
 pub register-split : (r : ℕ) (s : List ℕ) (i : ℕ) → register r s ≡ register (register r (take i s)) (drop i s)
 register-split r s i = rw (← register-append, take-append-drop)
 
+-- the checksum of two strings joined: the register that the first leaves goes on through the second
+pub crc64-append : (s t : List ℕ) → crc64 (s ++ t) ≡ crcOf (register (register registerStart s) t)
+unfolding crc64
+crc64-append s t = ap crcOf (register-append registerStart s t)
+
 -- ---- the loop over the bytes
 
--- r is the register with the first i bytes of s gone in
-pub record Taken (s : List ℕ) (i r : ℕ) : Type 0 where
+-- r is the register `start` with the first i bytes of s gone in
+pub record Taken (start : ℕ) (s : List ℕ) (i r : ℕ) : Type 0 where
   pub within : i ≤ length s
-  pub holds : r ≡ register allOnes (take i s)
+  pub holds : r ≡ register start (take i s)
 
 -- at first no byte has gone in
-pub taken-none : (s : List ℕ) → Taken s 0 0xffff_ffff_ffff_ffff
-unfolding register allOnes
-taken-none s = record { within = omega arith; holds = refl }
+pub taken-none : (start : ℕ) (s : List ℕ) (i r : ℕ) → i ≡ 0 → r ≡ start → Taken start s i r
+unfolding register
+taken-none start s i r e h = record { within = omega arith; holds = rw (e, h) }
 
 -- the next byte goes in
-pub taken-more : (s : List ℕ) (i r next : ℕ) → Taken s i r → i < length s → next ≡ byteStep r (getD s i 0) → Taken s (i + 1) next
-taken-more s i r next done h e = record { within = omega arith; holds = rw (e, done .holds) (sym (register-take allOnes s i h)) }
+pub taken-more : (start : ℕ) (s : List ℕ) (i r next : ℕ) → Taken start s i r → i < length s → next ≡ byteStep r (getD s i 0) → Taken start s (i + 1) next
+taken-more start s i r next done h e = record { within = omega arith; holds = rw (e, done .holds) (sym (register-take start s i h)) }
 
--- with all bytes gone in, the register under the final mask is the checksum
-pub taken-all : (s : List ℕ) (i r : ℕ) → Taken s i r → length s ≤ i → bitXor r 0xffff_ffff_ffff_ffff ≡ crc64 s
+-- with all bytes gone in, the register is the one after the string
+pub taken-all : (start : ℕ) (s : List ℕ) (i r : ℕ) → Taken start s i r → length s ≤ i → r ≡ register start s
+taken-all start s i r done h = done .holds ∙ rw (take-all i s h)
+
+-- ---- the three steps of the checksum
+
+-- begun, absorbed and finished is the checksum
+pub crc64-of : (s : List ℕ) (start r c : ℕ) → start ≡ registerStart → r ≡ register start s → c ≡ crcOf r → c ≡ crc64 s
 unfolding crc64
-taken-all s i r done h = rw (done .holds, take-all i s h, allOnes-value)
+crc64-of s start r c begun absorbed finished = rw (finished, absorbed, begun)
 
 -- ---- bounds
 
@@ -132,7 +143,7 @@ register-lt r (b ∷ s) h bytes =
 
 -- the checksum of a string of bytes fits 64 bits
 pub crc64-lt : (s : List ℕ) → ((k : ℕ) → k < length s → getD s k 0 < 256) → crc64 s < 2 ^ 64
-unfolding crc64
+unfolding crc64 crcOf registerStart
 crc64-lt s bytes = xor-lt 64 (register allOnes s) allOnes (register-lt allOnes s ones bytes) ones
   where
     ones : allOnes < 2 ^ 64
@@ -142,5 +153,5 @@ crc64-lt s bytes = xor-lt 64 (register allOnes s) allOnes (register-lt allOnes s
 
 -- the published check value: the checksum of the nine digits "123456789" is 995dc9bbdf1939fa hex
 pub crc64-check : crc64 (0x31 ∷ 0x32 ∷ 0x33 ∷ 0x34 ∷ 0x35 ∷ 0x36 ∷ 0x37 ∷ 0x38 ∷ 0x39 ∷ []) ≡ 0x995d_c9bb_df19_39fa
-unfolding crc64 register byteStep bitSteps bitStep polynomial reversed allOnes
+unfolding crc64 crcOf registerStart register byteStep bitSteps bitStep polynomial reversed allOnes
 crc64-check = refl

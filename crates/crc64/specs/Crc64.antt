@@ -30,11 +30,19 @@ bitSteps (suc n) r = bitSteps n (bitStep r)
 unfoldable pub byteStep : ℕ → ℕ → ℕ
 byteStep r b = bitSteps 8 (bitXor r b)
 
--- the register after a byte string
+-- before the first byte
+unfoldable pub registerStart : ℕ
+registerStart = allOnes
+
+-- the register after a byte string, from any register
 unfoldable pub register : ℕ → List ℕ → ℕ
 register r [] = r
 register r (b ∷ s) = register (byteStep r b) s
 
+-- the CRC that a register gives
+unfoldable pub crcOf : ℕ → ℕ
+crcOf r = bitXor r allOnes
+
 -- the CRC of a byte string
 unfoldable pub crc64 : List ℕ → ℕ
-crc64 s = bitXor (register allOnes s) allOnes
+crc64 s = crcOf (register registerStart s)

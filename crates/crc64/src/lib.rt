@@ -1,14 +1,18 @@
-// The CRC-64 checksum of a byte string, a bit at a time.
+// CRC-64 of a byte string that comes in pieces: begin, absorb any number of slices, finish. `checksum` is all three in one.
+//
+// The register is a number, and every function is total, on any register; the law `register-append` says that pieces
+// absorbed one after the other give what they give joined.
 ghost use mathlib.Core.Path.{_≡_};
-ghost use Rattle.crc64.specs.Crc64.{byteStep, crc64};
+ghost use Rattle.crc64.specs.Crc64.{byteStep, registerStart, crcOf, crc64};
+ghost use Rattle.crc64.specs.Crc64 as crc;
 
 // The polynomial 42f0e1eba9ea3693 hex with its 64 bits in reverse order.
 const POLYNOMIAL: u64 = 0xc96c_5795_d787_0f42;
 
 const ALL_ONES: u64 = 0xffff_ffff_ffff_ffff;
 
-// The register after one byte more. The choice is an `if` and no product: in this form the compiler makes the eight turns
-// one lookup in a table.
+// The register after one byte more. The choice is an `if` and no product: in this form the compiler replaces the eight
+// turns by one lookup in a table of 256 numbers, as the machine code shows.
 fn byte_step(register: u64, b: u8) -> u64
     ensures { λ r. ⌜ r ≡ byteStep register b ⌝ }
 {
@@ -25,15 +29,36 @@ fn byte_step(register: u64, b: u8) -> u64
     r
 }
 
-// The CRC of the bytes.
-pub fn checksum(bytes: &[u8]) -> u64
-    ensures { λ r. ⌜ r ≡ crc64 (now (bytes .entry)) ⌝ }
+// The register before the first byte.
+pub fn begin() -> u64
+    ensures { λ r. ⌜ r ≡ registerStart ⌝ }
 {
-    let mut r = ALL_ONES;
+    ALL_ONES
+}
+
+// The register after a piece more.
+pub fn absorb(register: u64, bytes: &[u8]) -> u64
+    ensures { λ r. ⌜ r ≡ crc.register register (now (bytes .entry)) ⌝ }
+{
+    let mut r = register;
     let mut i = 0;
     while i < bytes.len() {
         r = byte_step(r, bytes[i]);
         i += 1;
     }
-    r ^ ALL_ONES
+    r
+}
+
+// The CRC that a register gives.
+pub fn finish(register: u64) -> u64
+    ensures { λ r. ⌜ r ≡ crcOf register ⌝ }
+{
+    register ^ ALL_ONES
+}
+
+// The CRC of the bytes.
+pub fn checksum(bytes: &[u8]) -> u64
+    ensures { λ r. ⌜ r ≡ crc64 (now (bytes .entry)) ⌝ }
+{
+    finish(absorb(begin(), bytes))
 }

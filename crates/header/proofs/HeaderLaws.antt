@@ -1,4 +1,4 @@
--- Laws of the header for its callers: what an accepted header says, that it depends on nothing behind it, and which
+-- Laws of the header for its callers: what an accepted header says, that it depends on nothing after it, and which
 -- refusals there are.
 -- Assumes nothing.
 use mathlib.Core.Path.{_≡_, refl, sym, ap, _∙_}
@@ -18,8 +18,10 @@ use Rattle.outcome.proofs.OutcomeLaws.{kept, broken, kept⁻¹, answer-injectiv
 use Rattle.part.proofs.PartLaws.{drop-take, part-take}
 use Rattle.header.specs.declared.Header.{Header}
 use Rattle.header.specs.declared.HeaderOutcome.the-variants.{Answer as Good, Refused as Bad}
-use Rattle.header.specs.Header.{magic, unfinishedMagic, codecNone, fieldAt, isMetadata, H, M, headerCrcRight, fieldsOf, headerOf, blocksFrom, headerSaid}
-use Rattle.header.proofs.RuleLaws.{holdsHeader⁻¹, holdsHeader-of, holdsMetadata⁻¹, holdsMetadata-of, numbersOf, fields-good, header-fields}
+use Rattle.header.specs.Metadata.{Metadata}
+use Rattle.header.specs.Header.{magic, unfinishedMagic, codecNone, fieldAt, H, M, headerCrcRight, headerNumbers, fieldsOf, headerOf, blocksFrom, headerSaid}
+use Rattle.header.proofs.MetadataLaws.{isMetadata⇒Metadata, Metadata⇒isMetadata}
+use Rattle.header.proofs.RuleLaws.{holdsHeader⁻¹, holdsHeader-of, holdsMetadata⁻¹, holdsMetadata-of, fields-good, header-fields}
 
 -- ---- what an answer of `Header::read` says
 
@@ -45,21 +47,21 @@ pub record IsHeader (file : List ℕ) (h : Header) : Type 0 where
   pub room : M file ≤ H file - 80
   pub codec : begins codecNone (drop 72 file) ≡ true
   pub total : fieldAt file 32 ≡ length file
-  pub metadata-rule : isMetadata (part file 96 (M file)) ≡ true
-  pub is-extent : h .extent ≡ H file
+  pub metadata-rule : Metadata (part file 96 (M file))
+  pub is-blocks : h .blocks ≡ 24 + H file
   pub is-root : h .root ≡ fieldAt file 16
   pub is-rootsize : h .rootsize ≡ fieldAt file 24
   pub is-metadata : h .metadata ≡ M file
 
 -- a header is its four numbers
-same-numbers : (file : List ℕ) (h : Header) → h .extent ≡ H file → h .root ≡ fieldAt file 16 → h .rootsize ≡ fieldAt file 24 → h .metadata ≡ M file
-    → numbersOf file ≡ h
-unfolding numbersOf
+same-numbers : (file : List ℕ) (h : Header) → h .blocks ≡ 24 + H file → h .root ≡ fieldAt file 16 → h .rootsize ≡ fieldAt file 24 → h .metadata ≡ M file
+    → headerNumbers file ≡ h
+unfolding headerNumbers
 same-numbers file h e r s m = rw (← e, ← r, ← s, ← m)
 
 -- an accepted header taken apart
 pub is-header : (file : List ℕ) (h : Header) → headerOf file ≡ answer h → IsHeader file h
-unfolding headerOf fieldsOf
+unfolding headerOf fieldsOf headerNumbers
 is-header file h e =
     let a = kept⁻¹ _ _ _ _ h e in
     let b = kept⁻¹ _ _ _ _ h (a .1) in
@@ -84,8 +86,8 @@ is-header file h e =
       room = room .1;
       codec = i .0;
       total = eqb-true (fieldAt file 32) (length file) (j .0);
-      metadata-rule = k .0;
-      is-extent = sym (ap (λ (x : Header). x .extent) n);
+      metadata-rule = isMetadata⇒Metadata (part file 96 (M file)) (k .0);
+      is-blocks = sym (ap (λ (x : Header). x .blocks) n);
       is-root = sym (ap (λ (x : Header). x .root) n);
       is-rootsize = sym (ap (λ (x : Header). x .rootsize) n);
       is-metadata = sym (ap (λ (x : Header). x .metadata) n);
@@ -96,19 +98,19 @@ pub header-is : (file : List ℕ) (h : Header) → IsHeader file h → headerOf 
 header-is file h i =
     header-fields file (record { small = i .small; finished = i .finished; opens = i .opens })
     (holdsHeader-of file (i .long) (i .whole)) (i .crc) (holdsMetadata-of file (i .fields) (i .room)) ∙
-    fields-good file (i .codec) (i .total) (i .metadata-rule) ∙
-    ap answer (same-numbers file h (i .is-extent) (i .is-root) (i .is-rootsize) (i .is-metadata))
+    fields-good file (i .codec) (i .total) (Metadata⇒isMetadata (part file 96 (M file)) (i .metadata-rule)) ∙
+    ap answer (same-numbers file h (i .is-blocks) (i .is-root) (i .is-rootsize) (i .is-metadata))
 
--- ---- the blocks begin behind the header data and their CRC, within the file
+-- ---- the blocks begin after the header data and their CRC, within the file
 
 pub blocks-from : (file : List ℕ) (h : Header) → headerOf file ≡ answer h → blocksFrom h ≡ 24 + H file
 unfolding blocksFrom
-blocks-from file h e = ap (_+_ 24) (is-header file h e .is-extent)
+blocks-from file h e = is-header file h e .is-blocks
 
 pub blocks-within : (file : List ℕ) (h : Header) → headerOf file ≡ answer h → blocksFrom h ≤ length file
 blocks-within file h e = rw (blocks-from file h e) (is-header file h e .whole)
 
--- ---- the header depends on nothing behind it
+-- ---- the header depends on nothing after it
 
 -- whether a list begins with p is seen in a front that is as long as p
 pub begins-front : (p s : List ℕ) (n : ℕ) → length p ≤ n → begins p (take n s) ≡ begins p s
@@ -132,25 +134,25 @@ module _ (file t : List ℕ) (end : ℕ) (same : take end t ≡ take end file) w
       cut : take (end - at) (drop at t) ≡ take (end - at) (drop at file)
       cut = sym (drop-take at end t) ∙ ap (drop at) same ∙ drop-take at end file
 
-  pub numberAt-same : (at : ℕ) → at + 8 ≤ end → fieldAt t at ≡ fieldAt file at
+  pub fieldAt-same : (at : ℕ) → at + 8 ≤ end → fieldAt t at ≡ fieldAt file at
   unfolding fieldAt
-  numberAt-same at h = ap littleEndian (part-same at 8 h)
+  fieldAt-same at h = ap littleEndian (part-same at 8 h)
 
   pub H-same : 16 ≤ end → H t ≡ H file
   unfolding H
-  H-same h = numberAt-same 8 h
+  H-same h = fieldAt-same 8 h
 
   pub M-same : 96 ≤ end → M t ≡ M file
   unfolding M
-  M-same h = numberAt-same 88 h
+  M-same h = fieldAt-same 88 h
 
   pub headerCrcRight-same : 24 + H file ≤ end → headerCrcRight t ≡ headerCrcRight file
   unfolding headerCrcRight
   headerCrcRight-same h =
-      rw (H-same (omega arith), numberAt-same (16 + H file) (omega arith), part-same 16 (H file) (omega arith))
+      rw (H-same (omega arith), fieldAt-same (16 + H file) (omega arith), part-same 16 (H file) (omega arith))
 
-  pub isMetadata-same : 96 + M file ≤ end → isMetadata (part t 96 (M t)) ≡ isMetadata (part file 96 (M file))
-  isMetadata-same h = ap isMetadata (ap (part t 96) (M-same (omega arith)) ∙ part-same 96 (M file) h)
+  pub metadata-same : 96 + M file ≤ end → part t 96 (M t) ≡ part file 96 (M file)
+  metadata-same h = ap (part t 96) (M-same (omega arith)) ∙ part-same 96 (M file) h
 
 -- a file of the same length with the same bytes up to the first block has the same header
 pub header-local : (file t : List ℕ) (h : Header) → headerOf file ≡ answer h → length t ≡ length file
@@ -174,11 +176,11 @@ header-local file t h e long same = header-is t h (moved (is-header file h e))
           fields = rw extent (i .fields);
           room = rw (extent, metadata) (i .room);
           codec = begins-same file t end same codecNone 72 (omega arith) ∙ i .codec;
-          total = numberAt-same file t end same 32 (omega arith) ∙ i .total ∙ sym long;
-          metadata-rule = isMetadata-same file t end same (let r = i .room in omega arith) ∙ i .metadata-rule;
-          is-extent = i .is-extent ∙ sym extent;
-          is-root = i .is-root ∙ sym (numberAt-same file t end same 16 (omega arith));
-          is-rootsize = i .is-rootsize ∙ sym (numberAt-same file t end same 24 (omega arith));
+          total = fieldAt-same file t end same 32 (omega arith) ∙ i .total ∙ sym long;
+          metadata-rule = rw (metadata-same file t end same (let r = i .room in omega arith)) (i .metadata-rule);
+          is-blocks = i .is-blocks ∙ ap (_+_ 24) (sym extent);
+          is-root = i .is-root ∙ sym (fieldAt-same file t end same 16 (omega arith));
+          is-rootsize = i .is-rootsize ∙ sym (fieldAt-same file t end same 24 (omega arith));
           is-metadata = i .is-metadata ∙ sym metadata;
         }
 

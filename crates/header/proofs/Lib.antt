@@ -1,3 +1,4 @@
 -- The laws of the header.
+pub mod MetadataLaws
 pub mod RuleLaws
 pub mod HeaderLaws

@@ -7,7 +7,7 @@ use Prim.Native.Nat.{ℕ, _+_, _-_, _^_, _≤_, _<_}
 use native.Mathlib.Nat.{add-sub-cancel-left}
 use native.Mathlib.Omega.{arith}
 use lib.Dec.{leb, eqb}
-use lib.ListN.{length, take, drop, getD, length-drop}
+use lib.ListN.{length, take, drop, length-drop}
 use lib.Seq.{take-all}
 use borrow.Author.Tests.{leb-true, leb-false, le-leb, lt-leb, eq-eqb, ne-eqb}
 use Rattle.byte_string.specs.Order.{begins}
@@ -15,8 +15,10 @@ use Rattle.endian.specs.FixedWidth.{littleEndian}
 use Rattle.crc64.specs.Crc64.{crc64}
 use Rattle.outcome.specs.Outcome.{answer, refused, _>>_, must}
 use Rattle.part.specs.Part.{part}
-use Rattle.header.specs.declared.Header.{Header}
-use Rattle.header.specs.Header.{magic, unfinishedMagic, codecNone, fieldAt, isMetadata, H, M, holdsHeader, headerCrcRight, holdsMetadata, fieldsOf, headerOf}
+use Rattle.header.specs.Metadata.{isMetadata}
+use Rattle.header.specs.Header.{magic, unfinishedMagic, codecNone, fieldAt, H, M, holdsHeader, headerCrcRight, holdsMetadata, headerNumbers, fieldsOf, headerOf}
+-- the name under which the theorems cite it
+unfoldable pub use Rattle.header.specs.Header.{headerNumbers as numbersOf}
 
 -- ---- tests
 
@@ -36,23 +38,6 @@ leb-both⁻¹ a b c d e =
 
 leb-both : (a b c d : ℕ) → a ≤ b → c ≤ d → (leb a b && leb c d) ≡ true
 leb-both a b c d h k = rw (le-leb a b h, le-leb c d k)
-
--- ---- the metadata rule
-
--- fewer than two bytes
-pub metadata-short : (m : List ℕ) → length m < 2 → isMetadata m ≡ false
-unfolding isMetadata
-metadata-short m few = rw (lt-leb 2 (length m) few)
-
--- the first byte is not `{`
-pub metadata-unopened : (m : List ℕ) → 2 ≤ length m → (getD m 0 0 ≡ 0x7b → ⊥) → isMetadata m ≡ false
-unfolding isMetadata
-metadata-unopened m enough other = rw (le-leb 2 (length m) enough, ne-eqb (getD m 0 0) 0x7b other)
-
--- otherwise the last byte decides
-pub metadata-opened : (m : List ℕ) → 2 ≤ length m → getD m 0 0 ≡ 0x7b → isMetadata m ≡ eqb (getD m (length m - 1) 0) 0x7d
-unfolding isMetadata
-metadata-opened m enough first = rw (le-leb 2 (length m) enough, eq-eqb (getD m 0 0) 0x7b first)
 
 -- ---- the header data within the file
 
@@ -107,7 +92,7 @@ metadata-within file held room =
 
 -- ---- the CRC
 
--- the number behind the header data is compared with the CRC of the data, which are lent
+-- the number after the header data is compared with the CRC of the data, which are lent
 pub headerCrcRight-by : (file : List ℕ) (h : ℕ) → h ≡ H file
     → headerCrcRight file ≡ eqb (littleEndian (take 8 (drop (16 + h) file))) (crc64 (take (16 + h - 16) (drop 16 file)))
 unfolding headerCrcRight fieldAt part
@@ -123,10 +108,6 @@ codec-lent file = ap (begins codecNone) (take-all (length file - 72) (drop 72 fi
 pub metadata-lent : (file : List ℕ) (m : ℕ) → m ≡ M file → isMetadata (take (96 + m - 96) (drop 96 file)) ≡ isMetadata (part file 96 (M file))
 unfolding part
 metadata-lent file m e = rw (add-sub-cancel-left, e)
-
--- the numbers of a file
-unfoldable pub numbersOf : List ℕ → Header
-numbersOf file = record { extent = H file; root = fieldAt file 16; rootsize = fieldAt file 24; metadata = M file }
 
 -- refusal 7: another codec
 pub fields-codec : (file : List ℕ) → begins codecNone (drop 72 file) ≡ false → fieldsOf file ≡ refused 7 0
@@ -146,8 +127,8 @@ fields-metadata file codec total broken = rw (codec, eq-eqb (fieldAt file 32) (l
 
 -- otherwise the numbers
 pub fields-good : (file : List ℕ) → begins codecNone (drop 72 file) ≡ true → fieldAt file 32 ≡ length file
-    → isMetadata (part file 96 (M file)) ≡ true → fieldsOf file ≡ answer (numbersOf file)
-unfolding fieldsOf must _>>_ numbersOf
+    → isMetadata (part file 96 (M file)) ≡ true → fieldsOf file ≡ answer (headerNumbers file)
+unfolding fieldsOf must _>>_
 fields-good file codec total kept = rw (codec, eq-eqb (fieldAt file 32) (length file) total, kept)
 
 -- ---- refusals 1 to 6

@@ -3,12 +3,13 @@ use Prim.Native.Nat.{ℕ, _+_, _-_, _^_}
 use mathlib.Core.Bool.{Bool, not, _&&_}
 use mathlib.Core.List.{List, [], _∷_}
 use lib.Dec.{leb, eqb}
-use lib.ListN.{length, drop, getD, replicate}
+use lib.ListN.{length, drop, replicate}
 use Rattle.byte_string.specs.Order.{begins}
 use Rattle.endian.specs.FixedWidth.{littleEndian}
 use Rattle.crc64.specs.Crc64.{crc64}
 use Rattle.outcome.specs.Outcome.{Outcome, answer, refused, _>>_, must}
 use Rattle.part.specs.Part.{part}
+use Rattle.header.specs.Metadata.{isMetadata}
 use Rattle.header.specs.declared.Header.{Header}
 use Rattle.header.specs.declared.HeaderOutcome.{HeaderOutcome}
 use Rattle.header.specs.declared.HeaderOutcome.the-variants.{Answer as Good, Refused as Bad}
@@ -28,10 +29,6 @@ codecNone = 0x6e ∷ 0x6f ∷ 0x6e ∷ 0x65 ∷ replicate 12 0
 unfoldable pub fieldAt : List ℕ → ℕ → ℕ
 fieldAt file at = littleEndian (part file at 8)
 
--- the metadata rule: at least two bytes, the first `{`, the last `}`
-unfoldable pub isMetadata : List ℕ → Bool
-isMetadata m = leb 2 (length m) && (eqb (getD m 0 0) 0x7b && eqb (getD m (length m - 1) 0) 0x7d)
-
 -- H, the length of the header data, and M, the length of the metadata
 unfoldable pub H : List ℕ → ℕ
 H file = fieldAt file 8
@@ -50,13 +47,17 @@ headerCrcRight file = eqb (fieldAt file (16 + H file)) (crc64 (part file 16 (H f
 unfoldable pub holdsMetadata : List ℕ → Bool
 holdsMetadata file = leb 80 (H file) && leb (M file) (H file - 80)
 
+-- the numbers of the header; the blocks begin at 24 + H
+unfoldable pub headerNumbers : List ℕ → Header
+headerNumbers file = record { blocks = 24 + H file; root = fieldAt file 16; rootsize = fieldAt file 24; metadata = M file }
+
 -- the header, or the first of the refusals 7 to 9
 unfoldable pub fieldsOf : List ℕ → Outcome Header
 fieldsOf file = do
   must (begins codecNone (drop 72 file)) 7 0
   must (eqb (fieldAt file 32) (length file)) 8 0
   must (isMetadata (part file 96 (M file))) 9 0
-  answer (record { extent = H file; root = fieldAt file 16; rootsize = fieldAt file 24; metadata = M file })
+  answer (headerNumbers file)
 
 -- the header, or the first of the refusals 1 to 9
 unfoldable pub headerOf : List ℕ → Outcome Header
@@ -69,9 +70,9 @@ headerOf file = do
   must (holdsMetadata file) 6 0
   fieldsOf file
 
--- where the blocks begin: 24 + H
+-- where the blocks begin
 unfoldable pub blocksFrom : Header → ℕ
-blocksFrom h = 24 + h .extent
+blocksFrom h = h .blocks
 
 -- what an answer of `Header::read` says
 unfoldable pub headerSaid : HeaderOutcome → Outcome Header

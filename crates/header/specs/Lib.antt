@@ -1,2 +1,3 @@
 -- The meaning of the header.
+pub mod Metadata
 pub mod Header

@@ -2,11 +2,12 @@
 ghost use mathlib.Core.Path.{_≡_};
 ghost use mathlib.Core.Bool.{true};
 ghost use Rattle.header.specs.Header as header;
+ghost use Rattle.header.specs.Metadata.{isMetadata};
 
 // The numbers of a header. The hash, the codec and the metadata are read at their offsets.
 pub struct Header {
-    // The length of the header data (the paper's H).
-    pub extent: u64,
+    // Where the blocks begin: 24 + H.
+    pub blocks: usize,
     // The offset of the root block.
     pub root: u64,
     // The full size of the root block.
@@ -83,7 +84,7 @@ fn holds_header(file: &[u8]) -> bool
     endian::le64_at(file, Header::EXTENT_AT) <= (file.len() - Header::AROUND) as u64
 }
 
-// Whether the CRC behind the header data is theirs.
+// Whether the CRC after the header data is theirs.
 fn crc_right(file: &[u8]) -> bool
     requires { ⌜ header.holdsHeader (now file) ≡ true ⌝ }
     ensures { λ r. ⌜ r ≡ header.headerCrcRight (now (file .entry)) ⌝ }
@@ -105,7 +106,7 @@ fn holds_metadata(file: &[u8]) -> bool
 
 // The metadata rule: at least two bytes, the first `{`, the last `}`.
 pub fn is_metadata(bytes: &[u8]) -> bool
-    ensures { λ r. ⌜ r ≡ header.isMetadata (now (bytes .entry)) ⌝ }
+    ensures { λ r. ⌜ r ≡ isMetadata (now (bytes .entry)) ⌝ }
 {
     if bytes.len() < 2 {
         return false;
@@ -132,8 +133,9 @@ fn fields(file: &[u8]) -> HeaderOutcome
     if !is_metadata(&file[Header::METADATA_AT..end]) {
         return HeaderOutcome::Refused(9);
     }
+    let blocks = Header::AROUND + endian::le64_at(file, Header::EXTENT_AT) as usize;
     HeaderOutcome::Answer(Header {
-        extent: endian::le64_at(file, Header::EXTENT_AT),
+        blocks,
         root: endian::le64_at(file, Header::ROOT_AT),
         rootsize: endian::le64_at(file, Header::ROOT_SIZE_AT),
         metadata,

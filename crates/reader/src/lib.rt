@@ -67,7 +67,7 @@ fn read_blocks(
     ensures { λ r. ⌜ r ≡ readAnswer (readBlocks (now (file .entry)) (queryOf (now (start .entry)) «stop_given» (now (stop .entry)) (now (prefix .entry))) (length (now (results .entry))) h) ⌝ }
     ensures { λ r. ⌜ now (results .exit) ≡ readList (length (now (results .entry))) (readBlocks (now (file .entry)) (queryOf (now (start .entry)) «stop_given» (now (stop .entry)) (now (prefix .entry))) (length (now (results .entry))) h) ⌝ }
 {
-    let from = Header::AROUND + h.extent as usize;
+    let from = h.blocks;
     let stage = survey(file, from, h.root, h.rootsize);
     match stage {
         SurveyOutcome::Refused { number, place } => refusal(number, place as u64),

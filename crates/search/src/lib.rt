@@ -114,7 +114,7 @@ fn search_tree(
     requires { ⌜ (length (now file) ≤ 2 ^ 30) × (blocksFrom h ≤ length (now file)) × (now opened ≡ zeros (length (now opened))) × (now results ≡ zeros (length (now results))) ⌝ }
     ensures { λ r. ⌜ Reaches r (now (opened .exit)) (now (results .exit)) (walkFrom (now (file .entry)) (queryOf (now (start .entry)) «stop_given» (now (stop .entry)) (now (prefix .entry))) (length (now (opened .entry))) (length (now (results .entry))) (blocksFrom h) (h .root) (h .rootsize)) ⌝ }
 {
-    let from = Header::AROUND + h.extent as usize;
+    let from = h.blocks;
     let root = open(file, from, 17, 0, 1, 63, h.root, h.rootsize, opened, 0);
     match root {
         OpenOutcome::Refused { number, place } => WalkOutcome::Refused { number, place },

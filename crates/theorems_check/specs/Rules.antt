@@ -13,6 +13,7 @@ use Rattle.uleb128.specs.Number.{number, reading}
 use Rattle.crc64.specs.Crc64.{crc64}
 use Rattle.sha256.specs.Sha256.{sha256}
 use Rattle.part.specs.Part.{part}
+use Rattle.header.specs.Metadata.{Metadata}
 use Rattle.header.specs.Header.{magic, codecNone, fieldAt, H, M}
 use Rattle.framing.specs.declared.Frame.{Frame}
 use Rattle.payload.specs.Payload.{Text, Entry}
@@ -97,9 +98,7 @@ pub record HeaderRules (file : List ℕ) : Type 0 where
   pub checked : fieldAt file (16 + H file) ≡ crc64 (part file 16 (H file))
   pub codec : part file 72 16 ≡ codecNone
   pub total : fieldAt file 32 ≡ length file
-  pub metadata-long : 2 ≤ M file
-  pub metadata-opens : getD file 96 0 ≡ 0x7b
-  pub metadata-closes : getD file (95 + M file) 0 ≡ 0x7d
+  pub metadata : Metadata (part file 96 (M file))
 
 -- the rules of the tree, for the file's blocks in file order
 pub record TreeRules (file : List ℕ) (bs : List Block) : Type 0 where

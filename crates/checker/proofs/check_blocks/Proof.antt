@@ -1,24 +1,14 @@
 -- `check_blocks` meets its contract: each way out is one law of `CheckLaws`. Assumes nothing.
 use mathlib.Core.Path.{sym, ap, _∙_}
-use native.Mathlib.Omega.{arith}
 use borrow.Author.Needs.{needs}
 use borrow.Author.Tests.{not-true, not-false}
 use denote.Ref.{now}
 use lib.ListN.{length}
 use Rattle.header.specs.Header.{blocksFrom}
-use Rattle.header.proofs.HeaderLaws.{blocks-within}
 use Rattle.block.specs.Answers.{surveySaid}
 use Rattle.checker.proofs.CheckLaws.{told-unsound, told-17, told-18, told-fault, told-sound}
 use Rattle.checker.proofs.check_blocks.Statement.{statement}
 use Rattle.checker.proofs.check_blocks.Tie as tie
-
-add-from : tie.Need-add-from
-unfolding blocksFrom
-add-from c =
-    let args = c .before .before .args in
-    let pre = c .before .before .pre in
-    let good = c .before .before .good in
-    let within = blocks-within (now (args .file)) (args .h) (pre) in omega (arith, good)
 
 survey-requires : tie.Need-survey-requires
 survey-requires c κs = search needs
@@ -112,7 +102,6 @@ pub check-blocks-spec : {M : Type 1} → statement M
 check-blocks-spec =
     tie.close
     (tie.spec
-    add-from
     survey-requires
     enum-known-stage
     refusal-requires

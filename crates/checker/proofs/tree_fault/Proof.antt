@@ -1,20 +1,11 @@
--- `tree_fault` meets its contract: 19 and 20, then 22 to 25. Assumes nothing.
-use native.Mathlib.Omega.{arith}
+-- `checker::tree_fault` meets its contract: 19 and 20, then 22 to 25. Assumes nothing.
 use borrow.Author.Needs.{needs}
 use denote.Ref.{now}
 use Rattle.header.specs.Header.{blocksFrom}
-use Rattle.header.proofs.HeaderLaws.{is-header, blocks-within}
+use Rattle.header.proofs.HeaderLaws.{is-header}
 use Rattle.checker.proofs.StageLaws.{misnamed, walked}
 use Rattle.checker.proofs.tree_fault.Statement.{statement}
 use Rattle.checker.proofs.tree_fault.Tie as tie
-
-add-from : tie.Need-add-from
-unfolding blocksFrom
-add-from c =
-    let args = c .before .before .args in
-    let pre = c .before .before .pre in
-    let good = c .before .before .good in
-    let within = blocks-within (now (args .file)) (args .h) (pre) in omega (arith, good)
 
 naming-fault-requires : tie.Need-naming-fault-requires
 naming-fault-requires c κs = search needs
@@ -50,7 +41,6 @@ pub tree-fault-spec : {M : Type 1} → statement M
 tree-fault-spec =
     tie.close
     (tie.spec
-    add-from
     naming-fault-requires
     same-length
     returns

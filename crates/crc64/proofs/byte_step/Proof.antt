@@ -28,8 +28,11 @@ loop-less c = omega arith
 loop-again : tie.Need-loop-again Inv-loop μ-loop
 loop-again c =
     let loop = c .before .before .loop in
-    gone-more 8 _ _ _ _ (loop .inv) (omega arith) (⊎-elim (λ w. w .1 ∙ bitStep-one _ (w .0 .taken)) (λ w. w .1 ∙ bitStep-zero _
-    (w .0 .left)) (c .if1 .came))
+    gone-more 8 _ _ _ _ (loop .inv) (omega arith)
+    (⊎-elim
+    (λ w. w .1 ∙ bitStep-one _ (omega (arith, w .0 .taken)))
+    (λ w. w .1 ∙ bitStep-zero _ (λ e. omega (arith, w .0 .left)))
+    (c .if1 .came))
 
 returns : tie.Need-returns Inv-loop μ-loop
 unfolding byteStep

@@ -1,52 +1,21 @@
--- `checksum` meets its contract. The loop's invariant: r is the register with the first i bytes gone in.
+-- `crc64::checksum` meets its contract: begun, absorbed at once and finished.
 -- Assumes nothing.
-use Prim.Native.Nat.{_-_}
-use native.Mathlib.Omega.{arith}
 use borrow.Author.Needs.{needs}
-use lib.ListN.{length}
-use Rattle.crc64.proofs.Crc64Laws.{Taken, taken-none, taken-more, taken-all}
+use Rattle.crc64.proofs.Crc64Laws.{crc64-of}
 use Rattle.crc64.proofs.checksum.Statement.{statement}
 use Rattle.crc64.proofs.checksum.Tie as tie
 
-abbrev Inv-loop : tie.InvT-loop
-Inv-loop bytes r₀ i₀ r i = Taken bytes i r
+begin-requires : tie.Need-begin-requires
+begin-requires c κs = search needs
 
-abbrev μ-loop : tie.MeasureT-loop
-μ-loop bytes r₀ i₀ r i = length bytes - i
+absorb-requires : tie.Need-absorb-requires
+absorb-requires c κs = search needs
 
-loop-holds : tie.Need-loop-holds Inv-loop μ-loop
-loop-holds c = taken-none _
+finish-requires : tie.Need-finish-requires
+finish-requires c κs = search needs
 
-shared-slice-read-byte-step : tie.Need-shared-slice-read-byte-step Inv-loop μ-loop
-shared-slice-read-byte-step c = omega arith
-
-byte-step-requires : tie.Need-byte-step-requires Inv-loop μ-loop
-byte-step-requires c κs = search needs
-
-add-i : tie.Need-add-i Inv-loop μ-loop
-add-i c = omega arith
-
-loop-less : tie.Need-loop-less Inv-loop μ-loop
-loop-less c = omega arith
-
-loop-again : tie.Need-loop-again Inv-loop μ-loop
-loop-again c =
-    let loop = c .before .before .before .loop in
-    taken-more _ _ _ _ (loop .inv) (omega arith) (c .byte-step .ensures)
-
-returns : tie.Need-returns Inv-loop μ-loop
-returns c = taken-all _ _ _ (c .before .loop .inv) (omega arith)
+returns : tie.Need-returns
+returns c = crc64-of _ _ _ _ (c .before .before .begin .ensures) (c .before .absorb .ensures) (c .finish .ensures)
 
 pub checksum-spec : {M : Type 1} → statement M
-checksum-spec =
-    tie.close
-    (tie.spec
-    Inv-loop
-    μ-loop
-    loop-holds
-    shared-slice-read-byte-step
-    byte-step-requires
-    add-i
-    loop-less
-    loop-again
-    returns)
+checksum-spec = tie.close (tie.spec begin-requires absorb-requires finish-requires returns)

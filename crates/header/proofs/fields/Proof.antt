@@ -10,8 +10,9 @@ use borrow.Author.Needs.{needs}
 use borrow.Author.Tests.{not-true, not-false}
 use Rattle.byte_string.specs.Order.{begins}
 use Rattle.part.specs.Part.{part}
-use Rattle.header.specs.Header.{H, M, codecNone, fieldAt, isMetadata, headerSaid}
-use Rattle.header.proofs.RuleLaws.{metadata-within, codec-lent, metadata-lent, fields-codec, fields-total, fields-metadata, fields-good, numbersOf}
+use Rattle.header.specs.Metadata.{isMetadata}
+use Rattle.header.specs.Header.{H, M, codecNone, fieldAt, headerNumbers, headerSaid}
+use Rattle.header.proofs.RuleLaws.{holdsHeader⁻¹, metadata-within, codec-lent, metadata-lent, fields-codec, fields-total, fields-metadata, fields-good}
 use Rattle.header.proofs.fields.Statement.{statement}
 use Rattle.header.proofs.fields.Tie as tie
 
@@ -103,6 +104,13 @@ returns-3 c =
 le64-at-requires-3 : tie.Need-le64-at-requires-3
 le64-at-requires-3 c κs = search needs
 
+add-blocks : tie.Need-add-blocks
+unfolding H fieldAt part
+add-blocks c =
+    let start = c .before .before .before .before .before .before .before .before .before .before .before .before in
+    let held = holdsHeader⁻¹ _ (start .pre .0) in
+    omega arith
+
 le64-at-requires-4 : tie.Need-le64-at-requires-4
 le64-at-requires-4 c κs = search needs
 
@@ -110,7 +118,7 @@ le64-at-requires-5 : tie.Need-le64-at-requires-5
 le64-at-requires-5 c κs = search needs
 
 returns-4 : tie.Need-returns-4
-unfolding headerSaid H M fieldAt part numbersOf
+unfolding headerSaid H M fieldAt part headerNumbers
 returns-4 c =
     let b = c .before .before .before in
     let le64-at3 = c .before .before .le64-at3 in
@@ -138,6 +146,7 @@ fields-spec =
     is-metadata-requires
     returns-3
     le64-at-requires-3
+    add-blocks
     le64-at-requires-4
     le64-at-requires-5
     returns-4)

@@ -3,7 +3,7 @@
 use mathlib.Core.Path.{sym}
 use native.Mathlib.Omega.{arith}
 use borrow.Author.Needs.{needs}
-use Rattle.header.proofs.RuleLaws.{metadata-short, metadata-unopened, metadata-opened}
+use Rattle.header.proofs.MetadataLaws.{metadata-short, metadata-unopened, metadata-opened}
 use Rattle.header.proofs.is_metadata.Statement.{statement}
 use Rattle.header.proofs.is_metadata.Tie as tie
 

@@ -1,6 +1,5 @@
 -- `read_blocks` meets its contract: each way out is one law of `ReadLaws`. Assumes nothing.
 use mathlib.Core.Path.{sym, ap, _∙_}
-use native.Mathlib.Omega.{arith}
 use borrow.Author.Needs.{needs}
 use denote.Ref.{now}
 use lib.ListN.{length}
@@ -10,13 +9,6 @@ use Rattle.query.specs.Query.{queryOf}
 use Rattle.reader.proofs.ReadLaws.{read-refused, read-overflow, read-fit}
 use Rattle.reader.proofs.read_blocks.Statement.{statement}
 use Rattle.reader.proofs.read_blocks.Tie as tie
-
-add-from : tie.Need-add-from
-unfolding blocksFrom
-add-from c =
-    let pre = c .before .before .before .before .before .pre in
-    let good = c .before .before .before .before .before .good in
-    let within = pre .0 in omega (arith, good)
 
 survey-requires : tie.Need-survey-requires
 survey-requires c κs = search needs
@@ -85,7 +77,6 @@ pub read-blocks-spec : {M : Type 1} → statement M
 read-blocks-spec =
     tie.close
     (tie.spec
-    add-from
     survey-requires
     enum-known-stage
     refusal-requires

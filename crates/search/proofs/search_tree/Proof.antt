@@ -3,19 +3,12 @@
 use denote.Ref.{now}
 use borrow.Author.Needs.{needs}
 use mathlib.Core.Path.{refl}
-use native.Mathlib.Omega.{arith}
 use lib.ListN.{length}
 use Rattle.query.specs.Query.{queryOf}
 use Rattle.header.specs.Header.{blocksFrom}
 use Rattle.search.proofs.SearchLaws.{root-refused, root-asks, root-walked}
 use Rattle.search.proofs.search_tree.Statement.{statement}
 use Rattle.search.proofs.search_tree.Tie as tie
-
-add-from : tie.Need-add-from
-unfolding blocksFrom
-add-from c =
-    let pre = c .before .before .before .before .before .before .pre in
-    let within = pre .1 in let small = pre .0 in omega arith
 
 open-requires : tie.Need-open-requires
 open-requires c κs = search needs
@@ -70,7 +63,6 @@ pub search-tree-spec : {M : Type 1} → statement M
 search-tree-spec =
     tie.close
     (tie.spec
-    add-from
     open-requires
     enum-known-root
     enum-known-root-2
