@@ -11,7 +11,7 @@ use lib.ListN.{length, getD, length-append}
 use lib.Seq.{append-snoc, getD-append-add}
 use borrow.Author.Tests.{leb-true, leb-false, le-leb, lt-leb}
 use Rattle.output_list.specs.OutputList.{padded, zeros, hasRoom}
-use Rattle.output_list.proofs.OutputListLaws.{length-withPair, padded-nil, withPair-padded}
+use Rattle.output_list.proofs.OutputListLaws.{length-withPair, padded-nil, getD-padded, withPair-padded}
 use Rattle.lists.proofs.ListsLaws.{flatMap-append}
 use Rattle.payload.specs.Payload.{Text}
 use Rattle.matching.specs.ResultList.{roomFor, numbersOf, withRecord, Stored, put, putAll}
@@ -74,6 +74,17 @@ numbers-pair xs m ys = (at 0 (roomFor (length xs)) (sym (add-zero (roomFor (leng
     at k i e =
         let place : i ≡ length (numbersOf xs) + k = e ∙ ap (λ (n : ℕ). n + k) (sym (length-numbers xs)) in
         ap₂ (λ (l : List ℕ) (j : ℕ). getD l j 0) (numbers-append xs (m ∷ ys)) place ∙ getD-append-add (numbersOf xs) (numbersOf (m ∷ ys)) k 0
+
+-- also where zeros follow
+pub pair-padded : (room : ℕ) (xs : List Text) (m : Text) (ys : List Text)
+    → (getD (padded room (numbersOf (xs ++ m ∷ ys))) (roomFor (length xs)) 0 ≡ m .at)
+    × (getD (padded room (numbersOf (xs ++ m ∷ ys))) (roomFor (length xs) + 1) 0 ≡ length (m .bytes))
+unfolding roomFor
+pair-padded room xs m ys =
+    let pair = numbers-pair xs m ys in
+    let long = length-numbers (xs ++ m ∷ ys) in
+    let more = length-append xs (m ∷ ys) in
+    (getD-padded room (numbersOf (xs ++ m ∷ ys)) _ (omega arith) ∙ pair .0, getD-padded room (numbersOf (xs ++ m ∷ ys)) _ (omega arith) ∙ pair .1)
 
 -- ---- a record put after matches
 
