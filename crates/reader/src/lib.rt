@@ -14,6 +14,7 @@ use block::pass::SurveyOutcome;
 use block::pass::survey;
 use header::Header;
 use header::HeaderOutcome;
+use matching::has_room;
 
 // Number and place of a refusal, both 0 without one, and how many records match.
 #[repr(C)]
@@ -42,8 +43,12 @@ pub fn read(
     prefix: &[u8],
     results: &mut [u64],
 ) -> ReadAnswer
-    ensures { λ r. ⌜ r ≡ readAnswer (readOf (now (file .entry)) (queryOf (now (start .entry)) «stop_given» (now (stop .entry)) (now (prefix .entry))) (length (now (results .entry)))) ⌝ }
-    ensures { λ r. ⌜ now (results .exit) ≡ readList (length (now (results .entry))) (readOf (now (file .entry)) (queryOf (now (start .entry)) «stop_given» (now (stop .entry)) (now (prefix .entry))) (length (now (results .entry)))) ⌝ }
+    ensures { λ r. ⌜ r ≡ readAnswer
+        (readOf (now (file .entry)) (queryOf (now (start .entry)) «stop_given» (now (stop .entry)) (now (prefix .entry)))
+        (length (now (results .entry)))) ⌝ }
+    ensures { λ r. ⌜ now (results .exit) ≡ readList (length (now (results .entry)))
+        (readOf (now (file .entry)) (queryOf (now (start .entry)) «stop_given» (now (stop .entry)) (now (prefix .entry)))
+        (length (now (results .entry)))) ⌝ }
 {
     output_list::clear(results);
     let made = Header::read(file);
@@ -64,8 +69,12 @@ fn read_blocks(
     results: &mut [u64],
 ) -> ReadAnswer
     requires { ⌜ (blocksFrom h ≤ length (now file)) × (now results ≡ zeros (length (now results))) ⌝ }
-    ensures { λ r. ⌜ r ≡ readAnswer (readBlocks (now (file .entry)) (queryOf (now (start .entry)) «stop_given» (now (stop .entry)) (now (prefix .entry))) (length (now (results .entry))) h) ⌝ }
-    ensures { λ r. ⌜ now (results .exit) ≡ readList (length (now (results .entry))) (readBlocks (now (file .entry)) (queryOf (now (start .entry)) «stop_given» (now (stop .entry)) (now (prefix .entry))) (length (now (results .entry))) h) ⌝ }
+    ensures { λ r. ⌜ r ≡ readAnswer
+        (readBlocks (now (file .entry)) (queryOf (now (start .entry)) «stop_given» (now (stop .entry)) (now (prefix .entry)))
+        (length (now (results .entry))) h) ⌝ }
+    ensures { λ r. ⌜ now (results .exit) ≡ readList (length (now (results .entry)))
+        (readBlocks (now (file .entry)) (queryOf (now (start .entry)) «stop_given» (now (stop .entry)) (now (prefix .entry)))
+        (length (now (results .entry))) h) ⌝ }
 {
     let from = h.blocks;
     let stage = survey(file, from, h.root, h.rootsize);
@@ -73,7 +82,7 @@ fn read_blocks(
         SurveyOutcome::Refused { number, place } => refusal(number, place as u64),
         SurveyOutcome::Answer(_) => {
             let found = collect(file, from, start, stop_given, stop, prefix, results);
-            if results.len() / 2 < found {
+            if !has_room(results, found) {
                 output_list::clear(results);
                 return refusal(27, 0);
             }
