@@ -148,7 +148,9 @@ module _ (file work₀ : List ℕ) (n : ℕ) where
               let b = its-block first k in
               let q = its-entries first k in
               record {
-                leads = p .passed first k .leads ∙ each-kept (rule first) 19 (drop i (blocks first)) (drop (i + 1) (blocks first)) (b .block) (b .rest) (sym (q .fit) ∙ right);
+                leads =
+                    p .passed first k .leads
+                    ∙ each-kept (rule first) 19 (drop i (blocks first)) (drop (i + 1) (blocks first)) (b .block) (b .rest) (sym (q .fit) ∙ right);
                 kept = subst (λ (l : List Entry). Kept file first l later n) (sym (one-more first k)) (q .kept right);
               }
 

@@ -11,11 +11,11 @@ use Rattle.items.specs.Items.{Step, soundFrom}
 use Rattle.lists.specs.Lists.{all}
 use Rattle.payload.specs.Payload.{Entry, entryAt}
 use Rattle.payload.proofs.PayloadLaws.{entry⇒Entered}
-use Rattle.block.specs.Block.{Block}
 use Rattle.block.specs.Laid.{laidFrom}
 use Rattle.tree.specs.Tree.{names}
 use Rattle.check_names.specs.Names.{marked, Kept, Named, EntriesSeen}
-use Rattle.check_names.proofs.SoundItemsLaws.{SoundProgress, sound-progress-start, sound-progress-more, sound-progress-next, sound-progress-end, sound-progress-refused}
+use Rattle.check_names.proofs.SoundItemsLaws.{SoundProgress, sound-progress-start, sound-progress-more, sound-progress-next}
+use Rattle.check_names.proofs.SoundItemsLaws.{sound-progress-end, sound-progress-refused}
 use Rattle.check_names.proofs.WordLaws.{kept-mark}
 use Rattle.check_names.proofs.EntryLaws.{all-append}
 

@@ -47,10 +47,12 @@ pub names-true : (bs : List Block) (level : ℕ) (e : Entry) (c : Block) → Lis
     → c .frame .start ≡ e .offset → c .frame .size ≡ e .size → c .frame .level + 1 ≡ level → names bs level e ≡ true
 unfolding names
 names-true bs level e c m start size lower =
-    member-any _ (ordinary bs) c m (rw (eq-eqb (c .frame .start) (e .offset) start, eq-eqb (c .frame .size) (e .size) size, eq-eqb (c .frame .level + 1) level lower))
+    member-any _ (ordinary bs) c m
+    (rw (eq-eqb (c .frame .start) (e .offset) start, eq-eqb (c .frame .size) (e .size) size, eq-eqb (c .frame .level + 1) level lower))
 
 pub names-false : (bs : List Block) (level : ℕ) (e : Entry)
-    → ((c : Block) → List·Memᴰ c (ordinary bs) → c .frame .start ≡ e .offset → c .frame .size ≡ e .size → c .frame .level + 1 ≡ level → ⊥) → names bs level e ≡ false
+    → ((c : Block) → List·Memᴰ c (ordinary bs) → c .frame .start ≡ e .offset → c .frame .size ≡ e .size → c .frame .level + 1 ≡ level → ⊥)
+    → names bs level e ≡ false
 unfolding names
 names-false bs level e none =
     any-false _ (ordinary bs)

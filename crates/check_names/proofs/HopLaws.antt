@@ -71,9 +71,10 @@ module _ (file : List ℕ) (from : ℕ) (work₀ : List ℕ) where
     -- all blocks are passed
     hopped-all : laidFrom file from ≡ p .passed
         → (count ≡ length (ordinary (laidFrom file from))) × (count ≤ length work₀ → Begins work (startsOf (laidFrom file from)))
-    hopped-all all =
-        (sym (p .counted) ∙ length-starts (p .passed) ∙ ap (λ (bs : List Block). length (ordinary bs)) (sym all),
-        λ room. subst (λ (bs : List Block). Begins work (startsOf bs)) (sym all) (p .begun room))
+    hopped-all all = (
+      sym (p .counted) ∙ length-starts (p .passed) ∙ ap (λ (bs : List Block). length (ordinary bs)) (sym all),
+      λ room. subst (λ (bs : List Block). Begins work (startsOf bs)) (sym all) (p .begun room),
+    )
 
     pub hopped-end : length file ≤ at
         → (count ≡ length (ordinary (laidFrom file from))) × (count ≤ length work₀ → Begins work (startsOf (laidFrom file from)))
@@ -84,20 +85,28 @@ module _ (file : List ℕ) (from : ℕ) (work₀ : List ℕ) where
         → (count ≡ length (ordinary (laidFrom file from))) × (count ≤ length work₀ → Begins work (startsOf (laidFrom file from)))
     unfolding laidFrom
     hopped-refused inside number place e =
-        hopped-all (sound-progress-refused (laidAt file) (length file) from at (p .passed) (p .progress) inside number place (laid-refused file at number place e))
+        let refuses = laid-refused file at number place e in
+        hopped-all (sound-progress-refused (laidAt file) (length file) from at (p .passed) (p .progress) inside number place refuses)
 
+    -- the block whose frame was read is passed too
     module _ (inside : at < length file) (f : Frame) (e : frameAt file at ≡ answer f) where
-      abbrev block : Block
-      block = laidIn file f
+      abbrev more : List Block
+      more = p .passed ++ (laidIn file f ∷ [])
 
-      its-frame : block .frame ≡ f
-      unfolding laidIn
-      its-frame = refl
-
-      progress-on : SoundProgress (laidAt file) (length file) from (at + f .size) (p .passed ++ (block ∷ []))
-      progress-on =
+      progress-more : SoundProgress (laidAt file) (length file) from (at + f .size) more
+      progress-more =
           let found = laid-found file at f e in
-          sound-progress-more (laidAt file) (length file) from at (p .passed) (p .progress) (record { item = block; next = at + f .size }) inside found (laid-forward file at _ found)
+          sound-progress-more (laidAt file) (length file) from at (p .passed) (p .progress) _ inside found (laid-forward file at _ found)
+
+      starts-more : f .level ≤ 63 → startsOf more ≡ startsOf (p .passed) ++ (at ∷ [])
+      unfolding laidIn
+      starts-more level =
+          starts-ordinary (p .passed) (laidIn file f) level
+          ∙ ap (λ (n : ℕ). startsOf (p .passed) ++ (n ∷ [])) (frame⇒Framed file at f e .starts)
+
+      starts-same : 63 < f .level → startsOf more ≡ startsOf (p .passed)
+      unfolding laidIn
+      starts-same level = starts-reserved (p .passed) (laidIn file f) level ∙ append-nil (startsOf (p .passed))
 
       pub hopped-ordinary : f .level ≤ 63 → (later : List ℕ) → later ≡ withNumber work count at → Hopped later (at + f .size) (count + 1)
       hopped-ordinary level later is =
@@ -108,32 +117,26 @@ module _ (file : List ℕ) (from : ℕ) (work₀ : List ℕ) where
           let few = p .few in
           let long = p .long in
           let counted = p .counted in
-          let low : block .frame .level ≤ 63 = subst (λ (h : Frame). h .level ≤ 63) (sym its-frame) level in
-          let start : block .frame .start ≡ at = ap (λ (h : Frame). h .start) its-frame ∙ l .starts in
-          let starts : startsOf (p .passed ++ (block ∷ [])) ≡ startsOf (p .passed) ++ (at ∷ []) = starts-ordinary (p .passed) block low ∙ ap (λ (n : ℕ). startsOf (p .passed) ++ (n ∷ [])) start in
+          let starts = starts-more level in
+          let stored : later ≡ withNumber work (length (startsOf (p .passed))) at = is ∙ ap (λ (n : ℕ). withNumber work n at) (sym counted) in
           record {
-            passed = p .passed ++ (block ∷ []);
-            progress = progress-on;
+            passed = more;
+            progress = progress-more;
             counted = ap length starts ∙ length-append (startsOf (p .passed)) (at ∷ []) ∙ ap (λ (n : ℕ). n + 1) counted;
             few = omega arith;
             long = ap length is ∙ length-withNumber work count at ∙ long;
-            begun = λ room.
-                subst (λ (l : List ℕ). Begins l (startsOf (p .passed ++ (block ∷ [])))) (sym is)
-                (subst (Begins (withNumber work count at)) (sym starts)
-                (subst (λ (n : ℕ). Begins (withNumber work n at) (startsOf (p .passed) ++ (at ∷ []))) counted
-                (begins-more work (startsOf (p .passed)) at (omega arith) (p .begun (omega arith)))));
+            begun = λ room. rw (starts, stored) (begins-more work (startsOf (p .passed)) at (omega arith) (p .begun (omega arith)));
           }
 
       pub hopped-reserved : 63 < f .level → Hopped work (at + f .size) count
       hopped-reserved level =
           let few = p .few in
-          let high : 63 < block .frame .level = subst (λ (h : Frame). 63 < h .level) (sym its-frame) level in
-          let starts = starts-reserved (p .passed) block high ∙ append-nil (startsOf (p .passed)) in
+          let starts = starts-same level in
           record {
-            passed = p .passed ++ (block ∷ []);
-            progress = progress-on;
+            passed = more;
+            progress = progress-more;
             counted = ap length starts ∙ p .counted;
             few = omega arith;
             long = p .long;
-            begun = λ room. subst (Begins work) (sym starts) (p .begun room);
+            begun = λ room. rw starts (p .begun room);
           }

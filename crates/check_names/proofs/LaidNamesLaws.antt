@@ -2,7 +2,7 @@
 -- Assumes nothing.
 use mathlib.Core.Path.{_≡_, refl, sym, ap, _∙_, subst}
 use mathlib.Core.Bool.{Bool, true, false, _&&_, cond, not}
-use mathlib.Core.List.{List, [], _∷_, map, List·Memᴰ}
+use mathlib.Core.List.{List, [], map, List·Memᴰ}
 use Prim.Native.Nat.{ℕ, _+_, _-_, _≤_, _<_}
 use native.Mathlib.Omega.{arith}
 use lib.ListN.{length}
@@ -11,11 +11,10 @@ use Rattle.outcome.proofs.OutcomeLaws.{answer-injective, bind⁻¹}
 use Rattle.items.specs.Items.{Step}
 use Rattle.items.proofs.ItemsLaws.{ReadFrom}
 use Rattle.lists.proofs.ListsLaws.{Ascending, AscendingIn, ascending-wider, ascending-all}
-use Rattle.framing.specs.declared.Frame.{Frame}
 use Rattle.framing.specs.Frame.{frameAt}
-use Rattle.framing.proofs.FrameLaws.{Framed, frame⇒Framed}
-use Rattle.payload.specs.Payload.{Entry, entryAt}
-use Rattle.block.specs.Block.{Block, isData, isOrdinary}
+use Rattle.framing.proofs.FrameLaws.{frame⇒Framed}
+use Rattle.payload.specs.Payload.{entryAt}
+use Rattle.block.specs.Block.{Block, isData}
 use Rattle.block.specs.Laid.{laidItems, laidEntries, laidIn, laidAt, laidFrom}
 use Rattle.block.proofs.BlockLaws.{reserved-level}
 use Rattle.block.proofs.LaidLaws.{laid-data, laid-index}
@@ -59,7 +58,8 @@ module _ (file : List ℕ) where
 
   pub laid-member : (from : ℕ) (b : Block) → List·Memᴰ b (laidFrom file from) → LaidBlock b
   unfolding laidFrom
-  laid-member from b m = go (run-member (laidAt file) (length file) laid-forward from _ (sound⇒run (laidAt file) (length file) (length file - from) from) b m)
+  laid-member from b m =
+      go (run-member (laidAt file) (length file) laid-forward from _ (sound⇒run (laidAt file) (length file) (length file - from) from) b m)
     where
       go : ReadFrom (laidAt file) (length file) from b → LaidBlock b
       go q = subst LaidBlock (q .is-item) (step⇒laid (q .read-at) (q .read) (q .before) (laid⁻¹ (q .read-at) (q .read) (q .stepped)))
@@ -77,7 +77,7 @@ module _ (file : List ℕ) where
 
     pub reserved-entries : 63 < b .frame .level → b .entries ≡ []
     unfolding laidEntries
-    reserved-entries level = entries-are ∙ ap (λ (o : Bool). cond (not (isData (b .frame .level)) && o) (laidItems file entryAt (b .frame)) []) (reserved-level (b .frame .level) level) ∙ neither (isData (b .frame .level))
+    reserved-entries level = entries-are ∙ rw (reserved-level (b .frame .level) level) (neither (isData (b .frame .level)))
       where
         neither : (d : Bool) → cond (not d && false) (laidItems file entryAt (b .frame)) [] ≡ []
         neither true = refl

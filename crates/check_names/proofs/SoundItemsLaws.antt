@@ -86,7 +86,8 @@ module _ {A : Type 0} (step : ℕ → Outcome (Step A)) (end : ℕ) where
     pub sound-progress-refused : at < end → (number place : ℕ) → step at ≡ refused number place → soundFrom step end (end - from) from ≡ seen
     sound-progress-refused h number place e = go (p .fuel) (p .enough) (p .leads)
       where
-        go : (fuel : ℕ) → end - at ≤ fuel → soundFrom step end (end - from) from ≡ seen ++ soundFrom step end fuel at → soundFrom step end (end - from) from ≡ seen
+        go : (fuel : ℕ) → end - at ≤ fuel → soundFrom step end (end - from) from ≡ seen ++ soundFrom step end fuel at
+            → soundFrom step end (end - from) from ≡ seen
         go zero enough leads = absurd (omega arith)
         go (suc fuel) enough leads =
             leads ∙ ap (λ (l : List A). seen ++ l) (sound-refused step end fuel at number place h e) ∙ append-nil seen

@@ -62,7 +62,8 @@ at-index (x ∷ xs) (suc i) h = more (at-index xs i (omega arith))
           member = List·Memᴰ·tail (p .member);
           starts = p .starts;
           rest = p .rest ∙ ap (λ (k : ℕ). p .block ∷ drop k xs) (add-one i) ∙ ap (λ (k : ℕ). p .block ∷ drop k (x ∷ xs)) (sym (add-one (suc i)));
-          front = ap (λ (k : ℕ). take k (x ∷ xs)) (add-one (suc i)) ∙ ap (λ (k : ℕ). x ∷ take k xs) (sym (add-one i)) ∙ ap (λ (l : List Block). x ∷ l) (p .front);
+          front =
+              ap (λ (k : ℕ). take k (x ∷ xs)) (add-one (suc i)) ∙ ap (λ (k : ℕ). x ∷ take k xs) (sym (add-one i)) ∙ ap (λ (l : List Block). x ∷ l) (p .front);
         }
 
 -- and the index of a block

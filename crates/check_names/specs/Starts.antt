@@ -1,4 +1,5 @@
--- The work list as starts: one word for each ordinary block in file order. A word is start + 2 ^ 30 * c, so the start is what 2 ^ 30 leaves.
+-- The work list as starts: one word for each ordinary block in file order. A word is start + 2 ^ 30 * c, so the start is the
+-- word modulo 2 ^ 30.
 use Prim.Native.Nat.{ℕ, _%_, _^_, _≤_, _<_}
 use mathlib.Core.Path.{_≡_}
 use mathlib.Core.List.{List, map}

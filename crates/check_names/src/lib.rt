@@ -10,6 +10,8 @@ ghost use Rattle.outcome.specs.Refusal.{refusalOf};
 ghost use Rattle.check_names.specs.Names.{namesOf};
 use crate::names::naming_fault;
 use outcome::Refusal;
+use output_list::clear;
+
 mod names;
 mod starts;
 
@@ -19,6 +21,6 @@ pub fn check_names(file: &[u8], from: usize, root: u64, work: &mut [u64]) -> Ref
     ensures { λ _. ⌜ now (work .exit) ≡ zeros (length (now (work .entry))) ⌝ }
 {
     let fault = naming_fault(file, from, root, work);
-    output_list::clear(work);
+    clear(work);
     fault
 }

@@ -107,7 +107,9 @@ loop-again c =
     let mark = c .before .before .mark in
     marked-more (now (args .file)) (args .level) (args .from) (args .end) (now (args .work)) (args .n) (loop .work) (loop .at) (loop .inv)
     (loop-test .taken) _ (λ place. sym (entry-at .ensures .0 place) ∙ ap (entrySaid place (take (args .end) (now (args .file))))
-    (step .given .1)) (named .result) (λ first seen k. named .ensures first seen _ k) (let long = loop .inv .long in omega ( arith, pre .0,
+    (step .given .1)) (named .result) (λ first seen k. named .ensures first seen _ k) (let long = loop .inv .long in omega (
+      arith,
+      pre .0,
     )) (if1 .left) _ (mark .ensures)
 
 same-length-3 : tie.Need-same-length-3 Inv-loop μ-loop

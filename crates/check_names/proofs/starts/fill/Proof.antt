@@ -53,8 +53,10 @@ add-at c =
     let the-frame = c .before .before .frame in
     let good = c .before .before .before .before .before .before .before .before .before .good in
     let l = frame⇒Framed (now (args .file)) (loop .at) _ (sym (frame-at .ensures) ∙ ap (frameSaid (loop .at)) (the-frame .given .1)) in let
-    number = l .number in let some = l .some in let sized = l .sized in let within = l .within in let few = loop .inv .few in omega ( arith,
-    good, )
+    number = l .number in let some = l .some in let sized = l .sized in let within = l .within in let few = loop .inv .few in omega (
+      arith,
+      good,
+    )
 
 put-requires : tie.Need-put-requires Inv-loop μ-loop
 put-requires c κs = search needs
@@ -68,8 +70,10 @@ add-count c =
     let the-frame = c .before .before .before .before .before .before .before .before .frame in
     let good = c .before .before .before .before .before .before .before .before .before .before .before .before .before .before .before .good in
     let l = frame⇒Framed (now (args .file)) (loop .at) _ (sym (frame-at .ensures) ∙ ap (frameSaid (loop .at)) (the-frame .given .1)) in let
-    number = l .number in let some = l .some in let sized = l .sized in let within = l .within in let few = loop .inv .few in omega ( arith,
-    good, )
+    number = l .number in let some = l .some in let sized = l .sized in let within = l .within in let few = loop .inv .few in omega (
+      arith,
+      good,
+    )
 
 loop-less : tie.Need-loop-less Inv-loop μ-loop
 unfolding frameSaid
@@ -80,8 +84,10 @@ loop-less c =
     let the-frame = c .before .before .before .before .before .before .before .before .frame in
     let good = c .before .before .before .before .before .before .before .before .before .before .before .before .before .before .before .good in
     let l = frame⇒Framed (now (args .file)) (loop .at) _ (sym (frame-at .ensures) ∙ ap (frameSaid (loop .at)) (the-frame .given .1)) in let
-    number = l .number in let some = l .some in let sized = l .sized in let within = l .within in let few = loop .inv .few in omega ( arith,
-    good, )
+    number = l .number in let some = l .some in let sized = l .sized in let within = l .within in let few = loop .inv .few in omega (
+      arith,
+      good,
+    )
 
 loop-again : tie.Need-loop-again Inv-loop μ-loop
 unfolding frameSaid
@@ -104,8 +110,10 @@ loop-less-2 c =
     let the-frame = c .before .before .before .before .frame in
     let good = c .before .before .before .before .before .before .before .before .before .before .before .good in
     let l = frame⇒Framed (now (args .file)) (loop .at) _ (sym (frame-at .ensures) ∙ ap (frameSaid (loop .at)) (the-frame .given .1)) in let
-    number = l .number in let some = l .some in let sized = l .sized in let within = l .within in let few = loop .inv .few in omega ( arith,
-    good, )
+    number = l .number in let some = l .some in let sized = l .sized in let within = l .within in let few = loop .inv .few in omega (
+      arith,
+      good,
+    )
 
 loop-again-2 : tie.Need-loop-again-2 Inv-loop μ-loop
 unfolding frameSaid
