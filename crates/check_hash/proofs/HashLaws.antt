@@ -177,7 +177,7 @@ module _ (file : List ℕ) (from : ℕ) where
   unfolding hashOf hashRuleOf
   hash-tested short right e = kept (leb (length file) (2 ^ 30)) 1 0 _ (le-leb _ _ short) ∙ ap (λ (b : Bool). must b 25 0) (sym e)
 
-  -- of blocks that have passed their tests the rule is judged
-  pub blocks⇒hash : (bs : List Block) → blocksAt file from ≡ answer bs → length file ≤ 2 ^ 30 → hashOf file from ≡ hashRuleOf file bs
+  -- of a file whose blocks are accepted the rule is judged
+  pub hash-accepted : length file ≤ 2 ^ 30 → (bs : List Block) → blocksAt file from ≡ answer bs → hashOf file from ≡ hashRuleOf file bs
   unfolding hashOf
-  blocks⇒hash bs e short = kept (leb (length file) (2 ^ 30)) 1 0 _ (le-leb _ _ short) ∙ ap (hashRuleOf file) (blocks⇒laid file from bs e)
+  hash-accepted short bs e = kept (leb (length file) (2 ^ 30)) 1 0 _ (le-leb _ _ short) ∙ ap (hashRuleOf file) (blocks⇒laid file from bs e)
