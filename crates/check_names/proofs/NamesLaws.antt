@@ -15,8 +15,8 @@ use Rattle.block.specs.Block.{Block, blocksAt}
 use Rattle.block.specs.Survey.{ordinary}
 use Rattle.block.specs.Laid.{laidFrom}
 use Rattle.block.proofs.LaidLaws.{blocks⇒laid}
-use Rattle.tree.specs.Stages.{each, entriesFit, namedRightly}
-use Rattle.check_names.specs.Names.{namingOf, namesOf, entriesOf, Kept, AllSeen}
+use Rattle.tree.specs.Stages.{each, entriesFit, namedRightly, namingOf}
+use Rattle.check_names.specs.Names.{namesOf, entriesOf, Kept, AllSeen}
 
 module _ (file : List ℕ) (from root places : ℕ) where
   abbrev bs : List Block

@@ -14,12 +14,8 @@ use Rattle.block.specs.Block.{Block}
 use Rattle.block.specs.Survey.{ordinary}
 use Rattle.block.specs.Laid.{laidFrom}
 use Rattle.tree.specs.Tree.{names}
-use Rattle.tree.specs.Stages.{each, entriesFit, namedRightly}
+use Rattle.tree.specs.Stages.{each, entriesFit, namingOf}
 use Rattle.check_names.specs.Starts.{startsOf}
-
--- 19, then 20
-unfoldable pub namingOf : List Block → (root : ℕ) → Outcome (Unit {0})
-namingOf bs root = each (entriesFit bs) 19 (ordinary bs) >> each (namedRightly bs root) 20 (ordinary bs)
 
 -- 18, 19 and 20 of the blocks as they lie in the file, with a work list of so many places; 1 for a file of more than 2 ^ 30 bytes, whose
 -- starts do not fit in a word
