@@ -34,6 +34,15 @@ fn refusal(number: u64, place: u64) -> ReadAnswer
     }
 }
 
+// The refusal where the list has no room for the matches: the list is cleared again.
+fn no_room(results: &mut [u64]) -> ReadAnswer
+    ensures { λ r. ⌜ r ≡ record { number = 27; place = 0; matches = 0 } ⌝ }
+    ensures { λ _. ⌜ now (results .exit) ≡ zeros (length (now (results .entry))) ⌝ }
+{
+    output_list::clear(results);
+    refusal(27, 0)
+}
+
 // Reads the file front to back. The result list holds offset and length of each match, then zeros; after a refusal zeros.
 pub fn read(
     file: &[u8],
@@ -83,8 +92,7 @@ fn read_blocks(
         SurveyOutcome::Answer(_) => {
             let found = collect(file, from, start, stop_given, stop, prefix, results);
             if !has_room(results, found) {
-                output_list::clear(results);
-                return refusal(27, 0);
+                return no_room(results);
             }
             ReadAnswer {
                 number: 0,

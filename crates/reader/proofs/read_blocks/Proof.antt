@@ -29,11 +29,8 @@ collect-requires c κs = search needs
 has-room-requires : tie.Need-has-room-requires
 has-room-requires c κs = search needs
 
-clear-requires : tie.Need-clear-requires
-clear-requires c κs = search needs
-
-refusal-requires-2 : tie.Need-refusal-requires-2
-refusal-requires-2 c κs = search needs
+no-room-requires : tie.Need-no-room-requires
+no-room-requires c κs = search needs
 
 same-length : tie.Need-same-length
 same-length c = search needs
@@ -41,17 +38,17 @@ same-length c = search needs
 returns : tie.Need-returns
 unfolding surveySaid blocksFrom
 returns c =
-    let args = c .before .before .before .before .before .before .before .before .before .before .before .before .before .before .before .before .before .before .before .before .args in
-    let pre = c .before .before .before .before .before .before .before .before .before .before .before .before .before .before .before .before .before .before .before .before .pre in
-    let collect = c .before .before .before .before .before .before .before .before .before .before .collect in
-    let survey = c .before .before .before .before .before .before .before .before .before .before .before .before .before .before .survey in
-    let enum-told = c .before .before .before .before .before .before .before .before .before .before .before .before .enum-told in
-    let has-room = c .before .before .before .before .before .before .has-room in
-    let if1 = c .before .before .before .before .before .if1 in
-    let clear = c .before .before .before .clear in
+    let args = c .before .before .before .before .before .before .before .before .before .before .before .before .before .before .before .before .before .before .before .args in
+    let pre = c .before .before .before .before .before .before .before .before .before .before .before .before .before .before .before .before .before .before .before .pre in
+    let collect = c .before .before .before .before .before .before .before .before .before .collect in
+    let survey = c .before .before .before .before .before .before .before .before .before .before .before .before .before .survey in
+    let enum-told = c .before .before .before .before .before .before .before .before .before .before .before .enum-told in
+    let has-room = c .before .before .before .before .before .has-room in
+    let if1 = c .before .before .before .before .if1 in
+    let no-room = c .before .before .no-room in
     read-overflow (now (args .file)) (queryOf (now (args .start)) (args .stop-given) (now (args .stop)) (now (args .prefix))) (length (now
     (args .results))) (args .h) (now (args .results)) (pre .1) _ _ (collect .ensures) _ (sym (survey .ensures) ∙ ap surveySaid
-    (enum-told .given .1)) (sym (has-room .ensures) ∙ not-true _ (if1 .taken)) _ _ (c .refusal2 .ensures) (clear .ensures)
+    (enum-told .given .1)) (sym (has-room .ensures) ∙ not-true _ (if1 .taken)) _ _ (no-room .ensures .0) (no-room .ensures .1)
 
 returns-2 : tie.Need-returns-2
 unfolding surveySaid blocksFrom
@@ -88,8 +85,7 @@ read-blocks-spec =
     enum-told
     collect-requires
     has-room-requires
-    clear-requires
-    refusal-requires-2
+    no-room-requires
     same-length
     returns
     returns-2

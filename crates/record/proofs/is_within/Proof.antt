@@ -1,4 +1,4 @@
--- `is_within` meets its contract: the test is on what is left behind the offset, so that no sum wraps. Assumes nothing.
+-- `is_within` meets its contract: the test is on what is left from the offset on, so that no sum wraps. Assumes nothing.
 use mathlib.Core.Path.{sym}
 use denote.Ref.{now}
 use Rattle.record.proofs.RecordLaws.{not-within, within-left}

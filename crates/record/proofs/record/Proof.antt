@@ -14,10 +14,8 @@ add-end : tie.Need-add-end
 add-end c =
     let args = c .before .before .before .args in
     let good = c .before .before .before .good in
-    let h = within⁻¹ (now (args .file)) (args .offset) (args .length) (sym (c .before .is-within .ensures) ∙ c .if1 .taken) in omega (
-      arith,
-      good,
-    )
+    let h = within⁻¹ (now (args .file)) (args .offset) (args .length) (sym (c .before .is-within .ensures) ∙ c .if1 .taken) in
+    omega (arith, good)
 
 sub-result : tie.Need-sub-result
 sub-result c = search needs
@@ -29,30 +27,24 @@ part-result-end : tie.Need-part-result-end
 part-result-end c =
     let args = c .before .before .before .args in
     let good = c .before .before .before .good in
-    let h = within⁻¹ (now (args .file)) (args .offset) (args .length) (sym (c .before .is-within .ensures) ∙ c .if1 .taken) in omega (
-      arith,
-      good,
-    )
+    let h = within⁻¹ (now (args .file)) (args .offset) (args .length) (sym (c .before .is-within .ensures) ∙ c .if1 .taken) in
+    omega (arith, good)
 
 returns : tie.Need-returns
 returns c =
     let args = c .before .before .before .before .args in
-    let is-within = c .before .before .is-within in (
-      lent-within (now (args .file)) (args .offset) (args .length) (sym (is-within .ensures) ∙ c .before .if1 .taken),
-      place-within (now
-          (args .file)) (args .offset) (args .length) (ptr (args .file)) (sym (is-within .ensures) ∙ c .before .if1 .taken),
-    )
+    let within = sym (c .before .before .is-within .ensures) ∙ c .before .if1 .taken in
+    (lent-within (now (args .file)) (args .offset) (args .length) within, place-within (now (args .file)) (args .offset) (args .length) (ptr (args .file)) within)
 
-slice-aggregate-result : tie.Need-slice-aggregate-result
-slice-aggregate-result c = search needs
+empty-part-requires : tie.Need-empty-part-requires
+empty-part-requires c κs = search needs
 
 returns-2 : tie.Need-returns-2
 returns-2 c =
     let args = c .before .before .before .before .args in
-    let is-within = c .before .before .is-within in (
-      sym (record-outside (now (args .file)) (args .offset) (args .length) (sym (is-within .ensures) ∙ c .before .if1 .left)),
-      place-outside
-          (now (args .file)) (args .offset) (args .length) (ptr (args .file)) (sym (is-within .ensures) ∙ c .before .if1 .left),
+    let outside = sym (c .before .before .is-within .ensures) ∙ c .before .if1 .left in (
+      c .empty-part .ensures .0 ∙ sym (record-outside (now (args .file)) (args .offset) (args .length) outside),
+      c .empty-part .ensures .1 ∙ place-outside (now (args .file)) (args .offset) (args .length) (ptr (args .file)) outside,
     )
 
 pub record-spec : {M : Type 1} → statement M
@@ -65,5 +57,5 @@ record-spec =
     part-result-start
     part-result-end
     returns
-    slice-aggregate-result
+    empty-part-requires
     returns-2)
