@@ -14,14 +14,15 @@ use Rattle.byte_string.specs.Order.{begins}
 use Rattle.endian.specs.FixedWidth.{littleEndian}
 use Rattle.outcome.specs.Outcome.{Outcome, answer, refused, _>>_, must}
 use Rattle.part.specs.Part.{part}
-use Rattle.outcome.proofs.OutcomeLaws.{kept, broken, kept⁻¹, answer-injective, answer-not-refused}
+use Rattle.outcome.proofs.OutcomeLaws.{must⁻¹, kept⁻¹, passed⁻¹, answer-injective, answer-not-refused}
 use Rattle.part.proofs.PartLaws.{drop-take, part-take}
 use Rattle.header.specs.declared.Header.{Header}
 use Rattle.header.specs.declared.HeaderOutcome.the-variants.{Answer as Good, Refused as Bad}
 use Rattle.header.specs.Metadata.{Metadata}
-use Rattle.header.specs.Header.{magic, unfinishedMagic, codecNone, fieldAt, H, M, headerCrcRight, headerNumbers, fieldsOf, headerOf, blocksFrom, headerSaid}
+use Rattle.header.specs.Header.{magic, unfinishedMagic, codecNone, fieldAt, H, M, headerCrcRight}
+use Rattle.header.specs.Header.{headerNumbers, fieldsOf, dataOf, sizeRule, frontRules, headerOf, blocksFrom, headerSaid}
 use Rattle.header.proofs.MetadataLaws.{isMetadata⇒Metadata, Metadata⇒isMetadata}
-use Rattle.header.proofs.RuleLaws.{holdsHeader⁻¹, holdsHeader-of, holdsMetadata⁻¹, holdsMetadata-of, fields-good, header-fields}
+use Rattle.header.proofs.RuleLaws.{Opened, holdsHeader⁻¹, holdsHeader-of, holdsMetadata⁻¹, holdsMetadata-of, fields-good, data-fields, header-data}
 
 -- ---- what an answer of `Header::read` says
 
@@ -61,45 +62,47 @@ same-numbers file h e r s m = rw (← e, ← r, ← s, ← m)
 
 -- an accepted header taken apart
 pub is-header : (file : List ℕ) (h : Header) → headerOf file ≡ answer h → IsHeader file h
-unfolding headerOf fieldsOf headerNumbers
+unfolding headerOf sizeRule frontRules dataOf fieldsOf headerNumbers
 is-header file h e =
-    let a = kept⁻¹ _ _ _ _ h e in
-    let b = kept⁻¹ _ _ _ _ h (a .1) in
-    let c = kept⁻¹ _ _ _ _ h (b .1) in
-    let d = kept⁻¹ _ _ _ _ h (c .1) in
-    let f = kept⁻¹ _ _ _ _ h (d .1) in
-    let g = kept⁻¹ _ _ _ _ h (f .1) in
-    let i = kept⁻¹ _ _ _ _ h (g .1) in
-    let j = kept⁻¹ _ _ _ _ h (i .1) in
-    let k = kept⁻¹ _ _ _ _ h (j .1) in
-    let n = answer-injective _ h (k .1) in
-    let held = holdsHeader⁻¹ file (d .0) in
-    let room = holdsMetadata⁻¹ file (g .0) in
+    let size = passed⁻¹ _ _ h e in
+    let front = passed⁻¹ _ _ h (size .1) in
+    let unfinished = kept⁻¹ _ _ _ _ tt (front .0) in
+    let begun = kept⁻¹ _ _ _ _ tt (unfinished .1) in
+    let crc = kept⁻¹ _ _ _ _ h (front .1) in
+    let room = kept⁻¹ _ _ _ _ h (crc .1) in
+    let codec = kept⁻¹ _ _ _ _ h (room .1) in
+    let total = kept⁻¹ _ _ _ _ h (codec .1) in
+    let metadata = kept⁻¹ _ _ _ _ h (total .1) in
+    let numbers = answer-injective _ h (metadata .1) in
+    let whole = holdsHeader⁻¹ file (must⁻¹ _ _ _ (begun .1)) in
+    let fields = holdsMetadata⁻¹ file (room .0) in
     record {
-      small = leb-true (length file) (2 ^ 30) (a .0);
-      finished = not-true (begins unfinishedMagic file) (b .0);
-      opens = c .0;
-      long = held .0;
-      whole = held .1;
-      crc = f .0;
-      fields = room .0;
-      room = room .1;
-      codec = i .0;
-      total = eqb-true (fieldAt file 32) (length file) (j .0);
-      metadata-rule = isMetadata⇒Metadata (part file 96 (M file)) (k .0);
-      is-blocks = sym (ap (λ (x : Header). x .blocks) n);
-      is-root = sym (ap (λ (x : Header). x .root) n);
-      is-rootsize = sym (ap (λ (x : Header). x .rootsize) n);
-      is-metadata = sym (ap (λ (x : Header). x .metadata) n);
+      small = leb-true (length file) (2 ^ 30) (must⁻¹ _ _ _ (size .0));
+      finished = not-true (begins unfinishedMagic file) (unfinished .0);
+      opens = begun .0;
+      long = whole .0;
+      whole = whole .1;
+      crc = crc .0;
+      fields = fields .0;
+      room = fields .1;
+      codec = codec .0;
+      total = eqb-true (fieldAt file 32) (length file) (total .0);
+      metadata-rule = isMetadata⇒Metadata (part file 96 (M file)) (metadata .0);
+      is-blocks = sym (ap (λ (x : Header). x .blocks) numbers);
+      is-root = sym (ap (λ (x : Header). x .root) numbers);
+      is-rootsize = sym (ap (λ (x : Header). x .rootsize) numbers);
+      is-metadata = sym (ap (λ (x : Header). x .metadata) numbers);
     }
 
 -- and the other way round
 pub header-is : (file : List ℕ) (h : Header) → IsHeader file h → headerOf file ≡ answer h
 header-is file h i =
-    header-fields file (record { small = i .small; finished = i .finished; opens = i .opens })
-    (holdsHeader-of file (i .long) (i .whole)) (i .crc) (holdsMetadata-of file (i .fields) (i .room)) ∙
-    fields-good file (i .codec) (i .total) (Metadata⇒isMetadata (part file 96 (M file)) (i .metadata-rule)) ∙
-    ap answer (same-numbers file h (i .is-blocks) (i .is-root) (i .is-rootsize) (i .is-metadata))
+    let opened : Opened file = record { small = i .small; finished = i .finished; opens = i .opens } in
+    let metadata = Metadata⇒isMetadata (part file 96 (M file)) (i .metadata-rule) in
+    header-data file opened (holdsHeader-of file (i .long) (i .whole))
+    ∙ data-fields file (i .crc) (holdsMetadata-of file (i .fields) (i .room))
+    ∙ fields-good file (i .codec) (i .total) metadata
+    ∙ ap answer (same-numbers file h (i .is-blocks) (i .is-root) (i .is-rootsize) (i .is-metadata))
 
 -- ---- the blocks begin after the header data and their CRC, within the file
 
@@ -193,25 +196,34 @@ Numbered o = (n p : ℕ) → o ≡ refused n p → (p ≡ 0) × (1 ≤ n) × (n 
 numbered-answer : {A : Type 0} (a : A) → Numbered (answer a)
 numbered-answer a n p e = absurd (answer-not-refused a n p e)
 
-numbered-rule : {A : Type 0} (b : Bool) (number : ℕ) (o : Outcome A) → 1 ≤ number → number ≤ 9 → Numbered o → Numbered (must b number 0 >> o)
-numbered-rule true number o low high rest n p e = rest n p (sym (kept true number 0 o refl) ∙ e)
-numbered-rule false number o low high rest n p e =
-    let r = sym (broken false number 0 o refl) ∙ e in
+numbered-must : (b : Bool) (number : ℕ) → 1 ≤ number → number ≤ 9 → Numbered (must b number 0)
+unfolding must
+numbered-must true number low high n p e = numbered-answer tt n p e
+numbered-must false number low high n p e =
     let same : n ≡ number = cc in
     let none : p ≡ 0 = cc in
     (none, omega arith, omega arith)
 
+numbered-after : {A B : Type 0} (o : Outcome A) (next : Outcome B) → Numbered o → Numbered next → Numbered (o >> next)
+unfolding _>>_
+numbered-after (answer a) next first rest n p e = rest n p e
+numbered-after (refused number place) next first rest n p e = first n p (cc)
+
+numbered-rule : {A : Type 0} (b : Bool) (number : ℕ) (o : Outcome A) → 1 ≤ number → number ≤ 9 → Numbered o → Numbered (must b number 0 >> o)
+numbered-rule b number o low high rest = numbered-after (must b number 0) o (numbered-must b number low high) rest
+
 -- every refusal of the header has place 0 and a number from 1 to 9
 pub header-refused : (file : List ℕ) (n p : ℕ) → headerOf file ≡ refused n p → (p ≡ 0) × (1 ≤ n) × (n ≤ 9)
-unfolding headerOf fieldsOf
+unfolding headerOf sizeRule frontRules dataOf fieldsOf
 header-refused file =
     numbered-rule _ 1 _ (lit≤ tt) (lit≤ tt)
+    (numbered-after _ _
     (numbered-rule _ 2 _ (lit≤ tt) (lit≤ tt)
     (numbered-rule _ 3 _ (lit≤ tt) (lit≤ tt)
-    (numbered-rule _ 4 _ (lit≤ tt) (lit≤ tt)
+    (numbered-must _ 4 (lit≤ tt) (lit≤ tt))))
     (numbered-rule _ 5 _ (lit≤ tt) (lit≤ tt)
     (numbered-rule _ 6 _ (lit≤ tt) (lit≤ tt)
     (numbered-rule _ 7 _ (lit≤ tt) (lit≤ tt)
     (numbered-rule _ 8 _ (lit≤ tt) (lit≤ tt)
     (numbered-rule _ 9 _ (lit≤ tt) (lit≤ tt)
-    (numbered-answer _)))))))))
+    (numbered-answer _)))))))

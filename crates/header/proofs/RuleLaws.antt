@@ -16,7 +16,8 @@ use Rattle.crc64.specs.Crc64.{crc64}
 use Rattle.outcome.specs.Outcome.{answer, refused, _>>_, must}
 use Rattle.part.specs.Part.{part}
 use Rattle.header.specs.Metadata.{isMetadata}
-use Rattle.header.specs.Header.{magic, unfinishedMagic, codecNone, fieldAt, H, M, holdsHeader, headerCrcRight, holdsMetadata, headerNumbers, fieldsOf, headerOf}
+use Rattle.header.specs.Header.{magic, unfinishedMagic, codecNone, fieldAt, H, M, holdsHeader, headerCrcRight, holdsMetadata}
+use Rattle.header.specs.Header.{headerNumbers, fieldsOf, dataOf, sizeRule, frontRules, headerOf}
 -- the name under which the theorems cite it
 unfoldable pub use Rattle.header.specs.Header.{headerNumbers as numbersOf}
 
@@ -131,21 +132,39 @@ pub fields-good : (file : List ℕ) → begins codecNone (drop 72 file) ≡ true
 unfolding fieldsOf must _>>_
 fields-good file codec total kept = rw (codec, eq-eqb (fieldAt file 32) (length file) total, kept)
 
--- ---- refusals 1 to 6
+-- ---- refusals 5 and 6
+
+-- refusal 5: another CRC
+pub data-crc : (file : List ℕ) → headerCrcRight file ≡ false → dataOf file ≡ refused 5 0
+unfolding dataOf must _>>_
+data-crc file wrong = rw wrong
+
+-- refusal 6: the header data do not hold the fields and the metadata
+pub data-room : (file : List ℕ) → headerCrcRight file ≡ true → holdsMetadata file ≡ false → dataOf file ≡ refused 6 0
+unfolding dataOf must _>>_
+data-room file right none = rw (right, none)
+
+-- otherwise the fields decide
+pub data-fields : (file : List ℕ) → headerCrcRight file ≡ true → holdsMetadata file ≡ true → dataOf file ≡ fieldsOf file
+unfolding dataOf must _>>_
+data-fields file right room = rw (right, room)
+
+-- ---- refusals 1 to 4
 
 -- refusal 1: the file is too long
 pub header-long : (file : List ℕ) → 2 ^ 30 < length file → headerOf file ≡ refused 1 0
-unfolding headerOf must _>>_
+unfolding headerOf sizeRule must _>>_
 header-long file long = rw (lt-leb (length file) (2 ^ 30) long)
 
 -- refusal 2: the file is unfinished
 pub header-unfinished : (file : List ℕ) → length file ≤ 2 ^ 30 → begins unfinishedMagic file ≡ true → headerOf file ≡ refused 2 0
-unfolding headerOf must _>>_
+unfolding headerOf sizeRule frontRules must _>>_
 header-unfinished file small begun = rw (le-leb (length file) (2 ^ 30) small, begun)
 
 -- refusal 3: another magic
-pub header-magic : (file : List ℕ) → length file ≤ 2 ^ 30 → begins unfinishedMagic file ≡ false → begins magic file ≡ false → headerOf file ≡ refused 3 0
-unfolding headerOf must _>>_
+pub header-magic : (file : List ℕ) → length file ≤ 2 ^ 30 → begins unfinishedMagic file ≡ false → begins magic file ≡ false
+    → headerOf file ≡ refused 3 0
+unfolding headerOf sizeRule frontRules must _>>_
 header-magic file small finished other = rw (le-leb (length file) (2 ^ 30) small, finished, other)
 
 -- none of the refusals 1 to 3 applies
@@ -154,30 +173,12 @@ pub record Opened (file : List ℕ) : Type 0 where
   pub finished : begins unfinishedMagic file ≡ false
   pub opens : begins magic file ≡ true
 
--- what is left after these: the rules 4 to 9
-header-opened : (file : List ℕ) → Opened file
-    → headerOf file ≡ (must (holdsHeader file) 4 0 >> (must (headerCrcRight file) 5 0 >> (must (holdsMetadata file) 6 0 >> fieldsOf file)))
-unfolding headerOf must _>>_
-header-opened file o = rw (le-leb (length file) (2 ^ 30) (o .small), o .finished, o .opens)
-
 -- refusal 4: the header data or their CRC run past the end
 pub header-cut : (file : List ℕ) → Opened file → holdsHeader file ≡ false → headerOf file ≡ refused 4 0
-unfolding must _>>_
-header-cut file o cut = header-opened file o ∙ rw cut
+unfolding headerOf sizeRule frontRules must _>>_
+header-cut file o cut = rw (le-leb (length file) (2 ^ 30) (o .small), o .finished, o .opens, cut)
 
--- refusal 5: another CRC
-pub header-crc : (file : List ℕ) → Opened file → holdsHeader file ≡ true → headerCrcRight file ≡ false → headerOf file ≡ refused 5 0
-unfolding must _>>_
-header-crc file o held wrong = header-opened file o ∙ rw (held, wrong)
-
--- refusal 6: the header data do not hold the fields and the metadata
-pub header-room : (file : List ℕ) → Opened file → holdsHeader file ≡ true → headerCrcRight file ≡ true → holdsMetadata file ≡ false
-    → headerOf file ≡ refused 6 0
-unfolding must _>>_
-header-room file o held right none = header-opened file o ∙ rw (held, right, none)
-
--- otherwise the fields decide
-pub header-fields : (file : List ℕ) → Opened file → holdsHeader file ≡ true → headerCrcRight file ≡ true → holdsMetadata file ≡ true
-    → headerOf file ≡ fieldsOf file
-unfolding must _>>_
-header-fields file o held right room = header-opened file o ∙ rw (held, right, room)
+-- otherwise the header data decide
+pub header-data : (file : List ℕ) → Opened file → holdsHeader file ≡ true → headerOf file ≡ dataOf file
+unfolding headerOf sizeRule frontRules must _>>_
+header-data file o held = rw (le-leb (length file) (2 ^ 30) (o .small), o .finished, o .opens, held)

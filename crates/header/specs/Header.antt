@@ -59,16 +59,30 @@ fieldsOf file = do
   must (isMetadata (part file 96 (M file))) 9 0
   answer (headerNumbers file)
 
--- the header, or the first of the refusals 1 to 9
-unfoldable pub headerOf : List ℕ → Outcome Header
-headerOf file = do
-  must (leb (length file) (2 ^ 30)) 1 0
+-- rule 1: the file is at most 2^30 bytes long
+unfoldable pub sizeRule : List ℕ → Outcome (Unit {0})
+sizeRule file = must (leb (length file) (2 ^ 30)) 1 0
+
+-- rules 2 to 4: the magic is that of a finished file, and the header lies within the file
+unfoldable pub frontRules : List ℕ → Outcome (Unit {0})
+frontRules file = do
   must (not (begins unfinishedMagic file)) 2 0
   must (begins magic file) 3 0
   must (holdsHeader file) 4 0
+
+-- the header, or the first of the refusals 5 to 9, which look at the header data
+unfoldable pub dataOf : List ℕ → Outcome Header
+dataOf file = do
   must (headerCrcRight file) 5 0
   must (holdsMetadata file) 6 0
   fieldsOf file
+
+-- the header, or the first of the refusals 1 to 9
+unfoldable pub headerOf : List ℕ → Outcome Header
+headerOf file = do
+  sizeRule file
+  frontRules file
+  dataOf file
 
 -- where the blocks begin
 unfoldable pub blocksFrom : Header → ℕ

@@ -64,13 +64,7 @@ impl Header {
         if !holds_header(file) {
             return HeaderOutcome::Refused(4);
         }
-        if !crc_right(file) {
-            return HeaderOutcome::Refused(5);
-        }
-        if !holds_metadata(file) {
-            return HeaderOutcome::Refused(6);
-        }
-        fields(file)
+        data(file)
     }
 }
 
@@ -82,6 +76,20 @@ fn holds_header(file: &[u8]) -> bool
         return false;
     }
     endian::le64_at(file, Header::EXTENT_AT) <= (file.len() - Header::AROUND) as u64
+}
+
+// The header, or the first of the refusals 5 to 9, which look at the header data.
+fn data(file: &[u8]) -> HeaderOutcome
+    requires { ⌜ header.holdsHeader (now file) ≡ true ⌝ }
+    ensures { λ r. ⌜ header.headerSaid r ≡ header.dataOf (now (file .entry)) ⌝ }
+{
+    if !crc_right(file) {
+        return HeaderOutcome::Refused(5);
+    }
+    if !holds_metadata(file) {
+        return HeaderOutcome::Refused(6);
+    }
+    fields(file)
 }
 
 // Whether the CRC after the header data is theirs.

@@ -27,6 +27,12 @@ pub must-broken : (b : Bool) (number place : ℕ) → b ≡ false → must b num
 unfolding must
 must-broken b number place e = rw e
 
+-- a rule with an answer is kept
+pub must⁻¹ : (b : Bool) (number place : ℕ) → must b number place ≡ answer tt → b ≡ true
+unfolding must
+must⁻¹ true number place e = refl
+must⁻¹ false number place e = absurd (refused-not-answer tt number place e)
+
 -- a rule that is kept is passed over; one that is broken decides
 pub kept : {A : Type 0} (b : Bool) (number place : ℕ) (o : Outcome A) → b ≡ true → (must b number place >> o) ≡ o
 unfolding must _>>_
@@ -36,7 +42,7 @@ pub broken : {A : Type 0} (b : Bool) (number place : ℕ) (o : Outcome A) → b 
 unfolding must _>>_
 broken b number place o e = rw e
 
--- an answer behind a rule says that the rule is kept
+-- an answer after a rule says that the rule is kept
 pub kept⁻¹ : {A : Type 0} (b : Bool) (number place : ℕ) (o : Outcome A) (a : A) → (must b number place >> o) ≡ answer a → (b ≡ true) × (o ≡ answer a)
 unfolding must _>>_
 kept⁻¹ true number place o a e = (refl, e)
@@ -70,7 +76,7 @@ unfolding _>>=_ _>>_
 after-bind (answer a) p f = refl
 after-bind (refused number place) p f = refl
 
--- an answer behind a stage says that the stage is passed
+-- an answer after a stage says that the stage is passed
 pub passed⁻¹ : {A : Type 0} (o : Outcome (Unit {0})) (next : Outcome A) (a : A) → (o >> next) ≡ answer a → (o ≡ answer tt) × (next ≡ answer a)
 unfolding _>>_
 passed⁻¹ (answer u) next a e = (refl, e)

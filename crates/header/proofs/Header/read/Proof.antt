@@ -4,8 +4,8 @@ use mathlib.Core.Path.{_≡_, sym, _∙_}
 use mathlib.Core.Bool.{true}
 use borrow.Author.Needs.{needs}
 use borrow.Author.Tests.{not-true, not-false}
-use Rattle.header.specs.Header.{magic, unfinishedMagic, holdsHeader, headerCrcRight, holdsMetadata, headerSaid}
-use Rattle.header.proofs.RuleLaws.{header-long, header-unfinished, header-magic, Opened, header-cut, header-crc, header-room, header-fields}
+use Rattle.header.specs.Header.{magic, unfinishedMagic, holdsHeader, headerSaid}
+use Rattle.header.proofs.RuleLaws.{header-long, header-unfinished, header-magic, Opened, header-cut, header-data}
 use Rattle.header.proofs.Header.read.Statement.{statement}
 use Rattle.header.proofs.Header.read.Tie as tie
 
@@ -61,44 +61,13 @@ returns-4 c = sym (header-cut _ (opened (c .before .before)) (sym (c .before .ho
 held : (c : tie.Else4) → holdsHeader (c .before .before .before .before .before .before .before .before .before .before .args .file .now) ≡ true
 held c = sym (c .before .holds-header .ensures) ∙ not-false _ (c .if4 .left)
 
-crc-right-requires : tie.Need-crc-right-requires
-crc-right-requires c κs = held c
+data-requires : tie.Need-data-requires
+data-requires c κs = held c
 
 returns-5 : tie.Need-returns-5
-unfolding headerSaid
 returns-5 c =
-    let before = c .before .before .before .before in
-    sym (header-crc _ (opened (before)) (held (c .before .before)) (sym (c .before .crc-right .ensures) ∙ not-true _ (c .if5 .taken)))
-
--- their CRC is right
-right : (c : tie.Else5) → headerCrcRight (c .before .before .before .before .before .before .before .before .before .before .before .before .args .file .now) ≡ true
-right c = sym (c .before .crc-right .ensures) ∙ not-false _ (c .if5 .left)
-
-holds-metadata-requires : tie.Need-holds-metadata-requires
-holds-metadata-requires c κs = search needs
-
-returns-6 : tie.Need-returns-6
-unfolding headerSaid
-returns-6 c =
-    let b = c .before .before in
-    sym
-    (header-room _ (opened (b .before .before .before .before)) (held (b .before .before)) (right b)
-    (sym (c .before .holds-metadata .ensures) ∙ not-true _ (c .if6 .taken)))
-
--- they hold the fields and the metadata
-room : (c : tie.Else6) → holdsMetadata (c .before .before .before .before .before .before .before .before .before .before .before .before .before .before .args .file .now) ≡ true
-room c = sym (c .before .holds-metadata .ensures) ∙ not-false _ (c .if6 .left)
-
-fields-requires : tie.Need-fields-requires
-fields-requires c κs =
-    let before = c .before .before .before .before in
-    (held (before), room c)
-
-returns-7 : tie.Need-returns-7
-returns-7 c =
-    let b = c .before .before .before in
-    c .fields .ensures ∙
-    sym (header-fields _ (opened (b .before .before .before .before)) (held (b .before .before)) (right b) (room (c .before)))
+    let else4 = c .before in
+    c .data .ensures ∙ sym (header-data _ (opened (else4 .before .before)) (held else4))
 
 pub read-spec : {M : Type 1} → statement M
 read-spec =
@@ -113,9 +82,5 @@ read-spec =
     returns-3
     holds-header-requires
     returns-4
-    crc-right-requires
-    returns-5
-    holds-metadata-requires
-    returns-6
-    fields-requires
-    returns-7)
+    data-requires
+    returns-5)
