@@ -8,6 +8,7 @@ pub mod StageLaws
 pub mod TiledLaws
 pub mod OrderedLaws
 pub mod TreeRuleLaws
+pub mod EarlyStages
 pub mod AcceptLaws
 pub mod PlacesLaws
 pub mod CheckTheorems
