@@ -13,10 +13,10 @@ use Rattle.header.specs.declared.Header.{Header}
 use Rattle.header.specs.Header.{headerOf, blocksFrom}
 use Rattle.header.proofs.HeaderLaws.{header-refused}
 use Rattle.block.specs.Block.{Block, blocksAt}
-use Rattle.block.proofs.RefusalLaws.{blocks-refuses}
 use Rattle.tree.specs.Stages.{treeOf, hasRoot}
 use Rattle.checker.specs.Check.{acceptOf, checkOf}
 use Rattle.checker.proofs.CheckLaws.{check-header, check-unsound, check-17}
+use Rattle.theorems_check.proofs.BlockNumbers.{BlockNumber, blocks-numbers}
 
 -- ---- acceptance, stage by stage, as `check-header` to `check-tree` say it of the check
 
@@ -69,18 +69,15 @@ stages file = by-header (headerOf file) refl
           by-check = λ places. check-17 file places h header bs blocks root;
         })
 
-    early : (n : ℕ) → 1 ≤ n → n ≤ 17 → ((1 ≤ n) × (n ≤ 17)) ⊎ (n ≡ 21)
-    early n some few = inl (some, few)
+    early : (n : ℕ) → BlockNumber n → ((1 ≤ n) × (n ≤ 17)) ⊎ (n ≡ 21)
+    early n (inl (low, high)) = inl (omega arith, omega arith)
+    early n (inr same) = inr same
 
     by-blocks : (h : Header) → headerOf file ≡ answer h → (o : Outcome (List Block)) → blocksAt file (blocksFrom h) ≡ o → Stages file
     by-blocks h header (answer bs) blocks = by-root h bs header blocks (hasRoot h bs) refl
     by-blocks h header (refused number place) blocks =
         refuses number place (record {
-          among =
-              blocks-refuses (λ n. ((1 ≤ n) × (n ≤ 17)) ⊎ (n ≡ 21))
-              (early 10 (omega arith) (omega arith)) (early 11 (omega arith) (omega arith)) (early 12 (omega arith) (omega arith))
-              (early 13 (omega arith) (omega arith)) (early 14 (omega arith) (omega arith)) (early 15 (omega arith) (omega arith))
-              (early 16 (omega arith) (omega arith)) (inr refl) file (blocksFrom h) .among number place blocks;
+          among = early number (blocks-numbers file (blocksFrom h) .among number place blocks);
           by-acceptance = accept-unsound file h header number place blocks;
           by-check = λ places. check-unsound file places h header number place blocks;
         })
