@@ -1,9 +1,9 @@
 -- Demand 3's words. The opening rule and what a block leads to are relations; the one walk here, `preorder`, makes no test and only gives
 -- the order. `bs` is the list of the file's blocks in file order, and `root` the root's offset.
-use Prim.Native.Nat.{ℕ, zero, suc, _≤_, _<_}
+use Prim.Native.Nat.{ℕ, _≤_, _<_}
 use mathlib.Core.Path.{_≡_}
 use mathlib.Core.Bool.{true}
-use mathlib.Core.List.{List, [], _∷_, _++_, flatMap, List·Memᴰ}
+use mathlib.Core.List.{List, _∷_, _++_, List·Memᴰ}
 use mathlib.Core.Option.{Option, none}
 use lib.ListN.{length}
 use Rattle.byte_string.specs.Order.{AreBytes}
