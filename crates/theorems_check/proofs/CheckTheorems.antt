@@ -90,8 +90,8 @@ module _ (file : List ℕ) (places : ℕ) where
       number-18 .1 (record { header = numbersOf file; blocks = bs; reached = record { header = a .header; blocks = a .blocks; root = a .root }; few = few })
 
   -- so the rules decide the answer
-  pub check-by-rules : CheckedByRules file places (checkAnswer (checkOf file places))
-  check-by-rules = record { only = number-0⇒Rules; every = Rules⇒number-0; too-few = Rules⇒number-18 }
+  pub check-by-rules : (r : Checked) → r ≡ checkAnswer (checkOf file places) → CheckedByRules file places r
+  check-by-rules r told = rw told (record { only = number-0⇒Rules; every = Rules⇒number-0; too-few = Rules⇒number-18 })
 
 -- with places enough for the ordinary blocks of whatever keeps the rules, the number is 0 exactly where something does
 pub number-0-exactly : (file : List ℕ) (places : ℕ) → ((bs : List Block) → Rules file bs → length (ordinary bs) ≤ places)

@@ -13,6 +13,7 @@ use Rattle.block.specs.Block.{Block}
 use Rattle.block.specs.Survey.{recordsOf}
 use Rattle.query.specs.Query.{Query}
 use Rattle.matching.specs.Matching.{matching}
+use Rattle.reader.specs.declared.ReadAnswer.{ReadAnswer}
 use Rattle.reader.specs.Read.{readOf, readAnswer, readList}
 use Rattle.reader.proofs.PlaceLaws.{LaidOut, laid-member}
 use Rattle.checker.specs.Check.{acceptOf, checkOf, checkAnswer}
@@ -51,11 +52,6 @@ module _ (file : List ℕ) (bs : List Block) (accepted : acceptOf file ≡ answe
       let laid = read-laid file q room ms (is-read file q room ms accepted⇒read) in
       record { answered = told .0; listed = told .1; stand = λ m i. laid-member file m ms _ (length file) laid i; rising = laid⇒Rising file ms _ (length file) laid }
 
--- so of every file, and every list
-pub read-by-rules : (file : List ℕ) (q : Query) (room : ℕ) → ReadByRules file q room (readAnswer (readOf file q room)) (readList room (readOf file q room))
-unfolding ReadByRules
-read-by-rules file q room bs accepted fits = accepted⇒matches file bs accepted q room fits
-
 -- a file that keeps the rules: not refused with room, exactly the records that match, and the list
 pub Rules⇒read : (file : List ℕ) (bs : List Block) → Rules file bs → (q : Query) (room : ℕ) → 2 * length (matching q (recordsOf bs)) ≤ room
     → GivesMatches file (matching q (recordsOf bs)) room (readAnswer (readOf file q room)) (readList room (readOf file q room))
@@ -66,3 +62,9 @@ pub checked⇒read : (file : List ℕ) (places : ℕ) → checkAnswer (checkOf f
     → (bs : List Block) × Rules file bs × ((q : Query) (room : ℕ) → 2 * length (matching q (recordsOf bs)) ≤ room
     → GivesMatches file (matching q (recordsOf bs)) room (readAnswer (readOf file q room)) (readList room (readOf file q room)))
 checked⇒read file places z = let (bs, a) = number-0⇒Rules file places z in (bs, a .rules, Rules⇒read file bs (a .rules))
+
+-- of an answer and a list that are the reading's
+pub read-by-rules : (file : List ℕ) (q : Query) (room : ℕ) (r : ReadAnswer) (results : List ℕ)
+    → r ≡ readAnswer (readOf file q room) → results ≡ readList room (readOf file q room) → ReadByRules file q room r results
+unfolding ReadByRules
+read-by-rules file q room r results told result-list bs accepted fits = rw (told, result-list) (accepted⇒matches file bs accepted q room fits)
