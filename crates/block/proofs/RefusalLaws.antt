@@ -64,7 +64,7 @@ module _ (Kind : ℕ → Type 0) (k10 : Kind 10) (k11 : Kind 11) (k12 : Kind 12)
       refuses-rule Kind _ 15 place _ k15
       (refuses-bind Kind (itemsFrom step end (end - at) at) _ (refuses-items Kind step end h (end - at) at) (λ xs. refuses-rule Kind _ unsorted place _ k (refuses-answer Kind xs)))
 
-  frame-refuses : (file : List ℕ) (at : ℕ) → Refuses Kind (soundFrameAt file at)
+  pub frame-refuses : (file : List ℕ) (at : ℕ) → Refuses Kind (soundFrameAt file at)
   unfolding soundFrameAt frameAt framed
   frame-refuses file at =
       refuses-bind Kind (frameAt file at) _
@@ -72,7 +72,7 @@ module _ (Kind : ℕ → Type 0) (k10 : Kind 10) (k11 : Kind 11) (k12 : Kind 12)
       (λ L. refuses-rule Kind _ 13 at _ k13 (refuses-rule Kind _ 10 at _ k10 (refuses-answer Kind _))))
       (λ f. refuses-rule Kind _ 14 at _ k14 (refuses-answer Kind f))
 
-  inside-refuses : (file : List ℕ) (f : Frame) → Refuses Kind (blockIn file f)
+  pub inside-refuses : (file : List ℕ) (f : Frame) → Refuses Kind (blockIn file f)
   unfolding blockIn recordsAt entriesAt
   inside-refuses file f = go (isData (f .level)) (isOrdinary (f .level))
     where

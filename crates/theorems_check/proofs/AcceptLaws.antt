@@ -9,9 +9,9 @@ use native.Mathlib.Omega.{arith}
 use lib.ListN.{length, drop}
 use Rattle.byte_string.specs.Order.{begins}
 use Rattle.sha256.specs.Sha256.{sha256}
-use Rattle.outcome.specs.Outcome.{Outcome, answer, refused, _>>=_, _>>_, must}
+use Rattle.outcome.specs.Outcome.{answer, refused, _>>_, must}
 use Rattle.lists.specs.Lists.{keep}
-use Rattle.outcome.proofs.OutcomeLaws.{answer-injective, answer-not-refused, refused-not-answer, must-kept, kept, kept⁻¹, bind-answer, bind⁻¹, after-answer, passed⁻¹}
+use Rattle.outcome.proofs.OutcomeLaws.{answer-injective, answer-not-refused, refused-not-answer, must-kept, after-answer, passed⁻¹}
 use Rattle.header.specs.declared.Header.{Header}
 use Rattle.header.specs.Header.{headerOf, blocksFrom, fieldAt, H}
 use Rattle.header.proofs.RuleLaws.{numbersOf}
@@ -21,6 +21,7 @@ use Rattle.tree.specs.Tree.{blockLevel, leaves}
 use Rattle.tree.specs.Stages.{each, entriesFit, namedRightly, ascending, neighbours, keysFit, payloads, treeOf, hasRoot}
 use Rattle.checker.specs.Check.{acceptOf}
 use Rattle.theorems_check.specs.Rules.{Fill, Stands, TreeRules, Rules}
+use Rattle.theorems_check.proofs.EarlyStages.{Reached, Stages, refuses, reaches, stages, accept-tree}
 use Rattle.theorems_check.proofs.SortedLaws.{ascending⇒Rising, Rising⇒ascending}
 use Rattle.theorems_check.proofs.HeaderRuleLaws.{header⇒HeaderRules, HeaderRules⇒header}
 use Rattle.theorems_check.proofs.BlockRuleLaws.{blocks⇒Fill, Fill⇒blocks}
@@ -127,39 +128,34 @@ Rules⇒Accepted file bs r =
       tree = Passed⇒tree file (numbersOf file) bs (tree .1);
     }
 
--- the header, the blocks and the root, and what comes behind them
-pub stages⁻¹ : (file : List ℕ) (rest : Header → List Block → Outcome (List Block)) (bs : List Block)
-    → (headerOf file >>= λ h. blocksAt file (blocksFrom h) >>= λ cs. must (hasRoot h cs) 17 0 >> rest h cs) ≡ answer bs
-    → (cs : List Block) × (headerOf file ≡ answer (numbersOf file)) × (blocksAt file (blocksFrom (numbersOf file)) ≡ answer cs) × (hasRoot (numbersOf file) cs ≡ true) × (rest (numbersOf file) cs ≡ answer bs)
-stages⁻¹ file rest bs e =
-    let a = bind⁻¹ (headerOf file) _ bs e in
-    let header = HeaderRules⇒header file (header⇒HeaderRules file (a .0) (a .1)) in
-    let same = answer-injective (a .0) (numbersOf file) (sym (a .1) ∙ header) in
-    let b = bind⁻¹ (blocksAt file (blocksFrom (a .0))) _ bs (a .2) in
-    let c = kept⁻¹ (hasRoot (a .0) (b .0)) 17 0 (rest (a .0) (b .0)) bs (b .2) in
-    (b .0, header, ap (λ (h : Header). blocksAt file (blocksFrom h)) (sym same) ∙ b .1, ap (λ (h : Header). hasRoot h (b .0)) (sym same) ∙ c .0, ap (λ (h : Header). rest h (b .0)) (sym same) ∙ c .1)
-
-pub stages-of : (file : List ℕ) (rest : Header → List Block → Outcome (List Block)) (h : Header) (bs : List Block)
-    → headerOf file ≡ answer h → blocksAt file (blocksFrom h) ≡ answer bs → hasRoot h bs ≡ true
-    → (headerOf file >>= λ k. blocksAt file (blocksFrom k) >>= λ cs. must (hasRoot k cs) 17 0 >> rest k cs) ≡ rest h bs
-stages-of file rest h bs header blocks root = bind-answer (headerOf file) _ h header ∙ bind-answer (blocksAt file (blocksFrom h)) _ bs blocks ∙ kept (hasRoot h bs) 17 0 (rest h bs) root
-
--- an answer behind the tree is the list of blocks
+-- an answer after the tree is the list of blocks
 pub tree-answer⁻¹ : (file : List ℕ) (h : Header) (bs cs : List Block) → (treeOf file h cs >> answer cs) ≡ answer bs → (treeOf file h cs ≡ answer tt) × (cs ≡ bs)
 tree-answer⁻¹ file h bs cs e = let p = passed⁻¹ (treeOf file h cs) (answer cs) bs e in (p .0, answer-injective cs bs (p .1))
 
+-- the tree is reached and passed
+pub Reached⇒Accepted : (file : List ℕ) (h : Header) (bs : List Block) → Reached file h bs → treeOf file h bs ≡ answer tt → Accepted file bs
+Reached⇒Accepted file h bs r tree =
+    let header = HeaderRules⇒header file (header⇒HeaderRules file h (r .header)) in
+    let same = answer-injective h (numbersOf file) (sym (r .header) ∙ header) in
+    record {
+      header = header;
+      blocks = ap (λ (k : Header). blocksAt file (blocksFrom k)) (sym same) ∙ r .blocks;
+      root = ap (λ (k : Header). hasRoot k bs) (sym same) ∙ r .root;
+      tree = ap (λ (k : Header). treeOf file k bs) (sym same) ∙ tree;
+    }
+
 pub accepted⇒Accepted : (file : List ℕ) (bs : List Block) → acceptOf file ≡ answer bs → Accepted file bs
-unfolding acceptOf
-accepted⇒Accepted file bs e =
-    let s = stages⁻¹ file (λ h cs. treeOf file h cs >> answer cs) bs e in
-    let t = tree-answer⁻¹ file (numbersOf file) bs (s .0) (s .4) in
-    subst (Accepted file) (t .1) (record { header = s .1; blocks = s .2; root = s .3; tree = t .0 })
+accepted⇒Accepted file bs e = go (stages file)
+  where
+    go : Stages file → Accepted file bs
+    go (refuses number place r) = absurd (answer-not-refused bs number place (sym e ∙ r .by-acceptance))
+    go (reaches h cs r) =
+        let t = tree-answer⁻¹ file h bs cs (sym (accept-tree file h (r .header) cs (r .blocks) (r .root)) ∙ e) in
+        subst (Accepted file) (t .1) (Reached⇒Accepted file h cs r (t .0))
 
 pub Accepted⇒accepted : (file : List ℕ) (bs : List Block) → Accepted file bs → acceptOf file ≡ answer bs
-unfolding acceptOf
 Accepted⇒accepted file bs a =
-    stages-of file (λ h cs. treeOf file h cs >> answer cs) (numbersOf file) bs (a .header) (a .blocks) (a .root)
-    ∙ after-answer (treeOf file (numbersOf file) bs) (answer bs) tt (a .tree)
+    accept-tree file (numbersOf file) (a .header) bs (a .blocks) (a .root) ∙ after-answer (treeOf file (numbersOf file) bs) (answer bs) tt (a .tree)
 
 -- the rules hold of an accepted file and its blocks
 pub accepted⇒Rules : (file : List ℕ) (bs : List Block) → acceptOf file ≡ answer bs → Rules file bs

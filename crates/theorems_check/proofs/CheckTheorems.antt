@@ -3,18 +3,20 @@
 use mathlib.Core.Path.{_≡_, refl, sym, ap, _∙_, subst}
 use mathlib.Core.Logic.{_↔_, _≢_}
 use mathlib.Core.List.{List}
-use Prim.Native.Nat.{ℕ, _≤_}
+use Prim.Native.Nat.{ℕ, _≤_, _<_}
 use native.Mathlib.Omega.{arith}
 use lib.ListN.{length}
 use Rattle.outcome.specs.Outcome.{Outcome, answer, refused}
+use Rattle.header.proofs.RuleLaws.{numbersOf}
 use Rattle.block.specs.Block.{Block}
 use Rattle.block.specs.Survey.{ordinary, recordsOf}
 use Rattle.checker.specs.declared.Checked.{Checked}
 use Rattle.checker.specs.Check.{checkOf, checkAnswer}
 use Rattle.checker.proofs.CheckLaws.{answer-of-refusal, answer-of-blocks}
 use Rattle.theorems_check.specs.Rules.{Rules}
-use Rattle.theorems_check.proofs.AcceptLaws.{accepts}
-use Rattle.theorems_check.proofs.PlacesLaws.{check⇒accepted, check-accepts, check-not-0, TooFew, TooFew⇒18, 18⇒TooFew}
+use Rattle.theorems_check.specs.CheckedByRules.{AcceptedWith, CheckedByRules}
+use Rattle.theorems_check.proofs.AcceptLaws.{Accepted⇒Rules, Rules⇒Accepted, Accepted⇒accepted}
+use Rattle.theorems_check.proofs.PlacesLaws.{check⇒Accepted, check-accepts, check-not-0, TooFew, TooFew⇒18, 18⇒TooFew}
 
 module _ (file : List ℕ) (places : ℕ) where
   -- ---- demand 1: the answer, for all inputs
@@ -64,9 +66,11 @@ module _ (file : List ℕ) (places : ℕ) where
   -- ---- demand 2, said of the answer
 
   -- a file that the check accepts keeps the rules, and the counts are those of its blocks
-  pub number-0⇒Rules : checkAnswer (checkOf file places) .number ≡ 0
-      → (bs : List Block) × Rules file bs × (checkAnswer (checkOf file places) ≡ record { number = 0; place = 0; blocks = length (ordinary bs); records = length (recordsOf bs) })
-  number-0⇒Rules z = let (bs, e) = number-0⇒answer z in (bs, accepts file bs .0 (check⇒accepted file places bs e), check-answer bs e)
+  pub number-0⇒Rules : checkAnswer (checkOf file places) .number ≡ 0 → (bs : List Block) × AcceptedWith file places (checkAnswer (checkOf file places)) bs
+  number-0⇒Rules z =
+      let (bs, e) = number-0⇒answer z in
+      let a = check⇒Accepted file places bs e in
+      (bs, record { accepted = Accepted⇒accepted file bs (a .0); rules = Accepted⇒Rules file bs (a .0); enough = a .1; counted = check-answer bs e })
 
   -- a file that keeps the rules is accepted, if there is a place for each ordinary block
   pub Rules⇒number-0 : (bs : List Block) → Rules file bs → length (ordinary bs) ≤ places → checkAnswer (checkOf file places) .number ≡ 0
@@ -79,10 +83,20 @@ module _ (file : List ℕ) (places : ℕ) where
     λ t. refused-number 18 0 (TooFew⇒18 file places t),
   )
 
+  -- a file that keeps the rules and has more ordinary blocks than places
+  pub Rules⇒number-18 : (bs : List Block) → Rules file bs → places < length (ordinary bs) → checkAnswer (checkOf file places) .number ≡ 18
+  Rules⇒number-18 bs r few =
+      let a = Rules⇒Accepted file bs r in
+      number-18 .1 (record { header = numbersOf file; blocks = bs; reached = record { header = a .header; blocks = a .blocks; root = a .root }; few = few })
+
+  -- so the rules decide the answer
+  pub check-by-rules : (r : Checked) → r ≡ checkAnswer (checkOf file places) → CheckedByRules file places r
+  check-by-rules r told = rw told (record { only = number-0⇒Rules; every = Rules⇒number-0; too-few = Rules⇒number-18 })
+
 -- with places enough for the ordinary blocks of whatever keeps the rules, the number is 0 exactly where something does
 pub number-0-exactly : (file : List ℕ) (places : ℕ) → ((bs : List Block) → Rules file bs → length (ordinary bs) ≤ places)
     → (checkAnswer (checkOf file places) .number ≡ 0) ↔ ((bs : List Block) × Rules file bs)
 number-0-exactly file places enough = (
-  λ z. let (bs, r, counts) = number-0⇒Rules file places z in (bs, r),
+  λ z. let (bs, a) = number-0⇒Rules file places z in (bs, a .rules),
   λ p. Rules⇒number-0 file places (p .0) (p .1) (enough (p .0) (p .1)),
 )

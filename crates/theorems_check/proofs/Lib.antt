@@ -8,6 +8,8 @@ pub mod StageLaws
 pub mod TiledLaws
 pub mod OrderedLaws
 pub mod TreeRuleLaws
+pub mod BlockNumbers
+pub mod EarlyStages
 pub mod AcceptLaws
 pub mod PlacesLaws
 pub mod CheckTheorems

@@ -1,2 +1,3 @@
--- The rules of the format.
+-- The rules of the format, and what is claimed of the check.
 pub mod Rules
+pub mod CheckedByRules

@@ -124,7 +124,7 @@ module _ (file : List ℕ) (q : Query) (room : ℕ) where
   -- ---- where the records lie
 
   -- the matches lie in the file behind the header, one behind the other
-  read-laid : (ms : List Text) (r : IsRead ms) → LaidOut file (blocksFrom (r .header)) ms (length file)
+  pub read-laid : (ms : List Text) (r : IsRead ms) → LaidOut file (blocksFrom (r .header)) ms (length file)
   read-laid ms r =
       let from = blocksFrom (r .header) in
       let records = blocks-laid file from (r .blocks) (r .blocks-accepted) (blocks-within file (r .header) (r .header-accepted)) in

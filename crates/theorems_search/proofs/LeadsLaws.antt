@@ -8,7 +8,7 @@ use native.Mathlib.Omega.{arith}
 use Rattle.payload.specs.Payload.{Text}
 use Rattle.block.specs.Block.{Block}
 use Rattle.tree.specs.Tree.{under}
-use Rattle.theorems_search.specs.Index.{LeadsTo, its-own, through}
+use Rattle.theorems_search.specs.OpeningRule.{LeadsTo, its-own, through}
 use Rattle.tree.proofs.TreeLaws.{Tree, entries-at, same-start, child}
 use Rattle.theorems_tree.proofs.TreeBounds.{data-under, entry-under, under-entry}
 

@@ -8,6 +8,7 @@ pub mod SearchReads
 -- The search on any bytes.
 pub mod WalkSteps
 pub mod SearchTheorems
+pub mod SearchNumbers
 pub mod WalkGrows
 pub mod SearchLocal
 -- The blocks that the search opens: exactly those of the rule, and few in vain.
@@ -17,4 +18,4 @@ pub mod OpenedExactly
 pub mod LeadsLaws
 pub mod TwoInVain
 pub mod OpenedFile
-pub mod Demand3
+pub mod SearchAccepted

@@ -18,7 +18,8 @@ use Rattle.matching.specs.Matching.{matching}
 use Rattle.search.specs.Search.{nextKey}
 use Rattle.tree.specs.Tree.{blockEntries, blockRecords, blockLevel, leaves}
 use Rattle.theorems_tree.specs.Preorder.{Kept, no-more, taken, Once, preorder}
-use Rattle.theorems_search.specs.Index.{Opened, the-root, QueryBytes}
+use Rattle.theorems_search.specs.OpeningRule.{Opened, the-root}
+use Rattle.theorems_search.specs.SearchedByRules.{QueryBytes}
 use Rattle.tree.proofs.TreeLaws.{Tree}
 use Rattle.tree.proofs.TreeWays.{Way, at-root, turnsOf, way-block, met-entries}
 use Rattle.theorems_search.proofs.EventsLaws.{opensIn-append, opensIn-finds}

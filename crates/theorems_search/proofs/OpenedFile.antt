@@ -17,7 +17,8 @@ use Rattle.query.specs.Query.{Query}
 use Rattle.tree.specs.Tree.{blockLevel}
 use Rattle.checker.specs.Check.{acceptOf}
 use Rattle.theorems_tree.specs.Preorder.{Kept, Once, preorder}
-use Rattle.theorems_search.specs.Index.{Opened, InVain, QueryBytes}
+use Rattle.theorems_search.specs.OpeningRule.{Opened, InVain}
+use Rattle.theorems_search.specs.SearchedByRules.{QueryBytes}
 use Rattle.theorems_search.proofs.Events.{searchEvents, opensIn}
 use Rattle.theorems_check.proofs.AcceptLaws.{accepted⇒Accepted}
 use Rattle.theorems_search.proofs.SearchFinds.{accepted⇒SearchTree}

@@ -17,7 +17,7 @@ use Rattle.query.proofs.OpeningLaws.{CanMatch⇒mayMatch}
 use Rattle.search.specs.Search.{nextKey}
 use Rattle.tree.specs.Tree.{blockEntries}
 use Rattle.theorems_tree.specs.Preorder.{preorder}
-use Rattle.theorems_search.specs.Index.{Opens, the-root, by-entry, Opened}
+use Rattle.theorems_search.specs.OpeningRule.{Opens, the-root, by-entry, Opened}
 use Rattle.tree.proofs.TreeLaws.{Tree, entries-at, entry⇒index}
 use Rattle.tree.proofs.TreeWays.{Way, at-root, by-entry as turn, Turn, turnsOf, way-block, met-entries}
 use Rattle.theorems_tree.proofs.TreeUnique.{turns-unique}

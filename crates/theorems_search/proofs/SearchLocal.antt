@@ -1,17 +1,19 @@
 -- A search that is answered depends only on the file's length, its header and the blocks on the opened list.
 -- Assumes nothing.
-use mathlib.Core.Path.{_≡_, refl, sym, ap, _∙_}
+use mathlib.Core.Path.{_≡_, refl, sym, ap, _∙_, subst}
 use mathlib.Core.Bool.{Bool, true, false, _&&_, cond}
 use mathlib.Core.List.{List, [], _∷_, List·Memᴰ, List·Memᴰ·head, Memᴰ·append-right}
 use mathlib.Core.Option.{Option, none}
-use Prim.Native.Nat.{ℕ, zero, suc}
+use Prim.Native.Nat.{ℕ, zero, suc, _+_}
+use native.Mathlib.Omega.{arith}
 use lib.Dec.{leb, ltb, eqb}
-use lib.ListN.{length}
+use lib.ListN.{length, take}
+use Rattle.output_list.proofs.OutputListLaws.{take-padded}
 use Rattle.outcome.specs.Outcome.{Outcome, answer, _>>=_}
 use Rattle.part.specs.Part.{part}
 use Rattle.outcome.proofs.OutcomeLaws.{answer-injective, bind-answer, bind⁻¹, kept}
 use Rattle.header.specs.declared.Header.{Header}
-use Rattle.header.specs.Header.{headerOf, blocksFrom}
+use Rattle.header.specs.Header.{headerOf, blocksFrom, H}
 use Rattle.header.proofs.HeaderLaws.{header-local}
 use Rattle.framing.specs.declared.Frame.{Frame}
 use Rattle.framing.specs.Frame.{soundFrameAt}
@@ -21,8 +23,11 @@ use Rattle.block.proofs.BlockLaws.{block⇒BlockRead}
 use Rattle.block.proofs.LocalLaws.{block-local}
 use Rattle.query.specs.Query.{Query}
 use Rattle.query.specs.Opening.{mayMatch}
+use Rattle.search.specs.declared.Found.{Found}
 use Rattle.search.specs.Search.{Walked, nothing, withOpened, nextKey, fittingBlock, namedBlock, openBlock, walkOver, walkOf, walkFrom, searchOf, searchAnswer, openedList, resultList}
-use Rattle.theorems_search.specs.Locality.{SameWhereOpened}
+use Rattle.theorems_search.specs.Locality.{headerEnd, SameWhereOpened, SearchedLocally}
+use Rattle.theorems_search.proofs.SearchTheorems.{search-answer}
+use Rattle.theorems_search.proofs.SearchNumbers.{number-0⇒answered}
 use Rattle.theorems_search.proofs.WalkSteps.{named⁻¹, named-block, open⁻¹}
 use Rattle.theorems_search.proofs.WalkGrows.{Grown, grown-member, over-grows, opens-grow, walk-grows}
 
@@ -117,7 +122,11 @@ module _ (file other : List ℕ) (long : length other ≡ length file) where
 
 -- ---- the search
 
-module _ (file other : List ℕ) (q : Query) (places room : ℕ) (s : Walked) (found : searchOf file q places room ≡ answer s) (same : SameWhereOpened file other s) where
+module _ (file other : List ℕ) (q : Query) (places room : ℕ) (s : Walked) (found : searchOf file q places room ≡ answer s) (same : SameWhereOpened file other (s .opened)) where
+  same-header : take (24 + H file) other ≡ take (24 + H file) file
+  unfolding headerEnd
+  same-header = let here : headerEnd file ≡ 24 + H file = omega arith in subst (λ (n : ℕ). take n other ≡ take n file) here (same .header)
+
   -- Locality: such a file gets the same answer.
   pub search-local : searchOf other q places room ≡ answer s
   unfolding searchOf
@@ -128,13 +137,19 @@ module _ (file other : List ℕ) (q : Query) (places room : ℕ) (s : Walked) (f
 
       go : (h : Header) → headerOf file ≡ answer h → walk file h ≡ answer s → (headerOf other >>= walk other) ≡ answer s
       go h has-header walked =
-          bind-answer (headerOf other) (walk other) h (header-local file other h has-header (same .long) (same .header))
+          bind-answer (headerOf other) (walk other) h (header-local file other h has-header (same .long) same-header)
           ∙ walkFrom-local file other (same .long) q places room (blocksFrom h) (h .root) (h .rootsize) s walked (same .blocks)
 
-  -- so the answer and every place of both lists are the same
-  pub search-local-answer : (searchAnswer (searchOf other q places room) ≡ searchAnswer (searchOf file q places room))
-      × (openedList places (searchOf other q places room) ≡ openedList places (searchOf file q places room))
-      × (resultList room (searchOf other q places room) ≡ resultList room (searchOf file q places room))
-  search-local-answer =
-      let equal = search-local ∙ sym found in
-      (ap searchAnswer equal, ap (openedList places) equal, ap (resultList room) equal)
+-- The same of the answer and the lists at exit: where the number is 0, they are the same for every file that is the same in the blocks
+-- listed.
+module _ (file : List ℕ) (q : Query) (places room : ℕ) (r : Found) (list results : List ℕ) where
+  pub search-locally : r ≡ searchAnswer (searchOf file q places room) → list ≡ openedList places (searchOf file q places room)
+      → results ≡ resultList room (searchOf file q places room) → SearchedLocally file q places room r list results
+  unfolding SearchedLocally
+  search-locally told opened-list result-list z other same =
+      let (s, e) = number-0⇒answered file q places room (ap (λ (a : Found). a .number) (sym told) ∙ z) in
+      let answered = search-answer file q places room s e in
+      let count = ap (λ (a : Found). a .opened) (told ∙ answered .0) in
+      let listed = ap (λ (n : ℕ). take n list) count ∙ ap (take (length (s .opened))) (opened-list ∙ answered .1) ∙ take-padded places (s .opened) in
+      let equal = search-local file other q places room s e (subst (SameWhereOpened file other) listed same) ∙ sym e in
+      (ap searchAnswer equal ∙ sym told, ap (openedList places) equal ∙ sym opened-list, ap (resultList room) equal ∙ sym result-list)

@@ -7,7 +7,6 @@ use lib.ListN.{length}
 use Rattle.output_list.specs.OutputList.{padded}
 use Rattle.outcome.specs.Outcome.{Outcome, answer, numberOf, placeOf, countOf, listOf}
 use Rattle.header.specs.Header.{fieldAt}
-use Rattle.header.proofs.RuleLaws.{numbersOf as headerNumbers}
 use Rattle.payload.specs.Payload.{Text}
 use Rattle.block.specs.Block.{Block}
 use Rattle.block.specs.Survey.{recordsOf}
@@ -15,10 +14,10 @@ use Rattle.query.specs.Query.{Query}
 use Rattle.matching.specs.Matching.{matching}
 use Rattle.matching.specs.ResultList.{numbersOf}
 use Rattle.reader.specs.Read.{readOf, readAnswer, readList}
-use Rattle.theorems_read.proofs.ReadTheorems.{read-whole, read-answer}
+use Rattle.theorems_read.proofs.ReadTheorems.{read-answer}
+use Rattle.theorems_read.proofs.ReadAccepted.{accepted⇒read}
 use Rattle.search.specs.Search.{Walked, searchOf, searchAnswer, openedList, resultList}
 use Rattle.checker.specs.Check.{acceptOf}
-use Rattle.theorems_check.proofs.AcceptLaws.{accepted⇒Accepted}
 use Rattle.theorems_search.proofs.Events.{searchEvents, opensIn}
 use Rattle.theorems_search.proofs.SearchRoom.{search-fits}
 
@@ -45,11 +44,9 @@ module _ (file : List ℕ) (bs : List Block) (accepted : acceptOf file ≡ answe
   reported = answer-reported (searchOf file q places room) places room _ _ (search-fits file bs accepted q places room fit-opened fit-matches)
 
   -- reading reports the same matches
-  read : readOf file q room ≡ answer (matching q (recordsOf bs))
-  read = let a = accepted⇒Accepted file bs accepted in read-whole file q room (headerNumbers file) (a .header) bs (a .blocks) fit-matches
-
-  read-reported : (readAnswer (readOf file q room) ≡ record { number = 0; place = 0; matches = length (matching q (recordsOf bs)) }) × (readList room (readOf file q room) ≡ padded room (numbersOf (matching q (recordsOf bs))))
-  read-reported = read-answer file q room (matching q (recordsOf bs)) read
+  read-reported : (readAnswer (readOf file q room) ≡ record { number = 0; place = 0; matches = length (matching q (recordsOf bs)) })
+      × (readList room (readOf file q room) ≡ padded room (numbersOf (matching q (recordsOf bs))))
+  read-reported = read-answer file q room (matching q (recordsOf bs)) (accepted⇒read file bs accepted q room fit-matches)
 
   -- not refused
   pub number : searchAnswer (searchOf file q places room) .number ≡ 0

@@ -21,7 +21,8 @@ use Rattle.query.specs.Opening.{upTo}
 use Rattle.query.proofs.QueryLaws.{matches-convex}
 use Rattle.tree.specs.Tree.{blockLevel, under}
 use Rattle.theorems_tree.specs.Preorder.{Kept, preorder}
-use Rattle.theorems_search.specs.Index.{Opened, LeadsTo, InVain, QueryBytes}
+use Rattle.theorems_search.specs.OpeningRule.{Opened, LeadsTo, InVain}
+use Rattle.theorems_search.specs.SearchedByRules.{QueryBytes}
 use Rattle.tree.proofs.TreeLaws.{level-at}
 use Rattle.tree.proofs.TreeWays.{Way, block-way}
 use Rattle.theorems_search.proofs.Events.{searchEvents, opensIn}

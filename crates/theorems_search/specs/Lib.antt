@@ -1,3 +1,4 @@
 -- What is claimed of the search.
-pub mod Index
+pub mod OpeningRule
+pub mod SearchedByRules
 pub mod Locality

@@ -1,4 +1,5 @@
-// The C interface: thin exports, each with the contract of the function behind it. include/zs.h documents it for callers.
+// The C interface: thin exports. Each has the contract of the function that it calls, and beside it what the theorems say of that very call:
+// check, read and search are decided by the rules of the format. include/zs.h documents the interface for callers.
 //
 // C can't receive a slice as a result, so zs_record hands back where the part lies.
 ghost use mathlib.Core.Path.{_≡_};
@@ -9,16 +10,14 @@ ghost use Rattle.reader.specs.Read.{readOf, readAnswer, readList};
 ghost use Rattle.record.specs.Record.{isWithin, partStart, partLength};
 ghost use Rattle.checker.specs.Check.{checkOf, checkAnswer};
 ghost use Rattle.search.specs.Search.{searchOf, searchAnswer, openedList, resultList};
+ghost use Rattle.theorems_check.specs.CheckedByRules.{CheckedByRules};
+ghost use Rattle.theorems_read.specs.ReadByRules.{ReadByRules};
+ghost use Rattle.theorems_search.specs.SearchedByRules.{SearchedByRules};
+ghost use Rattle.theorems_search.specs.Locality.{SearchedLocally};
 use checker::Checked;
+use part::Part;
 use reader::ReadAnswer;
 use search::Found;
-
-// A part of the file: the offset of its first byte, and its length.
-#[repr(C)]
-pub struct Part {
-    pub offset: u64,
-    pub size: u64,
-}
 
 // Reads the file front to back (`reader::read`).
 #[no_mangle]
@@ -30,8 +29,13 @@ pub extern "C" fn zs_read(
     prefix: &[u8],
     results: &mut [u64],
 ) -> ReadAnswer
-    ensures { λ r. ⌜ r ≡ readAnswer (readOf (now (file .entry)) (queryOf (now (start .entry)) «stop_given» (now (stop .entry)) (now (prefix .entry))) (length (now (results .entry)))) ⌝ }
-    ensures { λ r. ⌜ now (results .exit) ≡ readList (length (now (results .entry))) (readOf (now (file .entry)) (queryOf (now (start .entry)) «stop_given» (now (stop .entry)) (now (prefix .entry))) (length (now (results .entry)))) ⌝ }
+    ensures { λ r. ⌜ r ≡ readAnswer (readOf (now (file .entry))
+        (queryOf (now (start .entry)) «stop_given» (now (stop .entry)) (now (prefix .entry))) (length (now (results .entry)))) ⌝ }
+    ensures { λ r. ⌜ now (results .exit) ≡ readList (length (now (results .entry))) (readOf (now (file .entry))
+        (queryOf (now (start .entry)) «stop_given» (now (stop .entry)) (now (prefix .entry))) (length (now (results .entry)))) ⌝ }
+    ensures { λ r. ⌜ ReadByRules (now (file .entry))
+        (queryOf (now (start .entry)) «stop_given» (now (stop .entry)) (now (prefix .entry)))
+        (length (now (results .entry))) r (now (results .exit)) ⌝ }
 {
     reader::read(file, start, stop_given, stop, prefix, results)
 }
@@ -41,6 +45,7 @@ pub extern "C" fn zs_read(
 pub extern "C" fn zs_check(file: &[u8], work: &mut [u64]) -> Checked
     ensures { λ r. ⌜ r ≡ checkAnswer (checkOf (now (file .entry)) (length (now (work .entry)))) ⌝ }
     ensures { λ r. ⌜ now (work .exit) ≡ zeros (length (now (work .entry))) ⌝ }
+    ensures { λ r. ⌜ CheckedByRules (now (file .entry)) (length (now (work .entry))) r ⌝ }
 {
     checker::check(file, work)
 }
@@ -56,29 +61,47 @@ pub extern "C" fn zs_search(
     opened: &mut [u64],
     results: &mut [u64],
 ) -> Found
-    ensures { λ r. ⌜ r ≡ searchAnswer (searchOf (now (file .entry)) (queryOf (now (start .entry)) «stop_given» (now (stop .entry)) (now (prefix .entry))) (length (now (opened .entry))) (length (now (results .entry)))) ⌝ }
-    ensures { λ r. ⌜ now (opened .exit) ≡ openedList (length (now (opened .entry))) (searchOf (now (file .entry)) (queryOf (now (start .entry)) «stop_given» (now (stop .entry)) (now (prefix .entry))) (length (now (opened .entry))) (length (now (results .entry)))) ⌝ }
-    ensures { λ r. ⌜ now (results .exit) ≡ resultList (length (now (results .entry))) (searchOf (now (file .entry)) (queryOf (now (start .entry)) «stop_given» (now (stop .entry)) (now (prefix .entry))) (length (now (opened .entry))) (length (now (results .entry)))) ⌝ }
+    ensures { λ r. ⌜ r ≡ searchAnswer (searchOf (now (file .entry))
+        (queryOf (now (start .entry)) «stop_given» (now (stop .entry)) (now (prefix .entry)))
+        (length (now (opened .entry))) (length (now (results .entry)))) ⌝ }
+    ensures { λ r. ⌜ now (opened .exit) ≡ openedList (length (now (opened .entry))) (searchOf (now (file .entry))
+        (queryOf (now (start .entry)) «stop_given» (now (stop .entry)) (now (prefix .entry)))
+        (length (now (opened .entry))) (length (now (results .entry)))) ⌝ }
+    ensures { λ r. ⌜ now (results .exit) ≡ resultList (length (now (results .entry))) (searchOf (now (file .entry))
+        (queryOf (now (start .entry)) «stop_given» (now (stop .entry)) (now (prefix .entry)))
+        (length (now (opened .entry))) (length (now (results .entry)))) ⌝ }
+    ensures { λ r. ⌜ SearchedByRules (now (file .entry))
+        (queryOf (now (start .entry)) «stop_given» (now (stop .entry)) (now (prefix .entry)))
+        (length (now (opened .entry))) (length (now (results .entry))) r (now (opened .exit)) (now (results .exit)) ⌝ }
+    ensures { λ r. ⌜ SearchedLocally (now (file .entry))
+        (queryOf (now (start .entry)) «stop_given» (now (stop .entry)) (now (prefix .entry)))
+        (length (now (opened .entry))) (length (now (results .entry))) r (now (opened .exit)) (now (results .exit)) ⌝ }
 {
     search::search(file, start, stop_given, stop, prefix, opened, results)
 }
 
-// Where the part of `size` bytes from `offset` on lies; offset and size 0 where it isn't within the file.
+// Where the part of `length` bytes from `offset` on lies; offset and length 0 where it isn't within the file.
 #[no_mangle]
-pub extern "C" fn zs_record(file: &[u8], offset: u64, size: u64) -> Part
-    ensures { λ r. ⌜ r ≡ record { offset = partStart (now (file .entry)) offset size; size = partLength (now (file .entry)) offset size } ⌝ }
+pub extern "C" fn zs_record(file: &[u8], offset: u64, length: u64) -> Part
+    ensures { λ r. ⌜ r ≡ record { offset = partStart (now (file .entry)) offset length; length = partLength (now (file .entry)) offset length } ⌝ }
 {
-    if record::is_within(file, offset, size) {
-        Part { offset, size }
+    if record::is_within(file, offset, length) {
+        Part {
+            offset: offset as usize,
+            length: length as usize,
+        }
     } else {
-        Part { offset: 0, size: 0 }
+        Part {
+            offset: 0,
+            length: 0,
+        }
     }
 }
 
-// Whether the part of `size` bytes from `offset` on lies within the file.
+// Whether the part of `length` bytes from `offset` on lies within the file.
 #[no_mangle]
-pub extern "C" fn zs_within(file: &[u8], offset: u64, size: u64) -> bool
-    ensures { λ r. ⌜ r ≡ isWithin (now (file .entry)) offset size ⌝ }
+pub extern "C" fn zs_within(file: &[u8], offset: u64, length: u64) -> bool
+    ensures { λ r. ⌜ r ≡ isWithin (now (file .entry)) offset length ⌝ }
 {
-    record::is_within(file, offset, size)
+    record::is_within(file, offset, length)
 }

@@ -1,22 +1,18 @@
--- Demand 3's words. The opening rule and what a block leads to are relations; the one walk here, `preorder`, makes no test and only gives
+-- Which blocks the rule opens, and what a block leads to. Both are relations; the one walk here, `walkOrder`, makes no test and only gives
 -- the order. `bs` is the list of the file's blocks in file order, and `root` the root's offset.
-use Prim.Native.Nat.{ℕ, zero, suc, _≤_, _<_}
+use Prim.Native.Nat.{ℕ}
 use mathlib.Core.Path.{_≡_}
 use mathlib.Core.Bool.{true}
-use mathlib.Core.List.{List, [], _∷_, _++_, flatMap, List·Memᴰ}
+use mathlib.Core.List.{List, _∷_, _++_, List·Memᴰ}
 use mathlib.Core.Option.{Option, none}
-use lib.ListN.{length}
-use Rattle.byte_string.specs.Order.{AreBytes}
-use Rattle.output_list.specs.OutputList.{padded}
 use Rattle.header.specs.Header.{fieldAt}
 use Rattle.payload.specs.Payload.{Text, Entry}
 use Rattle.block.specs.Block.{Block}
 use Rattle.query.specs.Query.{Query, matches}
 use Rattle.query.specs.Opening.{CanMatch}
-use Rattle.reader.specs.Read.{readOf, readAnswer, readList}
-use Rattle.search.specs.Search.{nextKey, searchOf, searchAnswer, openedList, resultList}
+use Rattle.search.specs.Search.{nextKey}
 use Rattle.tree.specs.Tree.{blockLevel}
-use Rattle.theorems_tree.specs.Preorder.{Kept, Once, preorder}
+use Rattle.theorems_tree.specs.Preorder.{Kept, preorder}
 
 -- ---- the opening rule
 
@@ -47,13 +43,7 @@ pub record InVain (bs : List Block) (q : Query) (level at : ℕ) : Type 0 where
   pub leveled : block .frame .level ≡ level
   pub vain : (r : Text) → LeadsTo bs at r → matches q (r .bytes) ≡ true → ⊥
 
--- ---- demand 3
-
--- Start and prefix are byte strings. They and the file are slices of u8, so this holds of every call; the stop needn't be bytes, since no
--- matching string is made from it.
-pub record QueryBytes (q : Query) : Type 0 where
-  pub start : AreBytes (q .start)
-  pub prefix : AreBytes (q .prefix)
+-- ---- the blocks to be opened
 
 -- all blocks of a file in walk order, down from the root that the header names
 unfoldable pub walkOrder : (file : List ℕ) (bs : List Block) → List ℕ
@@ -62,22 +52,3 @@ walkOrder file bs = preorder bs (blockLevel bs (fieldAt file 16)) (fieldAt file 
 -- `opened` are the blocks that the rule opens, in walk order
 unfoldable pub RuleOpens : (file : List ℕ) (bs : List Block) → Query → (opened : List ℕ) → Type 0
 RuleOpens file bs q opened = Kept (Opened bs (fieldAt file 16) q) (walkOrder file bs) opened
-
--- What is claimed of the search of a file with these blocks, where `opened` are the blocks that the rule opens.
-pub record Searched (file : List ℕ) (bs : List Block) (q : Query) (places room : ℕ) (opened : List ℕ) : Type 0 where
-  -- not refused
-  pub number : searchAnswer (searchOf file q places room) .number ≡ 0
-  pub place : searchAnswer (searchOf file q places room) .place ≡ 0
-  -- equal to reading front to back: number, place, count of matches and every place of the result list
-  pub same-number : searchAnswer (searchOf file q places room) .number ≡ readAnswer (readOf file q room) .number
-  pub same-place : searchAnswer (searchOf file q places room) .place ≡ readAnswer (readOf file q room) .place
-  pub same-matches : searchAnswer (searchOf file q places room) .matches ≡ readAnswer (readOf file q room) .matches
-  pub same-results : resultList room (searchOf file q places room) ≡ readList room (readOf file q room)
-  -- the opened list holds exactly the blocks that the rule opens, then zeros
-  pub listed : openedList places (searchOf file q places room) ≡ padded places opened
-  pub counted : searchAnswer (searchOf file q places room) .opened ≡ length opened
-  -- root first, each once
-  pub root-first : (rest : List ℕ) × (opened ≡ fieldAt file 16 ∷ rest)
-  pub once : Once opened
-  -- on each level below the root at most two that lead to no match
-  pub in-vain : (level : ℕ) → level < blockLevel bs (fieldAt file 16) → (vain : List ℕ) × Kept (InVain bs q level) opened vain × (length vain ≤ 2)

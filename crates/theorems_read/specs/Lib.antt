@@ -1,0 +1,2 @@
+-- What is claimed of reading front to back.
+pub mod ReadByRules
