@@ -1,4 +1,4 @@
--- A loop through the items in front of the first refusal: going on from here gives what the whole gives.
+-- A loop through the items before the first refusal: going on from here gives what the whole gives.
 -- Assumes nothing.
 use mathlib.Core.Path.{_≡_, ap, _∙_}
 use mathlib.Core.List.{List, [], _∷_}

@@ -102,7 +102,7 @@ pub record Passed (file : List ℕ) (h : Header) (bs : List Block) : Type 0 wher
   pub keys : each (keysFit bs) 24 (ordinary bs) ≡ answer tt
   pub hash : begins (sha256 (payloads file bs)) (drop 40 file) ≡ true
 
-must⁻¹ : (b : Bool) (number place : ℕ) → must b number place ≡ answer tt → b ≡ true
+pub must⁻¹ : (b : Bool) (number place : ℕ) → must b number place ≡ answer tt → b ≡ true
 unfolding must
 must⁻¹ true number place e = refl
 must⁻¹ false number place e = absurd (refused-not-answer tt number place e)
