@@ -50,7 +50,7 @@ Bytes-reverse l h = Bytes-reverseAux l [] h Bytes-nil
 
 -- The number of a list of bytes
 
--- bytes behind others count 256 ^ the number of those others
+-- bytes after others count 256 ^ the number of those others
 pub littleEndian-append : (xs ys : List ℕ) → littleEndian (xs ++ ys) ≡ littleEndian xs + 256 ^ length xs * littleEndian ys
 unfolding littleEndian
 littleEndian-append [] ys = omega arith
@@ -93,7 +93,7 @@ littleEndian-drop-lt n l h i few = littleEndian-lt-within n (drop i l) (Bytes-dr
 
 -- Reading byte after byte
 
--- from the front: the byte at i comes behind those before it
+-- from the front: the byte at i comes after those before it
 pub bigEndian-take-more : (l : List ℕ) (i : ℕ) → i < length l
     → bigEndian (take (i + 1) l) ≡ bigEndian (take i l) * 256 + getD l i 0
 bigEndian-take-more l i h = rw (add-one, take-suc l i 0) (bigEndian-snoc (take i l) (getD l i 0))
@@ -107,22 +107,7 @@ littleEndian-drop-less l (suc i) some h =
     let before : suc i - 1 ≡ i = omega arith in
     rw (before, drop-cons l i 0) (omega arith)
 
--- Reading n bytes from a position on
-
--- nothing is there
-pub part-none : (s : List ℕ) (at n : ℕ) → length s ≤ at → take n (drop at s) ≡ []
-part-none s at n h = rw (drop-of-length-le s h) (take-nil n)
-
--- all n are there
-pub part-whole : (s : List ℕ) (at n : ℕ) → take (at + n - at) (drop at s) ≡ take n (drop at s)
-part-whole s at n = rw add-sub-cancel-left
-
--- fewer are there
-pub part-rest : (s : List ℕ) (at n : ℕ) → length s - at ≤ n → take (length s - at) (drop at s) ≡ take n (drop at s)
-part-rest s at n h =
-    let rest = length-drop at s in
-    take-all (length s - at) (drop at s) (omega arith) ∙ sym (take-all n (drop at s) (omega arith))
-
+-- n bytes from a position on
 pub bigEndian-part-lt : (n : ℕ) (s : List ℕ) → Bytes s → (at : ℕ) → bigEndian (take n (drop at s)) < 256 ^ n
 bigEndian-part-lt n s h at = bigEndian-take-lt n (drop at s) (Bytes-drop at s h) n (le-refl n)
 
@@ -180,8 +165,8 @@ unfolding littleEndian littleBytes
 littleBytes-littleEndian [] h = refl
 littleBytes-littleEndian (b ∷ bs) h =
     let first = h zero (suc-le-suc zero-le) in
-    let low : (b + 256 * littleEndian bs) % 256 ≡ b = omega arith in
-    let high : (b + 256 * littleEndian bs) / 256 ≡ littleEndian bs = omega arith in
+    let low : littleEndian (b ∷ bs) % 256 ≡ b = omega arith in
+    let high : littleEndian (b ∷ bs) / 256 ≡ littleEndian bs = omega arith in
     rw (low, high, littleBytes-littleEndian bs (Bytes-tail b bs h))
 
 pub bigBytes-bigEndian : (l : List ℕ) → Bytes l → bigBytes (length l) (bigEndian l) ≡ l
@@ -214,16 +199,17 @@ bigBytes-injective n x y hx hy same =
 -- The widths that the code writes
 
 -- below 256 ^ 4, the highest of four bytes needs no remainder
-pub bigBytes-four : (x : ℕ) → x < 256 ^ 4 → bigBytes 4 x ≡ x / 16777216 ∷ x / 65536 % 256 ∷ x / 256 % 256 ∷ x % 256 ∷ []
+pub bigBytes-four : (x a b c d : ℕ) → x < 256 ^ 4 → a ≡ x / 16777216 → b ≡ x / 65536 % 256 → c ≡ x / 256 % 256 → d ≡ x % 256
+    → a ∷ b ∷ c ∷ d ∷ [] ≡ bigBytes 4 x
 unfolding bigBytes littleBytes
-bigBytes-four x h =
-    let a : x / 256 / 256 / 256 % 256 ≡ x / 16777216 = omega arith in
-    let b : x / 256 / 256 % 256 ≡ x / 65536 % 256 = omega arith in
-    rw (a, b)
+bigBytes-four x a b c d h e f g i =
+    let highest : x / 256 / 256 / 256 % 256 ≡ a = omega arith in
+    let second : x / 256 / 256 % 256 ≡ b = omega arith in
+    rw (highest, second, g, i)
 
 -- eight bytes are four and four
-pub bigBytes-eight : (x : ℕ) → bigBytes 8 x ≡ bigBytes 4 (x / 4294967296) ++ bigBytes 4 (x % 4294967296)
-bigBytes-eight x = bigBytes-add 4 4 x ∙ ap (λ (l : List ℕ). bigBytes 4 (x / 4294967296) ++ l) (sym (bigBytes-mod 4 x))
+pub bigBytes-eight : (x h l : ℕ) → h ≡ x / 4294967296 → l ≡ x % 4294967296 → bigBytes 4 h ++ bigBytes 4 l ≡ bigBytes 8 x
+bigBytes-eight x h l e f = rw (e, f) (ap (λ (s : List ℕ). bigBytes 4 (x / 4294967296) ++ s) (bigBytes-mod 4 x) ∙ sym (bigBytes-add 4 4 x))
 
 -- a list of four bytes written out element by element, in front of others
 pub bigBytes-four-elements : (l : List ℕ) (x : ℕ) → l ≡ bigBytes 4 x → (r : List ℕ)

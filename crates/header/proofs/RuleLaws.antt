@@ -7,14 +7,14 @@ use Prim.Native.Nat.{ℕ, _+_, _-_, _^_, _≤_, _<_}
 use native.Mathlib.Nat.{add-sub-cancel-left}
 use native.Mathlib.Omega.{arith}
 use lib.Dec.{leb, eqb}
-use lib.ListN.{length, take, drop, length-drop}
-use lib.Seq.{take-all}
+use lib.ListN.{length, take, drop}
 use borrow.Author.Tests.{leb-true, leb-false, le-leb, lt-leb, eq-eqb, ne-eqb}
 use Rattle.byte_string.specs.Order.{begins}
 use Rattle.endian.specs.FixedWidth.{littleEndian}
 use Rattle.crc64.specs.Crc64.{crc64}
 use Rattle.outcome.specs.Outcome.{answer, refused, _>>_, must}
 use Rattle.part.specs.Part.{part}
+use Rattle.part.proofs.PartLaws.{lent-part, lent-drop}
 use Rattle.header.specs.Metadata.{isMetadata}
 use Rattle.header.specs.Header.{magic, unfinishedMagic, codecNone, fieldAt, H, M, holdsHeader, headerCrcRight, holdsMetadata}
 use Rattle.header.specs.Header.{headerNumbers, fieldsOf, dataOf, sizeRule, frontRules, headerOf}
@@ -103,12 +103,11 @@ headerCrcRight-by file h e = rw (add-sub-cancel-left, e)
 
 -- the codec is looked for in the rest of the file, which is lent
 pub codec-lent : (file : List ℕ) → begins codecNone (take (length file - 72) (drop 72 file)) ≡ begins codecNone (drop 72 file)
-codec-lent file = ap (begins codecNone) (take-all (length file - 72) (drop 72 file) (simp length-drop (omega arith)))
+codec-lent file = ap (begins codecNone) (lent-drop file 72)
 
 -- the metadata are tested in a part, which is lent
 pub metadata-lent : (file : List ℕ) (m : ℕ) → m ≡ M file → isMetadata (take (96 + m - 96) (drop 96 file)) ≡ isMetadata (part file 96 (M file))
-unfolding part
-metadata-lent file m e = rw (add-sub-cancel-left, e)
+metadata-lent file m e = ap isMetadata (lent-part file 96 m ∙ ap (part file 96) e)
 
 -- refusal 7: another codec
 pub fields-codec : (file : List ℕ) → begins codecNone (drop 72 file) ≡ false → fieldsOf file ≡ refused 7 0

@@ -5,7 +5,7 @@ use mathlib.Core.List.{List, [], _∷_, _++_}
 use Prim.Native.Nat.{ℕ, zero, suc, _+_, _-_, _≤_, _<_}
 use native.Mathlib.Nat.{sub-zero, zero-sub, suc-sub-suc, add-sub-cancel-left}
 use native.Mathlib.Omega.{arith}
-use lib.ListN.{length, take, drop, getD, length-take, length-drop}
+use lib.ListN.{length, take, drop, getD, length-take, length-drop, drop-of-length-le}
 use lib.Seq.{drop-drop, take-take, getD-take, getD-drop, take-all, take-add, take-nil}
 use Rattle.part.specs.Part.{part}
 
@@ -17,6 +17,11 @@ length-part s at n h = simp (length-take, length-drop) (omega arith)
 pub part-empty : (s : List ℕ) (at : ℕ) → part s at 0 ≡ []
 unfolding part
 part-empty s at = refl
+
+-- from the end on nothing is there
+pub part-past : (s : List ℕ) (at n : ℕ) → length s ≤ at → part s at n ≡ []
+unfolding part
+part-past s at n h = ap (take n) (drop-of-length-le s h) ∙ take-nil n
 
 -- the element at an index of a part
 pub getD-part : (s : List ℕ) (at n i : ℕ) → i < n → getD (part s at n) i 0 ≡ getD s (at + i) 0
@@ -91,7 +96,16 @@ module _ (s t : List ℕ) (at n : ℕ) (e : part s at n ≡ part t at n) where
       sum : at + (a - at) ≡ a
       sum = omega arith
 
--- a part as code lends it, from a start to an end
+-- ---- a part as code lends it
+
+-- from a start to an end
 pub lent-part : (s : List ℕ) (at n : ℕ) → take (at + n - at) (drop at s) ≡ part s at n
 unfolding part
 lent-part s at n = ap (λ (k : ℕ). take k (drop at s)) (add-sub-cancel-left at n)
+
+-- to the end of the byte string
+pub lent-drop : (s : List ℕ) (at : ℕ) → take (length s - at) (drop at s) ≡ drop at s
+lent-drop s at = take-all (length s - at) (drop at s) (simp length-drop (omega arith))
+
+pub lent-rest : (s : List ℕ) (at n : ℕ) → length s ≤ at + n → take (length s - at) (drop at s) ≡ part s at n
+lent-rest s at n h = lent-drop s at ∙ sym (part-rest s at n h)

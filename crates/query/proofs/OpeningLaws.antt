@@ -3,11 +3,11 @@
 use Prim.Native.Nat.{ℕ}
 use mathlib.Core.Path.{_≡_, refl, sym, _∙_}
 use mathlib.Core.Logic.{_⊎_, inl, inr}
-use mathlib.Core.Bool.{Bool, true, false, and-false, or-true, and-eq-true-iff}
+use mathlib.Core.Bool.{Bool, true, false, and-false, or-true, or-false, and-eq-true-iff}
 use mathlib.Core.List.{List, []}
 use mathlib.Core.Option.{Option, none, some}
 use Rattle.byte_string.specs.Order.{AreBytes, atMost, begins}
-use Rattle.byte_string.proofs.OrderLaws.{atMost-refl, atMost-total, atMost-trans, atMost-antisym}
+use Rattle.byte_string.proofs.OrderLaws.{atMost-not-less, atMost-refl, atMost-total, atMost-trans, atMost-antisym}
 use Rattle.byte_string.proofs.PrefixLaws.{begins-refl, begins-atMost, begins-between}
 use Rattle.query.specs.Query.{Query, given, queryOf, before, matches}
 use Rattle.query.specs.Opening.{upTo, CanMatch, reaches, admitsPrefix, mayMatch}
@@ -15,10 +15,15 @@ use Rattle.query.proofs.QueryLaws.{before-empty, before-down, matches-p
 
 -- The upper bound.
 
+-- x is up to a bound that it is at most
+pub upTo-some : (x s : List ℕ) → upTo x (some s) ≡ atMost x s
+unfolding upTo
+upTo-some x s = simp atMost-not-less
+
 -- an upper bound that is given is compared with
 pub upTo-given : (x s : List ℕ) (g : Bool) → g ≡ true → upTo x (given g s) ≡ atMost x s
-unfolding upTo given
-upTo-given x s g e = rw e
+unfolding given
+upTo-given x s g e = rw e (upTo-some x s)
 
 -- where no upper bound is given, every list is up to it
 pub upTo-absent : (x s : List ℕ) (g : Bool) → g ≡ false → upTo x (given g s) ≡ true
@@ -29,7 +34,7 @@ upTo-absent x s g e = rw e
 pub upTo-down : (y x : List ℕ) (upper : Option (List ℕ)) → atMost y x ≡ true → upTo x upper ≡ true → upTo y upper ≡ true
 unfolding upTo
 upTo-down y x none l u = refl
-upTo-down y x (some s) l u = atMost-trans y x s l u
+upTo-down y x (some s) l u = upTo-some y s ∙ atMost-trans y x s l (sym (upTo-some x s) ∙ u)
 
 -- The upper bound and the stop together.
 
@@ -57,15 +62,15 @@ reaches-down y x upper stop l u b = reaches-last y upper stop (upTo-down y x upp
 
 pub admitsPrefix-below : (x prefix : List ℕ) → atMost x prefix ≡ true → admitsPrefix x prefix ≡ true
 unfolding admitsPrefix
-admitsPrefix-below x prefix l = rw l
+admitsPrefix-below x prefix l = simp (l, or-true)
 
 pub admitsPrefix-begins : (x prefix : List ℕ) → begins prefix x ≡ true → admitsPrefix x prefix ≡ true
 unfolding admitsPrefix
-admitsPrefix-begins x prefix p = rw p (or-true (atMost x prefix))
+admitsPrefix-begins x prefix p = simp (p, or-true)
 
 pub admitsPrefix-last : (x prefix : List ℕ) → atMost x prefix ≡ false → admitsPrefix x prefix ≡ begins prefix x
 unfolding admitsPrefix
-admitsPrefix-last x prefix l = rw l
+admitsPrefix-last x prefix l = simp (l, or-false)
 
 -- x leads to the prefix where something from x on begins with it
 pub admitsPrefix-of : (x y prefix : List ℕ) → atMost x y ≡ true → begins prefix y ≡ true → admitsPrefix x prefix ≡ true

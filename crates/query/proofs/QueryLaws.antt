@@ -1,21 +1,26 @@
 -- The laws of `matches`: its three tests, where it holds, and what has no influence on it.
 -- Assumes nothing.
 use Prim.Native.Nat.{ℕ}
-use mathlib.Core.Path.{_≡_, refl, _∙_}
+use mathlib.Core.Path.{_≡_, refl, sym, _∙_}
 use mathlib.Core.Bool.{Bool, true, false, and-false, and-eq-true-iff}
 use mathlib.Core.List.{List, []}
 use mathlib.Core.Option.{Option, none, some}
 use Rattle.byte_string.specs.Order.{atMost, less, begins}
-use Rattle.byte_string.proofs.OrderLaws.{not-less-of-atMost, nil-atMost, atMost-less-trans, atMost-trans}
+use Rattle.byte_string.proofs.OrderLaws.{less-not-atMost, not-less-of-atMost, nil-atMost, atMost-less-trans, atMost-trans}
 use Rattle.byte_string.proofs.PrefixLaws.{begins-nil, begins-atMost, begins-between}
 use Rattle.query.specs.Query.{Query, given, queryOf, before, matches}
 
 -- The stop.
 
+-- x is before a stop that comes after it
+pub before-some : (x s : List ℕ) → before x (some s) ≡ less x s
+unfolding before
+before-some x s = simp less-not-atMost
+
 -- a stop that is given is compared with
 pub before-given : (x s : List ℕ) (g : Bool) → g ≡ true → before x (given g s) ≡ less x s
-unfolding before given
-before-given x s g e = rw e
+unfolding given
+before-given x s g e = rw e (before-some x s)
 
 -- where no stop is given, every list is before it
 pub before-absent : (x s : List ℕ) (g : Bool) → g ≡ false → before x (given g s) ≡ true
@@ -30,7 +35,7 @@ before-empty x = before-given x [] true refl ∙ not-less-of-atMost [] x (nil-at
 pub before-down : (y x : List ℕ) (stop : Option (List ℕ)) → atMost y x ≡ true → before x stop ≡ true → before y stop ≡ true
 unfolding before
 before-down y x none l b = refl
-before-down y x (some s) l b = atMost-less-trans y x s l b
+before-down y x (some s) l b = before-some y s ∙ atMost-less-trans y x s l (sym (before-some x s) ∙ b)
 
 -- The three tests: one that fails decides, and after two that hold the prefix decides.
 

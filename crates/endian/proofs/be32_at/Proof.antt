@@ -5,15 +5,17 @@ use native.Mathlib.Omega.{arith}
 use borrow.Author.Needs.{needs}
 use lib.ListN.{take, drop}
 use Rattle.endian.specs.FixedWidth.{littleEndian, bigEndian}
-use Rattle.endian.proofs.FixedWidthLaws.{bigEndian-part-lt, part-none, part-whole, part-rest}
+use Rattle.endian.proofs.FixedWidthLaws.{bigEndian-part-lt}
+use Rattle.part.specs.Part.{part}
+use Rattle.part.proofs.PartLaws.{part-past, lent-part, lent-rest}
 use Rattle.endian.proofs.be32_at.Statement.{statement}
 use Rattle.endian.proofs.be32_at.Tie as tie
 
 returns : tie.Need-returns
-unfolding bigEndian littleEndian
+unfolding bigEndian littleEndian part
 returns c =
     let args = c .before .before .args in
-    rw (part-none (args .s .now) (args .at) 4 (c .if1 .taken))
+    rw (part-past (args .s .now) (args .at) 4 (omega arith))
 
 sub-if2 : tie.Need-sub-if2
 sub-if2 c = search needs
@@ -35,7 +37,10 @@ big-requires c κs = search needs
 
 whole : (c : tie.After-big)
     → (let a = c .before .before .before .before .before .args in c .big .result ≡ bigEndian (take 4 (drop (a .at) (a .s .now))))
-whole c = let a = c .before .before .before .before .before .args in c .big .ensures ∙ ap bigEndian (part-whole (a .s .now) (a .at) 4)
+unfolding part
+whole c =
+    let a = c .before .before .before .before .before .args in
+    c .big .ensures ∙ ap bigEndian (lent-part (a .s .now) (a .at) 4)
 
 cast-result : tie.Need-cast-result
 cast-result c =
@@ -60,7 +65,10 @@ big-requires-2 c κs = search needs
 
 rest : (c : tie.After-big2)
     → (let a = c .before .before .before .before .before .args in c .big2 .result ≡ bigEndian (take 4 (drop (a .at) (a .s .now))))
-rest c = let a = c .before .before .before .before .before .args in c .big2 .ensures ∙ ap bigEndian (part-rest (a .s .now) (a .at) 4 (omega arith))
+unfolding part
+rest c =
+    let a = c .before .before .before .before .before .args in
+    c .big2 .ensures ∙ ap bigEndian (lent-rest (a .s .now) (a .at) 4 (omega arith))
 
 cast-result-2 : tie.Need-cast-result-2
 cast-result-2 c =

@@ -1,7 +1,7 @@
 -- Eight bytes are the four of the quotient by 2 ^ 32 and the four of the remainder.
-use mathlib.Core.Path.{ap, sym, _∙_}
-use mathlib.Core.List.{List, [], _++_, append-nil}
-use Prim.Native.Nat.{ℕ, _/_, _%_}
+use mathlib.Core.Path.{ap, _∙_}
+use mathlib.Core.List.{[], _++_, append-nil}
+use native.Mathlib.Omega.{arith}
 use borrow.Author.Needs.{needs}
 use Rattle.endian.specs.FixedWidth.{bigBytes}
 use Rattle.endian.proofs.FixedWidthLaws.{bigBytes-eight, bigBytes-four-elements}
@@ -46,10 +46,11 @@ array-read-t30 c = search needs
 
 returns : tie.Need-returns
 returns c =
-    let args = c .before .before .args in
-    let high = c .before .be32-bytes in let low = c .be32-bytes2 in let x = args .x in bigBytes-four-elements (high .result) (x /
-    4294967296) (high .ensures) _ ∙ ap (λ (l : List ℕ). bigBytes 4 (x / 4294967296) ++ l) (bigBytes-four-elements (low .result) (x %
-    4294967296) (low .ensures) []) ∙ rw append-nil (sym (bigBytes-eight x))
+    let high = c .before .be32-bytes in
+    let low = c .be32-bytes2 in
+    bigBytes-four-elements (high .result) _ (high .ensures) _
+    ∙ ap (_++_ (bigBytes 4 _)) (bigBytes-four-elements (low .result) _ (low .ensures) [] ∙ append-nil (bigBytes 4 _))
+    ∙ bigBytes-eight (c .before .before .args .x) _ _ (omega arith) (omega arith)
 
 pub be64-bytes-spec : {M : Type 1} → statement M
 be64-bytes-spec =

@@ -3,15 +3,16 @@ use mathlib.Core.Path.{ap, _∙_}
 use native.Mathlib.Omega.{arith}
 use borrow.Author.Needs.{needs}
 use Rattle.endian.specs.FixedWidth.{littleEndian}
-use Rattle.endian.proofs.FixedWidthLaws.{part-none, part-whole, part-rest}
+use Rattle.part.specs.Part.{part}
+use Rattle.part.proofs.PartLaws.{part-past, lent-part, lent-rest}
 use Rattle.endian.proofs.le64_at.Statement.{statement}
 use Rattle.endian.proofs.le64_at.Tie as tie
 
 returns : tie.Need-returns
-unfolding littleEndian
+unfolding littleEndian part
 returns c =
     let args = c .before .before .args in
-    rw (part-none (args .s .now) (args .at) 8 (c .if1 .taken))
+    rw (part-past (args .s .now) (args .at) 8 (omega arith))
 
 sub-if2 : tie.Need-sub-if2
 sub-if2 c = search needs
@@ -32,7 +33,10 @@ little-requires : tie.Need-little-requires
 little-requires c κs = search needs
 
 returns-2 : tie.Need-returns-2
-returns-2 c = let a = c .before .before .before .before .before .args in c .little .ensures ∙ ap littleEndian (part-whole (a .s .now) (a .at) 8)
+unfolding part
+returns-2 c =
+    let a = c .before .before .before .before .before .args in
+    c .little .ensures ∙ ap littleEndian (lent-part (a .s .now) (a .at) 8)
 
 sub-little-2 : tie.Need-sub-little-2
 sub-little-2 c = search needs
@@ -47,7 +51,10 @@ little-requires-2 : tie.Need-little-requires-2
 little-requires-2 c κs = search needs
 
 returns-3 : tie.Need-returns-3
-returns-3 c = let a = c .before .before .before .before .before .args in c .little2 .ensures ∙ ap littleEndian (part-rest (a .s .now) (a .at) 8 (omega arith))
+unfolding part
+returns-3 c =
+    let a = c .before .before .before .before .before .args in
+    c .little2 .ensures ∙ ap littleEndian (lent-rest (a .s .now) (a .at) 8 (omega arith))
 
 pub le64-at-spec : {M : Type 1} → statement M
 le64-at-spec =

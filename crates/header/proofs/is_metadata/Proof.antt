@@ -14,7 +14,7 @@ shared-slice-read-if2 : tie.Need-shared-slice-read-if2
 shared-slice-read-if2 c = search needs
 
 returns-2 : tie.Need-returns-2
-returns-2 c = sym (metadata-unopened _ (omega arith) (c .if2 .taken))
+returns-2 c = sym (metadata-unopened _ (omega arith) (λ e. omega arith))
 
 sub-result : tie.Need-sub-result
 sub-result c = search needs
@@ -23,7 +23,7 @@ shared-slice-read-result : tie.Need-shared-slice-read-result
 shared-slice-read-result c = search needs
 
 returns-3 : tie.Need-returns-3
-returns-3 c = sym (metadata-opened _ (omega arith) (c .before .if2 .left))
+returns-3 c = sym (metadata-opened _ (omega arith) (omega arith))
 
 pub is-metadata-spec : {M : Type 1} → statement M
 is-metadata-spec =

@@ -32,22 +32,21 @@ returns : tie.Need-returns Inv-loop μ-loop
 unfolding readingSaid
 returns c =
     let loop = c .before .before .before .before .before .loop in
-    let loop-test = c .before .before .before .before .loop-test in
-    let n = loop .n in sym (passed-long _ _ _ n (loop .inv) (loop-test .taken) (c .if3 .taken) (c .before .if2 .taken))
+    sym (passed-long _ _ _ (loop .n) (loop .inv) (omega arith) (omega arith) (omega arith))
 
 mul-t12 : tie.Need-mul-t12 Inv-loop μ-loop
 mul-t12 c =
     let loop = c .before .before .before .before .loop in
     let args = c .before .before .before .before .before .args in
-    let h = digit-fits (loop .value) (loop .scale) (getD (now (args .part)) (loop .n) 0) (loop .inv .below) (c .before .if1 .taken) in omega
-    arith
+    let h = digit-fits (loop .value) (loop .scale) (getD (now (args .part)) (loop .n) 0) (loop .inv .below) (omega arith) in
+    omega arith
 
 add-t13 : tie.Need-add-t13 Inv-loop μ-loop
 add-t13 c =
     let loop = c .before .before .before .before .loop in
     let args = c .before .before .before .before .before .args in
-    let h = digit-fits (loop .value) (loop .scale) (getD (now (args .part)) (loop .n) 0) (loop .inv .below) (c .before .if1 .taken) in omega
-    arith
+    let h = digit-fits (loop .value) (loop .scale) (getD (now (args .part)) (loop .n) 0) (loop .inv .below) (omega arith) in
+    omega arith
 
 add-t14 : tie.Need-add-t14 Inv-loop μ-loop
 add-t14 c = omega arith
@@ -56,16 +55,14 @@ returns-2 : tie.Need-returns-2 Inv-loop μ-loop
 unfolding readingSaid
 returns-2 c =
     let loop = c .before .before .before .before .loop in
-    let loop-test = c .before .before .before .loop-test in
-    sym (⊎-elim (λ w. passed-value _ _ _ (loop .n) (loop .inv) (loop-test .taken) (c .before .if1 .taken) (inl (w .1 .left))) (λ w.
-    passed-value _ _ _ (loop .n) (loop .inv) (loop-test .taken) (c .before .if1 .taken) (inr (w .left))) (c .if2 .came))
+    sym (passed-value _ _ _ (loop .n) (loop .inv) (omega arith) (omega arith)
+    (⊎-elim (λ w. inl (omega arith)) (λ w. inr (λ e. omega arith)) (c .if2 .came)))
 
 returns-3 : tie.Need-returns-3 Inv-loop μ-loop
 unfolding readingSaid
 returns-3 c =
     let loop = c .before .before .before .before .loop in
-    let loop-test = c .before .before .before .loop-test in
-    sym (passed-wide _ _ _ (loop .n) (loop .inv) (loop-test .taken) (c .before .if1 .left) (c .if4 .taken))
+    sym (passed-wide _ _ _ (loop .n) (loop .inv) (omega arith) (omega arith) (omega arith))
 
 mul-value : tie.Need-mul-value Inv-loop μ-loop
 mul-value c =
@@ -99,15 +96,14 @@ loop-less c = omega arith
 loop-again : tie.Need-loop-again Inv-loop μ-loop
 loop-again c =
     let loop = c .before .before .before .before .loop in
-    let loop-test = c .before .before .before .loop-test in
     let shared-slice-known = c .before .before .shared-slice-known in
-    passed-step _ _ _ (loop .n) (loop .inv) (loop-test .taken) (c .before .if1 .left) (omega (arith, shared-slice-known .given (loop .n)))
-    (c .if4 .left)
+    passed-step _ _ _ (loop .n) (loop .inv) (omega arith) (omega arith) (omega (arith, shared-slice-known .given (loop .n)))
+    (λ e. omega arith)
 
 returns-4 : tie.Need-returns-4 Inv-loop μ-loop
 unfolding readingSaid
 returns-4 c =
-    sym (passed-cut _ _ _ (c .before .loop .n) (c .before .loop .inv) (c .loop-test .left))
+    sym (passed-cut _ _ _ (c .before .loop .n) (c .before .loop .inv) (omega arith))
 
 pub read-number-spec : {M : Type 1} → statement M
 read-number-spec =
