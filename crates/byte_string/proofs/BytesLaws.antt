@@ -15,9 +15,6 @@ bytes-at [] h k = omega arith
 bytes-at (b ∷ s) h zero = h .0
 bytes-at (b ∷ s) h (suc k) = bytes-at s (h .1) k
 
-pub bytes-below : (s : List ℕ) → AreBytes s → (k : ℕ) → k < length s → getD s k 0 < 256
-bytes-below s h k l = bytes-at s h k
-
 pub bytes-of-below : (s : List ℕ) → ((k : ℕ) → k < length s → getD s k 0 < 256) → AreBytes s
 unfolding AreBytes
 bytes-of-below [] h = tt
