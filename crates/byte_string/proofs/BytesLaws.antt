@@ -2,7 +2,7 @@
 -- Assumes nothing.
 use Prim.Native.Nat.{ℕ, zero, suc, _<_, zero-le, suc-le-suc}
 use native.Mathlib.Omega.{arith}
-use mathlib.Core.List.{List, [], _∷_, _++_}
+use mathlib.Core.List.{List, [], _∷_, _++_, reverse, reverseAux}
 use lib.ListN.{length, getD, take, drop}
 use Rattle.byte_string.specs.Order.{AreBytes}
 
@@ -14,9 +14,6 @@ unfolding AreBytes
 bytes-at [] h k = omega arith
 bytes-at (b ∷ s) h zero = h .0
 bytes-at (b ∷ s) h (suc k) = bytes-at s (h .1) k
-
-pub bytes-below : (s : List ℕ) → AreBytes s → (k : ℕ) → k < length s → getD s k 0 < 256
-bytes-below s h k l = bytes-at s h k
 
 pub bytes-of-below : (s : List ℕ) → ((k : ℕ) → k < length s → getD s k 0 < 256) → AreBytes s
 unfolding AreBytes
@@ -51,3 +48,12 @@ unfolding AreBytes
 bytes-drop zero s h = h
 bytes-drop (suc k) [] h = tt
 bytes-drop (suc k) (b ∷ s) h = bytes-drop k s (h .1)
+
+bytes-reverseAux : (s t : List ℕ) → AreBytes s → AreBytes t → AreBytes (reverseAux s t)
+unfolding AreBytes
+bytes-reverseAux [] t h k = k
+bytes-reverseAux (b ∷ s) t h k = bytes-reverseAux s (b ∷ t) (h .1) (h .0, k)
+
+pub bytes-reverse : (s : List ℕ) → AreBytes s → AreBytes (reverse s)
+unfolding AreBytes
+bytes-reverse s h = bytes-reverseAux s [] h tt

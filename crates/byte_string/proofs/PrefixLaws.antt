@@ -1,11 +1,11 @@
 -- The laws of `begins`: what a list begins with, and how beginnings lie in the order.
 -- Assumes nothing.
-use Prim.Native.Nat.{ℕ, _≤_, _<_, zero-le, suc-le-suc}
+use Prim.Native.Nat.{ℕ, zero, suc, _≤_, _<_, zero-le, suc-le-suc}
 use native.Mathlib.Nat.{not-suc-le-zero, le-of-suc-le-suc}
 use native.Mathlib.Omega.{arith}
-use mathlib.Core.Path.{_≡_, refl, sym, _∙_}
+use mathlib.Core.Path.{_≡_, refl, sym, ap, _∙_}
 use mathlib.Core.Logic.{_⊎_, inl, inr}
-use mathlib.Core.Bool.{Bool, true, false, false≢true, and-eq-true-iff}
+use mathlib.Core.Bool.{Bool, true, false, _&&_, false≢true, and-eq-true-iff}
 use mathlib.Core.List.{List, [], _∷_, _++_}
 use lib.Dec.{eqb}
 use lib.ListN.{length, take, drop, take-append-drop}
@@ -91,6 +91,14 @@ begins-both (a ∷ p) (b ∷ q) (c ∷ x) e f n =
     let h = begins-cons a c p x e in
     let k = begins-cons b c q x f in
     begins-cons-of a b p q (h .0 ∙ sym (k .0)) (begins-both p q x (h .1) (k .1) (le-of-suc-le-suc n))
+
+-- whether a list begins with p is seen in a front that is as long as p
+pub begins-front : (p s : List ℕ) (n : ℕ) → length p ≤ n → begins p (take n s) ≡ begins p s
+unfolding begins
+begins-front [] s n h = refl
+begins-front (a ∷ p) s zero h = absurd (not-suc-le-zero h)
+begins-front (a ∷ p) [] (suc n) h = refl
+begins-front (a ∷ p) (b ∷ s) (suc n) h = ap (_&&_ (eqb a b)) (begins-front p s n (le-of-suc-le-suc h))
 
 -- Beginnings in the order: what begins with p stands together, and p comes first.
 

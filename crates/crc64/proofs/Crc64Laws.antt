@@ -2,7 +2,7 @@
 -- Assumes nothing.
 use mathlib.Core.Path.{_≡_, refl, sym, ap, _∙_}
 use mathlib.Core.List.{List, [], _∷_, _++_}
-use Prim.Native.Nat.{ℕ, zero, suc, _+_, _-_, _*_, _/_, _%_, _^_, _≤_, _<_, suc-le-suc}
+use Prim.Native.Nat.{ℕ, zero, suc, _+_, _-_, _*_, _/_, _%_, _^_, _≤_, _<_}
 use native.Mathlib.Nat.{sub-zero, zero-mul}
 use native.Mathlib.Numerals.{add-one}
 use native.Mathlib.Omega.{arith}
@@ -10,6 +10,7 @@ use lib.Bits.{bitXor, xor-lt, xor-zero-r}
 use lib.Dec.{lit<}
 use lib.ListN.{length, getD, take, drop, take-append-drop}
 use lib.Seq.{take-suc, take-all}
+use Rattle.byte_string.specs.Order.{AreBytes}
 use Rattle.crc64.specs.Crc64.{reversed, polynomial, allOnes, bitStep, bitSteps, byteStep, registerStart, register, crcOf, crc64}
 
 -- ---- the constants
@@ -135,14 +136,13 @@ unfolding byteStep
 byteStep-lt r b hr hb = bitSteps-lt 8 (bitXor r b) (xor-lt 64 r b hr (omega arith))
 
 -- after a string of bytes
-pub register-lt : (r : ℕ) (s : List ℕ) → r < 2 ^ 64 → ((k : ℕ) → k < length s → getD s k 0 < 256) → register r s < 2 ^ 64
-unfolding register
+pub register-lt : (r : ℕ) (s : List ℕ) → r < 2 ^ 64 → AreBytes s → register r s < 2 ^ 64
+unfolding register AreBytes
 register-lt r [] h bytes = h
-register-lt r (b ∷ s) h bytes =
-    register-lt (byteStep r b) s (byteStep-lt r b h (bytes 0 (omega arith))) (λ k below. bytes (suc k) (suc-le-suc below))
+register-lt r (b ∷ s) h bytes = register-lt (byteStep r b) s (byteStep-lt r b h (bytes .0)) (bytes .1)
 
 -- the checksum of a string of bytes fits 64 bits
-pub crc64-lt : (s : List ℕ) → ((k : ℕ) → k < length s → getD s k 0 < 256) → crc64 s < 2 ^ 64
+pub crc64-lt : (s : List ℕ) → AreBytes s → crc64 s < 2 ^ 64
 unfolding crc64 crcOf registerStart
 crc64-lt s bytes = xor-lt 64 (register allOnes s) allOnes (register-lt allOnes s ones bytes) ones
   where

@@ -1,52 +1,20 @@
 -- Laws of numbers of a fixed width, for any width and in either order of the bytes.
 -- A law about the highest byte first comes from the one about the lowest first by `reverse`. Assumes nothing.
 use mathlib.Core.Path.{_≡_, refl, sym, ap, _∙_}
-use mathlib.Core.List.{List, [], _∷_, _++_, reverse, reverseAux, reverse-append, reverse-reverse}
-use Prim.Native.Nat.{ℕ, zero, suc, _+_, _*_, _/_, _%_, _^_, _-_, _<_, _≤_, zero-le, suc-le-suc}
-use native.Mathlib.Nat.{add-comm, add-sub-cancel-left, mul-comm, pow-suc, zero-add, suc-add, one-le-pow, pow-le-pow-right}
-use native.Mathlib.Nat.{le-refl, lt-of-lt-of-le, le-of-suc-le-suc, not-suc-le-zero}
+use mathlib.Core.List.{List, [], _∷_, _++_, reverse, reverse-append, reverse-reverse}
+use Prim.Native.Nat.{ℕ, zero, suc, _+_, _*_, _/_, _%_, _^_, _-_, _<_, _≤_}
+use native.Mathlib.Nat.{add-comm, mul-comm, pow-suc, zero-add, suc-add, one-le-pow, pow-le-pow-right}
+use native.Mathlib.Nat.{le-refl, lt-of-lt-of-le, not-suc-le-zero}
 use native.Mathlib.Nat.{div-div-eq-div-mul, div-one, mod-lt, mod-eq-of-lt, mod-one}
 use native.Mathlib.Numerals.{add-one}
 use native.Mathlib.Omega.{arith}
 use lib.Arith.{mod-mul}
 use lib.Dec.{lit<}
-use lib.ListN.{length, getD, take, drop, length-take, length-drop, length-reverse, drop-of-length-le}
-use lib.Seq.{take-all, take-nil, take-suc, drop-cons, getD-take, getD-drop}
+use lib.ListN.{length, getD, take, drop, length-take, length-drop, length-reverse}
+use lib.Seq.{take-suc, drop-cons}
+use Rattle.byte_string.specs.Order.{AreBytes}
+use Rattle.byte_string.proofs.BytesLaws.{bytes-take, bytes-drop, bytes-reverse}
 use Rattle.endian.specs.FixedWidth.{littleEndian, bigEndian, littleBytes, bigBytes}
-
--- Lists of bytes
-
--- every element is below 256
-abbrev pub Bytes : List ℕ → Type 0
-Bytes l = (k : ℕ) → k < length l → getD l k 0 < 256
-
-pub Bytes-nil : Bytes []
-Bytes-nil k h = absurd (not-suc-le-zero h)
-
-pub Bytes-cons : (b : ℕ) (bs : List ℕ) → b < 256 → Bytes bs → Bytes (b ∷ bs)
-Bytes-cons b bs hb hbs zero h = hb
-Bytes-cons b bs hb hbs (suc k) h = hbs k (le-of-suc-le-suc h)
-
-pub Bytes-tail : (b : ℕ) (bs : List ℕ) → Bytes (b ∷ bs) → Bytes bs
-Bytes-tail b bs h k p = h (suc k) (suc-le-suc p)
-
-pub Bytes-take : (n : ℕ) (l : List ℕ) → Bytes l → Bytes (take n l)
-Bytes-take n l h k p =
-    let q = rw length-take at p in
-    rw (getD-take n l k 0 (omega arith)) (h k (omega arith))
-
-pub Bytes-drop : (n : ℕ) (l : List ℕ) → Bytes l → Bytes (drop n l)
-Bytes-drop n l h k p =
-    let q = rw length-drop at p in
-    rw getD-drop (h (n + k) (omega arith))
-
-Bytes-reverseAux : (l r : List ℕ) → Bytes l → Bytes r → Bytes (reverseAux l r)
-Bytes-reverseAux [] r hl hr = hr
-Bytes-reverseAux (b ∷ bs) r hl hr =
-    Bytes-reverseAux bs (b ∷ r) (Bytes-tail b bs hl) (Bytes-cons b r (hl zero (suc-le-suc zero-le)) hr)
-
-pub Bytes-reverse : (l : List ℕ) → Bytes l → Bytes (reverse l)
-Bytes-reverse l h = Bytes-reverseAux l [] h Bytes-nil
 
 -- The number of a list of bytes
 
@@ -66,30 +34,30 @@ unfolding bigEndian littleEndian
 bigEndian-snoc xs x = rw bigEndian-append (omega arith)
 
 -- n bytes are a number below 256 ^ n
-pub littleEndian-lt : (l : List ℕ) → Bytes l → littleEndian l < 256 ^ length l
-unfolding littleEndian
+pub littleEndian-lt : (l : List ℕ) → AreBytes l → littleEndian l < 256 ^ length l
+unfolding littleEndian AreBytes
 littleEndian-lt [] h = lit< tt
 littleEndian-lt (b ∷ bs) h =
-    let below = littleEndian-lt bs (Bytes-tail b bs h) in
-    let first = h zero (suc-le-suc zero-le) in
+    let below = littleEndian-lt bs (h .1) in
+    let first = h .0 in
     rw pow-suc (omega arith)
 
-pub bigEndian-lt : (l : List ℕ) → Bytes l → bigEndian l < 256 ^ length l
+pub bigEndian-lt : (l : List ℕ) → AreBytes l → bigEndian l < 256 ^ length l
 unfolding bigEndian
-bigEndian-lt l h = rw length-reverse at (littleEndian-lt (reverse l) (Bytes-reverse l h))
+bigEndian-lt l h = rw length-reverse at (littleEndian-lt (reverse l) (bytes-reverse l h))
 
 -- and at most n bytes too
-pub littleEndian-lt-within : (n : ℕ) (l : List ℕ) → Bytes l → length l ≤ n → littleEndian l < 256 ^ n
+pub littleEndian-lt-within : (n : ℕ) (l : List ℕ) → AreBytes l → length l ≤ n → littleEndian l < 256 ^ n
 littleEndian-lt-within n l h few = lt-of-lt-of-le (littleEndian-lt l h) (pow-le-pow-right (lit< tt) few)
 
-pub bigEndian-lt-within : (n : ℕ) (l : List ℕ) → Bytes l → length l ≤ n → bigEndian l < 256 ^ n
+pub bigEndian-lt-within : (n : ℕ) (l : List ℕ) → AreBytes l → length l ≤ n → bigEndian l < 256 ^ n
 bigEndian-lt-within n l h few = lt-of-lt-of-le (bigEndian-lt l h) (pow-le-pow-right (lit< tt) few)
 
-pub bigEndian-take-lt : (n : ℕ) (l : List ℕ) → Bytes l → (i : ℕ) → i ≤ n → bigEndian (take i l) < 256 ^ n
-bigEndian-take-lt n l h i few = bigEndian-lt-within n (take i l) (Bytes-take i l h) (rw length-take (omega arith))
+pub bigEndian-take-lt : (n : ℕ) (l : List ℕ) → AreBytes l → (i : ℕ) → i ≤ n → bigEndian (take i l) < 256 ^ n
+bigEndian-take-lt n l h i few = bigEndian-lt-within n (take i l) (bytes-take i l h) (rw length-take (omega arith))
 
-pub littleEndian-drop-lt : (n : ℕ) (l : List ℕ) → Bytes l → (i : ℕ) → length l ≤ n + i → littleEndian (drop i l) < 256 ^ n
-littleEndian-drop-lt n l h i few = littleEndian-lt-within n (drop i l) (Bytes-drop i l h) (rw length-drop (omega arith))
+pub littleEndian-drop-lt : (n : ℕ) (l : List ℕ) → AreBytes l → (i : ℕ) → length l ≤ n + i → littleEndian (drop i l) < 256 ^ n
+littleEndian-drop-lt n l h i few = littleEndian-lt-within n (drop i l) (bytes-drop i l h) (rw length-drop (omega arith))
 
 -- Reading byte after byte
 
@@ -108,8 +76,8 @@ littleEndian-drop-less l (suc i) some h =
     rw (before, drop-cons l i 0) (omega arith)
 
 -- n bytes from a position on
-pub bigEndian-part-lt : (n : ℕ) (s : List ℕ) → Bytes s → (at : ℕ) → bigEndian (take n (drop at s)) < 256 ^ n
-bigEndian-part-lt n s h at = bigEndian-take-lt n (drop at s) (Bytes-drop at s h) n (le-refl n)
+pub bigEndian-part-lt : (n : ℕ) (s : List ℕ) → AreBytes s → (at : ℕ) → bigEndian (take n (drop at s)) < 256 ^ n
+bigEndian-part-lt n s h at = bigEndian-take-lt n (drop at s) (bytes-drop at s h) n (le-refl n)
 
 -- The bytes of a number
 
@@ -122,15 +90,14 @@ pub bigBytes-length : (n x : ℕ) → length (bigBytes n x) ≡ n
 unfolding bigBytes
 bigBytes-length n x = length-reverse (littleBytes n x) ∙ littleBytes-length n x
 
-pub littleBytes-Bytes : (n x : ℕ) → Bytes (littleBytes n x)
-unfolding littleBytes
-littleBytes-Bytes zero x = Bytes-nil
-littleBytes-Bytes (suc n) x =
-    Bytes-cons (x % 256) (littleBytes n _) (mod-lt x (lit< tt)) (littleBytes-Bytes n _)
+pub littleBytes-bytes : (n x : ℕ) → AreBytes (littleBytes n x)
+unfolding littleBytes AreBytes
+littleBytes-bytes zero x = tt
+littleBytes-bytes (suc n) x = (mod-lt x (lit< tt), littleBytes-bytes n _)
 
-pub bigBytes-Bytes : (n x : ℕ) → Bytes (bigBytes n x)
+pub bigBytes-bytes : (n x : ℕ) → AreBytes (bigBytes n x)
 unfolding bigBytes
-bigBytes-Bytes n x = Bytes-reverse (littleBytes n x) (littleBytes-Bytes n x)
+bigBytes-bytes n x = bytes-reverse (littleBytes n x) (littleBytes-bytes n x)
 
 -- m + n bytes are the lowest m, and n of what is above them
 pub littleBytes-add : (m n x : ℕ) → littleBytes (m + n) x ≡ littleBytes m x ++ littleBytes n (x / 256 ^ m)
@@ -160,25 +127,25 @@ unfolding bigEndian bigBytes
 bigEndian-bigBytes n x = rw reverse-reverse (littleEndian-littleBytes n x)
 
 -- the bytes of the number of a list of bytes
-pub littleBytes-littleEndian : (l : List ℕ) → Bytes l → littleBytes (length l) (littleEndian l) ≡ l
-unfolding littleEndian littleBytes
+pub littleBytes-littleEndian : (l : List ℕ) → AreBytes l → littleBytes (length l) (littleEndian l) ≡ l
+unfolding littleEndian littleBytes AreBytes
 littleBytes-littleEndian [] h = refl
 littleBytes-littleEndian (b ∷ bs) h =
-    let first = h zero (suc-le-suc zero-le) in
+    let first = h .0 in
     let low : littleEndian (b ∷ bs) % 256 ≡ b = omega arith in
     let high : littleEndian (b ∷ bs) / 256 ≡ littleEndian bs = omega arith in
-    rw (low, high, littleBytes-littleEndian bs (Bytes-tail b bs h))
+    rw (low, high, littleBytes-littleEndian bs (h .1))
 
-pub bigBytes-bigEndian : (l : List ℕ) → Bytes l → bigBytes (length l) (bigEndian l) ≡ l
+pub bigBytes-bigEndian : (l : List ℕ) → AreBytes l → bigBytes (length l) (bigEndian l) ≡ l
 unfolding bigEndian bigBytes
 bigBytes-bigEndian l h =
-    let back = littleBytes-littleEndian (reverse l) (Bytes-reverse l h) in
+    let back = littleBytes-littleEndian (reverse l) (bytes-reverse l h) in
     ap reverse (rw length-reverse at back) ∙ reverse-reverse l
 
 -- only the lowest n bytes of a number count
 pub littleBytes-mod : (n x : ℕ) → littleBytes n (x % 256 ^ n) ≡ littleBytes n x
 littleBytes-mod n x =
-    let back = littleBytes-littleEndian (littleBytes n x) (littleBytes-Bytes n x) in
+    let back = littleBytes-littleEndian (littleBytes n x) (littleBytes-bytes n x) in
     rw (littleBytes-length, littleEndian-littleBytes) at back
 
 pub bigBytes-mod : (n x : ℕ) → bigBytes n (x % 256 ^ n) ≡ bigBytes n x

@@ -2,20 +2,20 @@
 -- refusals there are.
 -- Assumes nothing.
 use mathlib.Core.Path.{_≡_, refl, sym, ap, _∙_}
-use mathlib.Core.Bool.{Bool, true, false, _&&_}
-use mathlib.Core.List.{List, [], _∷_}
-use Prim.Native.Nat.{ℕ, zero, suc, _+_, _-_, _^_, _≤_}
-use native.Mathlib.Nat.{le-of-suc-le-suc, not-suc-le-zero}
+use mathlib.Core.Bool.{Bool, true, false}
+use mathlib.Core.List.{List}
+use Prim.Native.Nat.{ℕ, _+_, _-_, _^_, _≤_}
 use native.Mathlib.Omega.{arith}
-use lib.Dec.{eqb, lit≤}
+use lib.Dec.{lit≤}
 use lib.ListN.{length, take, drop}
 use borrow.Author.Tests.{leb-true, eqb-true, not-true}
 use Rattle.byte_string.specs.Order.{begins}
+use Rattle.byte_string.proofs.PrefixLaws.{begins-front}
 use Rattle.endian.specs.FixedWidth.{littleEndian}
 use Rattle.outcome.specs.Outcome.{Outcome, answer, refused, _>>_, must}
 use Rattle.part.specs.Part.{part}
 use Rattle.outcome.proofs.OutcomeLaws.{must⁻¹, kept⁻¹, passed⁻¹, answer-injective, answer-not-refused}
-use Rattle.part.proofs.PartLaws.{drop-take, part-take}
+use Rattle.part.proofs.PartLaws.{drop-take, part-front}
 use Rattle.header.specs.declared.Header.{Header}
 use Rattle.header.specs.declared.HeaderOutcome.the-variants.{Answer as Good, Refused as Bad}
 use Rattle.header.specs.Metadata.{Metadata}
@@ -115,19 +115,8 @@ blocks-within file h e = rw (blocks-from file h e) (is-header file h e .whole)
 
 -- ---- the header depends on nothing after it
 
--- whether a list begins with p is seen in a front that is as long as p
-pub begins-front : (p s : List ℕ) (n : ℕ) → length p ≤ n → begins p (take n s) ≡ begins p s
-unfolding begins
-begins-front [] s n h = refl
-begins-front (a ∷ p) s zero h = absurd (not-suc-le-zero h)
-begins-front (a ∷ p) [] (suc n) h = refl
-begins-front (a ∷ p) (b ∷ s) (suc n) h = ap (_&&_ (eqb a b)) (begins-front p s n (le-of-suc-le-suc h))
-
 -- two files with the same bytes up to an end: what lies in front of it is the same
 module _ (file t : List ℕ) (end : ℕ) (same : take end t ≡ take end file) where
-  pub part-same : (at n : ℕ) → at + n ≤ end → part t at n ≡ part file at n
-  part-same at n h = sym (part-take t end at n h) ∙ ap (λ (l : List ℕ). part l at n) same ∙ part-take file end at n h
-
   pub begins-same : (p : List ℕ) (at : ℕ) → at + length p ≤ end → begins p (drop at t) ≡ begins p (drop at file)
   begins-same p at h = front t ∙ ap (begins p) cut ∙ sym (front file)
     where
@@ -139,7 +128,7 @@ module _ (file t : List ℕ) (end : ℕ) (same : take end t ≡ take end file) w
 
   pub fieldAt-same : (at : ℕ) → at + 8 ≤ end → fieldAt t at ≡ fieldAt file at
   unfolding fieldAt
-  fieldAt-same at h = ap littleEndian (part-same at 8 h)
+  fieldAt-same at h = ap littleEndian (part-front t file end same at 8 h)
 
   pub H-same : 16 ≤ end → H t ≡ H file
   unfolding H
@@ -152,10 +141,10 @@ module _ (file t : List ℕ) (end : ℕ) (same : take end t ≡ take end file) w
   pub headerCrcRight-same : 24 + H file ≤ end → headerCrcRight t ≡ headerCrcRight file
   unfolding headerCrcRight
   headerCrcRight-same h =
-      rw (H-same (omega arith), fieldAt-same (16 + H file) (omega arith), part-same 16 (H file) (omega arith))
+      rw (H-same (omega arith), fieldAt-same (16 + H file) (omega arith), part-front t file end same 16 (H file) (omega arith))
 
   pub metadata-same : 96 + M file ≤ end → part t 96 (M t) ≡ part file 96 (M file)
-  metadata-same h = ap (part t 96) (M-same (omega arith)) ∙ part-same 96 (M file) h
+  metadata-same h = ap (part t 96) (M-same (omega arith)) ∙ part-front t file end same 96 (M file) h
 
 -- a file of the same length with the same bytes up to the first block has the same header
 pub header-local : (file t : List ℕ) (h : Header) → headerOf file ≡ answer h → length t ≡ length file

@@ -3,10 +3,10 @@
 use mathlib.Core.Path.{_≡_, refl, sym, ap, _∙_, subst}
 use mathlib.Core.Bool.{Bool, true, false, _&&_, _||_, cond, and-eq-true-iff, or-assoc, or-true}
 use mathlib.Core.Logic.{_⊎_, inl, inr}
-use mathlib.Core.List.{List, [], _∷_, _++_, flatMap, map, append-assoc, List·Memᴰ, List·Memᴰ·head, List·Memᴰ·tail, List·Memᴰ·not-nil, List·Memᴰ·cases-cons, List·Memᴰ·append-cases, Memᴰ·append-left, Memᴰ·append-right}
+use mathlib.Core.List.{List, [], _∷_, _++_, flatMap, map, append-assoc, List·Memᴰ, List·Memᴰ·head, List·Memᴰ·tail, List·Memᴰ·not-nil, List·Memᴰ·cases-cons, List·Memᴰ·append-cases, Memᴰ·append-left, Memᴰ·append-right, Memᴰ·map}
 use Prim.Native.Nat.{ℕ, zero, suc, _+_, _≤_, _<_}
 use native.Mathlib.Omega.{arith}
-use lib.ListN.{length, getD}
+use lib.ListN.{length, getD, replicate}
 use Rattle.lists.specs.Lists.{keep, any, all}
 
 pub keep-append : {A : Type 0} (test : A → Bool) (xs ys : List A) → keep test (xs ++ ys) ≡ keep test xs ++ keep test ys
@@ -75,7 +75,7 @@ unfolding AscendingIn
 ascending-wider from end low high [] a b h = omega arith
 ascending-wider from end low high (x ∷ xs) a b h = let first = h .0 in (omega arith, ascending-wider (x + 1) end (x + 1) high xs (omega arith) b (h .1))
 
--- one list behind another
+-- one list after another
 pub ascending-append : (from middle end : ℕ) (xs ys : List ℕ) → AscendingIn from middle xs → AscendingIn middle end ys → AscendingIn from end (xs ++ ys)
 unfolding AscendingIn
 ascending-append from middle end [] ys h k = ascending-wider middle end from end ys h (omega arith) k
@@ -116,16 +116,20 @@ ascending-at (x ∷ xs) zero (suc j) h k l = below-at x xs j (h .0) (omega arith
 ascending-at (x ∷ xs) (suc i) zero h k l = absurd (omega arith)
 ascending-at (x ∷ xs) (suc i) (suc j) h k l = ascending-at xs i j (h .1) (omega arith) (omega arith)
 
+-- by member
+pub below-each : (x : ℕ) (ys : List ℕ) → Below x ys → (y : ℕ) → List·Memᴰ y ys → x < y
+unfolding Below
+below-each x [] h y m = absurd (List·Memᴰ·not-nil m)
+below-each x (z ∷ ys) h y m = go (List·Memᴰ·cases-cons m) (λ (i : List·Memᴰ y ys). below-each x ys (h .1) y i)
+  where
+    go : (y ≡ z) ⊎ List·Memᴰ y ys → (List·Memᴰ y ys → x < y) → x < y
+    go (inl same) rest = let first = h .0 in omega arith
+    go (inr inside) rest = rest inside
+
 -- where the numbers of the elements ascend, elements with the same number are the same
 module _ {A : Type 0} (number : A → ℕ) where
   pub below-member : (x : ℕ) (ys : List A) → Below x (map number ys) → (y : A) → List·Memᴰ y ys → x < number y
-  unfolding Below
-  below-member x [] h y m = absurd (List·Memᴰ·not-nil m)
-  below-member x (z ∷ ys) h y m = go (List·Memᴰ·cases-cons m) (λ (i : List·Memᴰ y ys). below-member x ys (h .1) y i)
-    where
-      go : (y ≡ z) ⊎ List·Memᴰ y ys → (List·Memᴰ y ys → x < number y) → x < number y
-      go (inl same) rest = subst (λ (w : A). x < number w) (sym same) (h .0)
-      go (inr inside) rest = rest inside
+  below-member x ys h y m = below-each x (map number ys) h (number y) (Memᴰ·map number m)
 
   pub ascending-unique : (xs : List A) → Ascending (map number xs) → (x y : A) → List·Memᴰ x xs → List·Memᴰ y xs → number x ≡ number y → x ≡ y
   unfolding Ascending
@@ -148,6 +152,13 @@ both a b p q = and-eq-true-iff a b .1 (p, q)
 
 pub both⁻¹ : (a b : Bool) → (a && b) ≡ true → (a ≡ true) × (b ≡ true)
 both⁻¹ a b e = and-eq-true-iff a b .0 e
+
+-- the first decides where it is false, and the second where the first is true
+pub both-false : (a b : Bool) → a ≡ false → (a && b) ≡ false
+both-false a b e = rw e
+
+pub both-rest : (a b : Bool) → a ≡ true → (a && b) ≡ b
+both-rest a b e = rw e
 
 pub false-not-true : false ≡ true → ⊥
 false-not-true e = let z : _≡_ {A = ℕ} 0 1 = cc in omega arith
@@ -218,3 +229,11 @@ module _ {A : Type 0} (test : A → Bool) where
   pub keep-later : (x : A) (xs : List A) → test x ≡ false → keep test (x ∷ xs) ≡ keep test xs
   unfolding keep
   keep-later x xs h = rw h
+
+-- ---- zeros
+
+-- past their end a list is read as 0 too
+pub zeros-at : (n i : ℕ) → _≡_ {A = ℕ} (getD (replicate n 0) i 0) 0
+zeros-at zero i = refl
+zeros-at (suc n) zero = refl
+zeros-at (suc n) (suc i) = zeros-at n i

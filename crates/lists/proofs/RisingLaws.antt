@@ -12,6 +12,7 @@ use borrow.Author.Tests.{eq-eqb, ne-eqb}
 use Rattle.lists.proofs.ListsLaws.{keep-member}
 use Rattle.lists.specs.Lists.{keep}
 use Rattle.lists.proofs.ListsLaws.{Below, Ascending, below-member, flatMap-append}
+pub use Rattle.lists.proofs.ListsLaws.{below-each}
 
 -- ---- members
 
@@ -82,15 +83,6 @@ unfolding Below
 member-below x [] h = tt
 member-below x (y ∷ ys) h = (h y (List·Memᴰ·head refl), member-below x ys (λ (z : ℕ) (m : List·Memᴰ z ys). h z (List·Memᴰ·tail m)))
 
-pub below-each : (x : ℕ) (ys : List ℕ) → Below x ys → (y : ℕ) → List·Memᴰ y ys → x < y
-unfolding Below
-below-each x [] h y m = absurd (List·Memᴰ·not-nil m)
-below-each x (z ∷ ys) h y m = go (List·Memᴰ·cases-cons m) (λ (i : List·Memᴰ y ys). below-each x ys (h .1) y i)
-  where
-    go : (y ≡ z) ⊎ List·Memᴰ y ys → (List·Memᴰ y ys → x < y) → x < y
-    go (inl same) rest = let first = h .0 in omega arith
-    go (inr inside) rest = rest inside
-
 -- the first is the least
 pub ascending-least : (x : ℕ) (xs : List ℕ) → Ascending (x ∷ xs) → (y : ℕ) → List·Memᴰ y (x ∷ xs) → x ≤ y
 unfolding Ascending
@@ -110,7 +102,7 @@ unfolding Ascending
 ascending-right [] ys h = h
 ascending-right (x ∷ xs) ys h = ascending-right xs ys (h .1)
 
--- what stands in front is below what stands behind
+-- what stands in front is below what stands after it
 pub ascending-apart : (xs ys : List ℕ) → Ascending (xs ++ ys) → (x y : ℕ) → List·Memᴰ x xs → List·Memᴰ y ys → x < y
 unfolding Ascending
 ascending-apart [] ys h x y m n = absurd (List·Memᴰ·not-nil m)

@@ -40,6 +40,10 @@ pub part-take : (s : List ℕ) (end at n : ℕ) → at + n ≤ end → part (tak
 unfolding part
 part-take s end at n h = ap (take n) (drop-take at end s) ∙ take-take n (end - at) (drop at s) (omega arith)
 
+-- byte strings that agree up to an end agree on the parts before it
+pub part-front : (s t : List ℕ) (end : ℕ) → take end s ≡ take end t → (at n : ℕ) → at + n ≤ end → part s at n ≡ part t at n
+part-front s t end same at n h = sym (part-take s end at n h) ∙ ap (λ (l : List ℕ). part l at n) same ∙ part-take t end at n h
+
 -- a part that runs to the end is what is left
 pub part-rest : (s : List ℕ) (at n : ℕ) → length s ≤ at + n → part s at n ≡ drop at s
 unfolding part

@@ -4,6 +4,7 @@ use Prim.Native.Nat.{ℕ}
 use native.Mathlib.Omega.{arith}
 use borrow.Author.Needs.{needs}
 use lib.ListN.{take, drop}
+use Rattle.byte_string.proofs.BytesLaws.{bytes-of-below}
 use Rattle.endian.specs.FixedWidth.{littleEndian, bigEndian}
 use Rattle.endian.proofs.FixedWidthLaws.{bigEndian-part-lt}
 use Rattle.part.specs.Part.{part}
@@ -46,7 +47,8 @@ cast-result : tie.Need-cast-result
 cast-result c =
     let a = c .before .before .before .before .before .args in
     let shared-slice-known = c .before .before .before .before .shared-slice-known in
-    omega (arith, whole c, bigEndian-part-lt 4 (a .s .now) (λ (k : ℕ) _. shared-slice-known .given k .fits) (a .at))
+    let bytes = bytes-of-below (a .s .now) (λ (k : ℕ) _. shared-slice-known .given k .fits) in
+    omega (arith, whole c, bigEndian-part-lt 4 (a .s .now) bytes (a .at))
 
 returns-2 : tie.Need-returns-2
 returns-2 c = whole c
@@ -74,7 +76,8 @@ cast-result-2 : tie.Need-cast-result-2
 cast-result-2 c =
     let a = c .before .before .before .before .before .args in
     let shared-slice-known = c .before .before .before .before .shared-slice-known in
-    omega (arith, rest c, bigEndian-part-lt 4 (a .s .now) (λ (k : ℕ) _. shared-slice-known .given k .fits) (a .at))
+    let bytes = bytes-of-below (a .s .now) (λ (k : ℕ) _. shared-slice-known .given k .fits) in
+    omega (arith, rest c, bigEndian-part-lt 4 (a .s .now) bytes (a .at))
 
 returns-3 : tie.Need-returns-3
 returns-3 c = rest c

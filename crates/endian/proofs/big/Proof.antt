@@ -1,12 +1,13 @@
 -- The loop's invariant: the value is the number of the bytes before `i`. It stays below 256 ^ i, so one byte more fits.
 use mathlib.Core.Path.{_≡_, ap, _∙_}
-use Prim.Native.Nat.{_≤_, _<_, _-_, _^_}
+use Prim.Native.Nat.{ℕ, _≤_, _<_, _-_, _^_}
 use native.Mathlib.Omega.{arith}
 use borrow.Author.Needs.{needs}
 use lib.ListN.{length, take}
 use lib.Seq.{take-all}
+use Rattle.byte_string.proofs.BytesLaws.{bytes-of-below}
 use Rattle.endian.specs.FixedWidth.{littleEndian, bigEndian}
-use Rattle.endian.proofs.FixedWidthLaws.{Bytes, bigEndian-take-lt, bigEndian-take-more}
+use Rattle.endian.proofs.FixedWidthLaws.{bigEndian-take-lt, bigEndian-take-more}
 use Rattle.endian.proofs.big.Statement.{statement}
 use Rattle.endian.proofs.big.Tie as tie
 
@@ -25,8 +26,9 @@ room : (c : tie.In-loop Inv-loop μ-loop) → c .before .loop .value < 256 ^ 7
 room c =
     let args = c .before .before .before .args in
     let shared-slice-known = c .before .before .shared-slice-known in
-    let part = args .part .now in let bytes : Bytes part = λ k _. shared-slice-known .given k .fits in rw (c .before .loop .inv .1)
-    (bigEndian-take-lt 7 part bytes (c .before .loop .i) (omega arith))
+    let part = args .part .now in
+    let bytes = bytes-of-below part (λ (k : ℕ) _. shared-slice-known .given k .fits) in
+    rw (c .before .loop .inv .1) (bigEndian-take-lt 7 part bytes (c .before .loop .i) (omega arith))
 
 mul-value : tie.Need-mul-value Inv-loop μ-loop
 mul-value c = omega (arith, room c)

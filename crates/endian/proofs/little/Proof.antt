@@ -6,8 +6,9 @@ use native.Mathlib.Nat.{le-refl}
 use borrow.Author.Needs.{needs}
 use lib.Arith.{le-zero}
 use lib.ListN.{length, drop, drop-of-length-le}
+use Rattle.byte_string.proofs.BytesLaws.{bytes-of-below}
 use Rattle.endian.specs.FixedWidth.{littleEndian}
-use Rattle.endian.proofs.FixedWidthLaws.{Bytes, littleEndian-drop-lt, littleEndian-drop-less}
+use Rattle.endian.proofs.FixedWidthLaws.{littleEndian-drop-lt, littleEndian-drop-less}
 use Rattle.endian.proofs.little.Statement.{statement}
 use Rattle.endian.proofs.little.Tie as tie
 
@@ -31,8 +32,9 @@ room : (c : tie.In-loop Inv-loop μ-loop) → c .before .loop .value < 256 ^ 7
 room c =
     let args = c .before .before .before .args in
     let shared-slice-known = c .before .before .shared-slice-known in
-    let part = args .part .now in let bytes : Bytes part = λ k _. shared-slice-known .given k .fits in rw (c .before .loop .inv .1)
-    (littleEndian-drop-lt 7 part bytes (c .before .loop .i) (omega arith))
+    let part = args .part .now in
+    let bytes = bytes-of-below part (λ (k : ℕ) _. shared-slice-known .given k .fits) in
+    rw (c .before .loop .inv .1) (littleEndian-drop-lt 7 part bytes (c .before .loop .i) (omega arith))
 
 mul-value : tie.Need-mul-value Inv-loop μ-loop
 mul-value c = omega (arith, room c)
