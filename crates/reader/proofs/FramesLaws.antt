@@ -78,7 +78,8 @@ module _ (file : List ℕ) (from : ℕ) (q : Query) (first : Stored) where
         (omega arith)
         refl
 
-  pub frames-end : (at : ℕ) (stored : Stored) → FramesCollected at stored → length file ≤ at → stored ≡ putAll first (matching q (recordsOf (laidFrom file from)))
+  pub frames-end : (at : ℕ) (stored : Stored) → FramesCollected at stored → length file ≤ at
+      → stored ≡ putAll first (matching q (recordsOf (laidFrom file from)))
   unfolding recordsOf laidFrom
   frames-end at stored p h = collected-end (λ place. laidAt file) (λ b. b .records) q (length file) from first at stored p h 0
 
