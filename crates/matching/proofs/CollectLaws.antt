@@ -36,12 +36,15 @@ module _ {A : Type 0} (step : (place at : ℕ) → Outcome (Step A)) (texts : A 
   -- one item more
   pub collected-more : (at : ℕ) (stored : Stored) → Collected at stored → at < end
       → (s : Step A) → ((place : ℕ) → step place at ≡ answer s) → at < s .next
-      → (later : Stored) → later ≡ putAll stored (matching q (texts (s .item))) → later .count + (end - s .next) ≤ stored .count + (end - at) → length (later .list) ≡ length (stored .list)
+      → (later : Stored) → later ≡ putAll stored (matching q (texts (s .item))) → later .count + (end - s .next) ≤ stored .count + (end - at)
+      → length (later .list) ≡ length (stored .list)
       → Collected (s .next) later
   unfolding flatMap
   collected-more at stored p h s e forward later is few long = more (p .fuel) (p .enough) (p .leads)
     where
-      more : (fuel : ℕ) → end - at ≤ fuel → ((place : ℕ) → putAll first (matching q (textsFrom place (end - from) from)) ≡ putAll stored (matching q (textsFrom place fuel at))) → Collected (s .next) later
+      more : (fuel : ℕ) → end - at ≤ fuel
+          → ((place : ℕ) → putAll first (matching q (textsFrom place (end - from) from)) ≡ putAll stored (matching q (textsFrom place fuel at)))
+          → Collected (s .next) later
       more zero enough leads = absurd (omega arith)
       more (suc fuel) enough leads =
           record {
@@ -58,13 +61,15 @@ module _ {A : Type 0} (step : (place at : ℕ) → Outcome (Step A)) (texts : A 
           }
 
   -- nothing is left to put
-  nothing : (place at : ℕ) (stored : Stored) (p : Collected at stored) → soundFrom (step place) end (p .fuel) at ≡ [] → stored ≡ putAll first (matching q (textsFrom place (end - from) from))
+  nothing : (place at : ℕ) (stored : Stored) (p : Collected at stored) → soundFrom (step place) end (p .fuel) at ≡ []
+      → stored ≡ putAll first (matching q (textsFrom place (end - from) from))
   unfolding flatMap putAll
   nothing place at stored p none =
       sym (p .leads place ∙ ap (λ l. putAll stored (matching q (flatMap texts l))) none ∙ ap (putAll stored) (matching-nil q))
 
   -- the ways out: the end, and a refusal
-  pub collected-end : (at : ℕ) (stored : Stored) → Collected at stored → end ≤ at → (place : ℕ) → stored ≡ putAll first (matching q (textsFrom place (end - from) from))
+  pub collected-end : (at : ℕ) (stored : Stored) → Collected at stored → end ≤ at → (place : ℕ)
+      → stored ≡ putAll first (matching q (textsFrom place (end - from) from))
   collected-end at stored p h place = nothing place at stored p (sound-end (step place) end (p .fuel) at h)
 
   pub collected-refused : (at : ℕ) (stored : Stored) → Collected at stored → at < end

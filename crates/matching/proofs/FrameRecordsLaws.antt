@@ -28,11 +28,13 @@ unfolding soundFrom whereAnswered
 sound-few step end zero at = omega arith
 sound-few step end (suc fuel) at = by-end (leb end at) (by-step (step at) (λ next. sound-few step end fuel next))
   where
-    by-step : (o : Outcome (Step _)) → ((next : ℕ) → length (soundFrom step end fuel next) ≤ fuel) → length (whereAnswered o (λ s. s .item ∷ soundFrom step end fuel (s .next))) ≤ suc fuel
+    by-step : (o : Outcome (Step _)) → ((next : ℕ) → length (soundFrom step end fuel next) ≤ fuel)
+        → length (whereAnswered o (λ s. s .item ∷ soundFrom step end fuel (s .next))) ≤ suc fuel
     by-step (answer s) rest = let few = rest (s .next) in omega arith
     by-step (refused number place) rest = omega arith
 
-    by-end : (b : Bool) → length (whereAnswered (step at) (λ s. s .item ∷ soundFrom step end fuel (s .next))) ≤ suc fuel → length (cond b [] (whereAnswered (step at) (λ s. s .item ∷ soundFrom step end fuel (s .next)))) ≤ suc fuel
+    by-end : (b : Bool) → length (whereAnswered (step at) (λ s. s .item ∷ soundFrom step end fuel (s .next))) ≤ suc fuel
+        → length (cond b [] (whereAnswered (step at) (λ s. s .item ∷ soundFrom step end fuel (s .next)))) ≤ suc fuel
     by-end true few = omega arith
     by-end false few = few
 

@@ -49,7 +49,8 @@ module _ (q : Query) where
       go false few = omega arith
 
   -- every test that only matching records pass finds the same records, in the same order and as often
-  pub matching-keeps : (test : Text → Bool) → ((r : Text) → test r ≡ true → matches q (r .bytes) ≡ true) → (rs : List Text) → keep test (matching q rs) ≡ keep test rs
+  pub matching-keeps : (test : Text → Bool) → ((r : Text) → test r ≡ true → matches q (r .bytes) ≡ true) → (rs : List Text)
+      → keep test (matching q rs) ≡ keep test rs
   unfolding matching keep
   matching-keeps test narrow [] = refl
   matching-keeps test narrow (r ∷ rs) = go (test r) (matches q (r .bytes)) refl refl (matching-keeps test narrow rs)
@@ -72,7 +73,8 @@ module _ (q : Query) where
       later : List·Memᴰ r rs × (matches q (r .bytes) ≡ true) → List·Memᴰ r (x ∷ rs) × (matches q (r .bytes) ≡ true)
       later (m, e) = (List·Memᴰ·tail m, e)
 
-      go : (b : Bool) → matches q (x .bytes) ≡ b → List·Memᴰ r (cond b (x ∷ matching q rs) (matching q rs)) → (List·Memᴰ r (matching q rs) → List·Memᴰ r rs × (matches q (r .bytes) ≡ true))
+      go : (b : Bool) → matches q (x .bytes) ≡ b → List·Memᴰ r (cond b (x ∷ matching q rs) (matching q rs))
+          → (List·Memᴰ r (matching q rs) → List·Memᴰ r rs × (matches q (r .bytes) ≡ true))
           → List·Memᴰ r (x ∷ rs) × (matches q (r .bytes) ≡ true)
       go true e n rest =
           ⊎-elim (λ same. (List·Memᴰ·head same, ap (λ (t : Text). matches q (t .bytes)) same ∙ e)) (λ n′. later (rest n′)) (List·Memᴰ·cases-cons n)
@@ -84,7 +86,8 @@ module _ (q : Query) where
   member-matching r [] m e = absurd (List·Memᴰ·not-nil m)
   member-matching r (x ∷ rs) m e = go (matches q (x .bytes)) refl (List·Memᴰ·cases-cons m) (λ n. member-matching r rs n e)
     where
-      go : (b : Bool) → matches q (x .bytes) ≡ b → (r ≡ x) ⊎ List·Memᴰ r rs → (List·Memᴰ r rs → List·Memᴰ r (matching q rs)) → List·Memᴰ r (cond b (x ∷ matching q rs) (matching q rs))
+      go : (b : Bool) → matches q (x .bytes) ≡ b → (r ≡ x) ⊎ List·Memᴰ r rs → (List·Memᴰ r rs → List·Memᴰ r (matching q rs))
+          → List·Memᴰ r (cond b (x ∷ matching q rs) (matching q rs))
       go true p (inl same) rest = List·Memᴰ·head same
       go true p (inr n) rest = List·Memᴰ·tail (rest n)
       go false p (inl same) rest = absurd (true-not-false (sym e ∙ ap (λ (t : Text). matches q (t .bytes)) same ∙ p))

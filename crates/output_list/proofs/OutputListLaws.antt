@@ -124,7 +124,8 @@ place-none list count number h =
     let full : ltb count (length list) ≡ false = le-ltb count (length list) h in
     (sym full, sym (ap (λ (b : Bool). cond b (set list count number) list) full))
 
-pub place-some : (list : List ℕ) (count number : ℕ) → count < length list → (true ≡ hasPlace list count) × (set list count number ≡ withNumber list count number)
+pub place-some : (list : List ℕ) (count number : ℕ) → count < length list
+    → (true ≡ hasPlace list count) × (set list count number ≡ withNumber list count number)
 unfolding hasPlace withNumber
 place-some list count number h =
     let room : ltb count (length list) ≡ true = lt-ltb count (length list) h in
@@ -140,10 +141,12 @@ length-withNumber list count number = go (hasPlace list count)
     go false = refl
 
 -- a number after the numbers
-pub withNumber-padded : (room : ℕ) (l : List ℕ) (count number : ℕ) → length l ≡ count → count < room → withNumber (padded room l) count number ≡ padded room (l ++ (number ∷ []))
+pub withNumber-padded : (room : ℕ) (l : List ℕ) (count number : ℕ) → length l ≡ count → count < room
+    → withNumber (padded room l) count number ≡ padded room (l ++ (number ∷ []))
 withNumber-padded room l count number e h =
     let long = length-padded room l (omega arith) in
-    sym (place-some (padded room l) count number (omega arith) .1) ∙ ap (λ (n : ℕ). set (padded room l) n number) (sym e) ∙ set-padded room l number (omega arith)
+    sym (place-some (padded room l) count number (omega arith) .1) ∙ ap (λ (n : ℕ). set (padded room l) n number) (sym e)
+    ∙ set-padded room l number (omega arith)
 
 -- ---- pairs
 

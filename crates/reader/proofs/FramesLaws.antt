@@ -6,12 +6,10 @@ use Prim.Native.Nat.{ℕ, _+_, _-_, _≤_, _<_}
 use native.Mathlib.Omega.{arith}
 use lib.ListN.{length, take, length-take}
 use Rattle.outcome.specs.Outcome.{answer, refused}
-use Rattle.items.specs.Items.{Step}
 use Rattle.framing.specs.declared.Frame.{Frame}
 use Rattle.framing.specs.Frame.{frameAt}
 use Rattle.framing.proofs.FrameLaws.{frame⇒Framed}
-use Rattle.block.specs.Block.{Block}
-use Rattle.block.specs.Laid.{laidRecords, laidIn, laidAt, laidFrom}
+use Rattle.block.specs.Laid.{laidIn, laidAt, laidFrom}
 use Rattle.block.specs.Survey.{recordsOf}
 use Rattle.block.proofs.LaidLaws.{laid-found, laid-refused}
 use Rattle.query.specs.Query.{Query}
@@ -78,7 +76,8 @@ module _ (file : List ℕ) (from : ℕ) (q : Query) (first : Stored) where
         (omega arith)
         refl
 
-  pub frames-end : (at : ℕ) (stored : Stored) → FramesCollected at stored → length file ≤ at → stored ≡ putAll first (matching q (recordsOf (laidFrom file from)))
+  pub frames-end : (at : ℕ) (stored : Stored) → FramesCollected at stored → length file ≤ at
+      → stored ≡ putAll first (matching q (recordsOf (laidFrom file from)))
   unfolding recordsOf laidFrom
   frames-end at stored p h = collected-end (λ place. laidAt file) (λ b. b .records) q (length file) from first at stored p h 0
 

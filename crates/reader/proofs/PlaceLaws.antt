@@ -93,7 +93,8 @@ module _ (file : List ℕ) where
       let t = text⇒Placed place (take end file) at s e in
       go (s .item) (t .length-at) (t .item-is) (t .long) (t .forward) (t .ends) (t .within)
     where
-      go : (r : Text) (n : ℕ) → r ≡ textIn (take end file) (r .at) n → length (r .bytes) ≡ n → at < r .at → s .next ≡ r .at + n → s .next ≤ length (take end file)
+      go : (r : Text) (n : ℕ) → r ≡ textIn (take end file) (r .at) n → length (r .bytes) ≡ n → at < r .at → s .next ≡ r .at + n
+          → s .next ≤ length (take end file)
           → LaidOut at (r ∷ []) (s .next) × (s .next ≤ end)
       go r n is long forward ends within =
           let cut = length-take end file in
@@ -129,7 +130,8 @@ module _ (file : List ℕ) where
   step-laid at s e =
       let all = bind⁻¹ (frameAt file at) _ s e in
       let l = frame⇒Framed file at (all .0) (all .1) in
-      subst (λ (t : Step Block). LaidOut at (t .item .records) (t .next) × (t .next ≤ length file)) (answer-injective _ s (all .2)) (frame-laid at (all .0) l, l .within)
+      subst (λ (t : Step Block). LaidOut at (t .item .records) (t .next) × (t .next ≤ length file)) (answer-injective _ s (all .2))
+      (frame-laid at (all .0) l, l .within)
 
   -- the records of a file whose blocks are accepted
   pub blocks-laid : (from : ℕ) (bs : List Block) → blocksAt file from ≡ answer bs → from ≤ length file → LaidOut from (recordsOf bs) (length file)
@@ -172,7 +174,8 @@ module _ (file : List ℕ) where
   laid-rising (x ∷ xs) r ys t zs from end (s, h) = laid-rising xs r ys t zs _ end h
 
   -- the same of a member
-  pub laid-member : (r : Text) (rs : List Text) (from end : ℕ) → LaidOut from rs end → List·Memᴰ r rs → (r .at + length (r .bytes) ≤ end) × (part file (r .at) (length (r .bytes)) ≡ r .bytes)
+  pub laid-member : (r : Text) (rs : List Text) (from end : ℕ) → LaidOut from rs end → List·Memᴰ r rs
+      → (r .at + length (r .bytes) ≤ end) × (part file (r .at) (length (r .bytes)) ≡ r .bytes)
   unfolding LaidOut
   laid-member r [] from end h m = absurd (List·Memᴰ·not-nil m)
   laid-member r (x ∷ rs) from end (s, h) m =

@@ -29,7 +29,8 @@ use Rattle.reader.specs.Read.{readBlocks, readOf, readAnswer, readList}
 
 -- ---- what is reported
 
-pub answer-of-refusal : (o : Outcome (List Text)) (number place : ℕ) → o ≡ refused number place → readAnswer o ≡ record { number = number; place = place; matches = 0 }
+pub answer-of-refusal : (o : Outcome (List Text)) (number place : ℕ) → o ≡ refused number place
+    → readAnswer o ≡ record { number = number; place = place; matches = 0 }
 unfolding readAnswer numberOf placeOf countOf
 answer-of-refusal o number place e = rw e
 
@@ -47,12 +48,14 @@ list-of-matches room o ms e = rw e
 
 -- what the code answers after a refusal
 pub told-refusal : (room : ℕ) (o : Outcome (List Text)) (number place : ℕ) → o ≡ refused number place
-    → (r : ReadAnswer) (list : List ℕ) → r ≡ record { number = number; place = place; matches = 0 } → list ≡ zeros room → (r ≡ readAnswer o) × (list ≡ readList room o)
+    → (r : ReadAnswer) (list : List ℕ) → r ≡ record { number = number; place = place; matches = 0 } → list ≡ zeros room
+    → (r ≡ readAnswer o) × (list ≡ readList room o)
 told-refusal room o number place e r list is clear = (is ∙ sym (answer-of-refusal o number place e), clear ∙ sym (list-of-refusal room o number place e))
 
 -- and without one
 pub told-matches : (room : ℕ) (o : Outcome (List Text)) (ms : List Text) → o ≡ answer ms
-    → (r : ReadAnswer) (list : List ℕ) → r ≡ record { number = 0; place = 0; matches = length ms } → list ≡ padded room (numbersOf ms) → (r ≡ readAnswer o) × (list ≡ readList room o)
+    → (r : ReadAnswer) (list : List ℕ) → r ≡ record { number = 0; place = 0; matches = length ms } → list ≡ padded room (numbersOf ms)
+    → (r ≡ readAnswer o) × (list ≡ readList room o)
 told-matches room o ms e r list is held = (is ∙ sym (answer-of-matches o ms e), held ∙ sym (list-of-matches room o ms e))
 
 -- ---- the blocks
@@ -97,10 +100,12 @@ module _ (file : List ℕ) (q : Query) (room : ℕ) (h : Header) where
 
   -- the code puts the matching records of the blocks as they lie on a list that is all zeros, and counts them
   module _ (first : List ℕ) (cleared : first ≡ zeros room) (found : ℕ) (list : List ℕ)
-      (is : _≡_ {A = Stored} (record { count = found; list = list }) (putAll (record { count = 0; list = first }) (matching q (recordsOf (laidFrom file (blocksFrom h))))))
+      (is : _≡_ {A = Stored} (record { count = found; list = list })
+      (putAll (record { count = 0; list = first }) (matching q (recordsOf (laidFrom file (blocksFrom h))))))
       (s : Survey) (sound : surveyOf file (blocksFrom h) (h .root) (h .rootsize) ≡ answer s) where
     -- these are the matching records of the blocks
-    put-records : (bs : List Block) → blocksAt file (blocksFrom h) ≡ answer bs → record { count = found; list = list } ≡ putAll (record { count = 0; list = zeros room }) (matching q (recordsOf bs))
+    put-records : (bs : List Block) → blocksAt file (blocksFrom h) ≡ answer bs
+        → record { count = found; list = list } ≡ putAll (record { count = 0; list = zeros room }) (matching q (recordsOf bs))
     put-records bs e =
         is
         ∙ ap (λ (l : List ℕ). putAll (record { count = 0; list = l }) (matching q (recordsOf (laidFrom file (blocksFrom h))))) cleared
@@ -116,7 +121,8 @@ module _ (file : List ℕ) (q : Query) (room : ℕ) (h : Header) where
     same-room = ap (λ (t : Stored). length (t .list)) is ∙ length-putAll (record { count = 0; list = first }) _ ∙ ap length cleared ∙ length-zeros room
 
     -- the test of the code is the definition's
-    same-test : (bs : List Block) → blocksAt file (blocksFrom h) ≡ answer bs → leb (roomFor (length (matching q (recordsOf bs)))) room ≡ leb (roomFor found) (length list)
+    same-test : (bs : List Block) → blocksAt file (blocksFrom h) ≡ answer bs
+        → leb (roomFor (length (matching q (recordsOf bs)))) room ≡ leb (roomFor found) (length list)
     same-test bs e = ap₂ (λ (n k : ℕ). leb (roomFor n) k) (sym (counted bs e)) (sym same-room)
 
     -- more matches than the list has room for
@@ -157,7 +163,8 @@ module _ (old list : List ℕ) (cleared : list ≡ zeros (length old)) where
   still-zeros = cleared ∙ ap zeros (sym still-long)
 
   pub read-after : (file : List ℕ) (q : Query) (h : Header) → headerOf file ≡ answer h
-      → (r : ReadAnswer) (last : List ℕ) → Told file q (length list) h r last → (r ≡ readAnswer (readOf file q (length old))) × (last ≡ readList (length old) (readOf file q (length old)))
+      → (r : ReadAnswer) (last : List ℕ) → Told file q (length list) h r last
+      → (r ≡ readAnswer (readOf file q (length old))) × (last ≡ readList (length old) (readOf file q (length old)))
   read-after file q h e r last (is, held) =
       let same = ap (λ (n : ℕ). readBlocks file q n h) still-long ∙ sym (header-accepts file q (length old) h e) in
       (is ∙ ap readAnswer same, held ∙ ap₂ readList still-long same)

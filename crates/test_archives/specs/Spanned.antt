@@ -7,5 +7,5 @@ use lib.ListN.{length, take, drop}
 use Rattle.test_archives.specs.declared.cases.Span.{Span}
 
 -- the bytes of a string; none where it doesn't lie among the stored bytes
-unfoldable pub bytesOf : List ℕ → Span → List ℕ
-bytesOf stored s = cond (leb (s .from) (s .end) && leb (s .end) (length stored)) (take (s .end - s .from) (drop (s .from) stored)) []
+unfoldable pub bytesOfSpan : List ℕ → Span → List ℕ
+bytesOfSpan stored s = cond (leb (s .from) (s .end) && leb (s .end) (length stored)) (take (s .end - s .from) (drop (s .from) stored)) []

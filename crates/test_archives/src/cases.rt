@@ -3,7 +3,7 @@ ghost use Prim.Native.Nat.{_≤_};
 ghost use mathlib.Core.Path.{_≡_};
 ghost use lib.ListN.{length};
 ghost use Rattle.test_archives.specs.Onward.{Onward};
-ghost use Rattle.test_archives.specs.Spanned.{bytesOf};
+ghost use Rattle.test_archives.specs.Spanned.{bytesOfSpan};
 use endian::le64_at;
 
 // A string of bytes among the stored cases, by its first position and the one after its last.
@@ -63,7 +63,7 @@ fn string_at(stored: &[u8], at: usize) -> Span
 
 // The bytes of a string; none where it doesn't lie among the stored bytes.
 pub fn part(stored: &[u8], span: Span) -> &[u8]
-    ensures { λ r. ⌜ now r ≡ bytesOf (now (stored .entry)) span ⌝ }
+    ensures { λ r. ⌜ now r ≡ bytesOfSpan (now (stored .entry)) span ⌝ }
 {
     let from = span.from;
     let end = span.end;

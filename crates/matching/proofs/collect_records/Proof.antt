@@ -14,7 +14,8 @@ use Rattle.matching.proofs.collect_records.Statement.{statement}
 use Rattle.matching.proofs.collect_records.Tie as tie
 
 abbrev Inv-loop : tie.InvT-loop
-Inv-loop s from start stop-given stop prefix results₀ count at₀ found₀ results at found = RecordsCollected s from (queryOf start stop-given stop prefix) (record { count = count; list = results₀ }) at (record { count = found; list = results })
+Inv-loop s from start stop-given stop prefix results₀ count at₀ found₀ results at found =
+    RecordsCollected s from (queryOf start stop-given stop prefix) (record { count = count; list = results₀ }) at (record { count = found; list = results })
 
 abbrev μ-loop : tie.MeasureT-loop
 μ-loop s from start stop-given stop prefix results₀ count at₀ found₀ results at found = length s - at

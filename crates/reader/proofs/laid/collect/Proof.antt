@@ -16,7 +16,8 @@ use Rattle.reader.proofs.laid.collect.Statement.{statement}
 use Rattle.reader.proofs.laid.collect.Tie as tie
 
 abbrev Inv-loop : tie.InvT-loop
-Inv-loop file from start stop-given stop prefix results₀ at₀ found₀ results at found = FramesCollected file from (queryOf start stop-given stop prefix) (record { count = 0; list = results₀ }) at (record { count = found; list = results })
+Inv-loop file from start stop-given stop prefix results₀ at₀ found₀ results at found =
+    FramesCollected file from (queryOf start stop-given stop prefix) (record { count = 0; list = results₀ }) at (record { count = found; list = results })
 
 abbrev μ-loop : tie.MeasureT-loop
 μ-loop file from start stop-given stop prefix results₀ at₀ found₀ results at found = length file - at
