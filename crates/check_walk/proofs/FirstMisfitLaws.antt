@@ -11,7 +11,7 @@ use borrow.Author.Tests.{eqb-true, eqb-false, ltb-true, ltb-false, leb-true, le-
 use Rattle.outcome.specs.Outcome.{answer, _>>_, must}
 use Rattle.lists.specs.Lists.{all}
 use Rattle.outcome.proofs.OutcomeLaws.{kept, broken}
-use Rattle.lists.proofs.ListsLaws.{Ascending, below-member, flatMap-member, member-flatMap, all-member, keep-member, member-keep}
+use Rattle.lists.proofs.ListsLaws.{Ascending, false-not-true, below-member, flatMap-member, member-flatMap, all-member, keep-member, member-keep}
 use Rattle.lists.proofs.RisingLaws.{member-split, split-member, ascending-keep}
 use Rattle.payload.specs.Payload.{Entry}
 use Rattle.block.specs.Block.{Block, isOrdinary}
@@ -78,9 +78,6 @@ pub record First (rule : Block → Bool) (xs : List Block) (m : ℕ) : Type 0 wh
   pub broken-by : m ≢ 0 → (x : Block) × List·Memᴰ x xs × (x .frame .start ≡ m) × (rule x ≡ false)
   pub least : (x : Block) → List·Memᴰ x xs → rule x ≡ false → m ≤ x .frame .start
 
-true-not-false : (b : Bool) → b ≡ true → b ≡ false → ⊥
-true-not-false b p q = let z : _≡_ {A = ℕ} 0 1 = cc in omega arith
-
 pub each-first : (rule : Block → Bool) (number : ℕ) (xs : List Block) (m : ℕ) → Ascending (map (λ x. x .frame .start) xs) → ((x : Block) → List·Memᴰ x xs → x .frame .start ≢ 0) → First rule xs m
     → each rule number xs ≡ placeSaid number m
 unfolding each Ascending
@@ -101,7 +98,7 @@ each-first rule number (x ∷ xs) m rise some f = go (rule x) refl (each-first r
         by (y, i, s, k) = at (List·Memᴰ·cases-cons i)
           where
             at : (y ≡ x) ⊎ List·Memᴰ y xs → (z : Block) × List·Memᴰ z xs × (z .frame .start ≡ m) × (rule z ≡ false)
-            at (inl same) = absurd (true-not-false (rule x) e (ap rule (sym same) ∙ k))
+            at (inl same) = absurd (false-not-true (sym (ap rule (sym same) ∙ k) ∙ e))
             at (inr inside) = (y, inside, s, k)
 
     place : rule x ≡ false → x .frame .start ≡ m
@@ -112,7 +109,7 @@ each-first rule number (x ∷ xs) m rise some f = go (rule x) refl (each-first r
         at y (inr inside) s = let a = later y inside in let b = f .least x (List·Memᴰ·head refl) e in absurd (omega arith)
 
         go : (b : Bool) → eqb m 0 ≡ b → x .frame .start ≡ m
-        go true p = absurd (true-not-false (rule x) (f .none (eqb-true m 0 p) x (List·Memᴰ·head refl)) e)
+        go true p = absurd (false-not-true (sym e ∙ f .none (eqb-true m 0 p) x (List·Memᴰ·head refl)))
         go false p = let w = f .broken-by (eqb-false m 0 p) in at (w .0) (List·Memᴰ·cases-cons (w .1)) (w .2)
 
     go : (b : Bool) → rule x ≡ b → (First rule xs m → each rule number xs ≡ placeSaid number m) → (must (rule x) number (x .frame .start) >> each rule number xs) ≡ placeSaid number m
@@ -126,7 +123,7 @@ each-first rule number (x ∷ xs) m rise some f = go (rule x) refl (each-first r
 
 not-all : {A : Type 0} (test : A → Bool) (xs : List A) → all test xs ≡ false → (x : A) × List·Memᴰ x xs × (test x ≡ false)
 unfolding all
-not-all test [] h = absurd (let z : _≡_ {A = ℕ} 0 1 = cc in omega arith)
+not-all test [] h = absurd (false-not-true (sym h))
 not-all {A} test (x ∷ xs) h = go (test x) refl h (not-all test xs)
   where
     go : (b : Bool) → test x ≡ b → (b && all test xs) ≡ false → (all test xs ≡ false → (y : A) × List·Memᴰ y xs × (test y ≡ false)) → (y : A) × List·Memᴰ y (x ∷ xs) × (test y ≡ false)
@@ -137,7 +134,7 @@ false-all : {A : Type 0} (test : A → Bool) (xs : List A) (x : A) → List·Mem
 false-all test xs x m e = go (all test xs) refl
   where
     go : (b : Bool) → all test xs ≡ b → b ≡ false
-    go true p = absurd (true-not-false (test x) (all-member test xs p x m) e)
+    go true p = absurd (false-not-true (sym e ∙ all-member test xs p x m))
     go false p = refl
 
 -- a block of the file with a key that does not fit

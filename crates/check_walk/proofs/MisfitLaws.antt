@@ -1,7 +1,7 @@
 -- 24: the keys that the walk finds not to fit are those that the key rule refuses, where the records of the file rise.
 -- Assumes nothing.
 use mathlib.Core.Path.{_≡_, refl, sym, ap, _∙_, subst}
-use mathlib.Core.Bool.{Bool, true, false, _&&_, cond}
+use mathlib.Core.Bool.{Bool, true, false, _&&_, cond, and-comm}
 use mathlib.Core.List.{List, [], _∷_, _++_, map, flatMap, append-nil}
 use Prim.Native.Nat.{ℕ, zero, suc}
 use native.Mathlib.Omega.{arith}
@@ -73,12 +73,6 @@ all-last key d (x ∷ xs) h = same-tests (all (λ r. atMost (r .bytes) key) (x �
     back : atMost (lastBytes (x .bytes) xs) key ≡ true → all (λ r. atMost (r .bytes) key) (x ∷ xs) ≡ true
     back e = member-all (λ r. atMost (r .bytes) key) (x ∷ xs) (λ r m. atMost-trans (r .bytes) (lastBytes (x .bytes) xs) key (from-each d (x ∷ xs) h r m) e)
 
-and-swap : (a b : Bool) → (a && b) ≡ (b && a)
-and-swap true true = refl
-and-swap true false = refl
-and-swap false true = refl
-and-swap false false = refl
-
 -- the test that the walk makes is the key rule's
 test-same : (file key : List ℕ) (met own : Span) (before : List Text) (first : Text) (rest : List Text) → risingFrom [] (map (λ r. r .bytes) before) ≡ true
     → bytesIn file (met .last) ≡ lastBytes [] before → (d : List ℕ) → Spans file d own (first ∷ rest)
@@ -88,7 +82,7 @@ test-same file key met own before first rest rise last d spans =
     ap (λ (l : List ℕ). atMost l key && atMost key (bytesIn file (own .first))) last
     ∙ ap (λ (l : List ℕ). atMost (lastBytes [] before) key && atMost key l) (spans .1)
     ∙ ap (λ (b : Bool). b && atMost key (first .bytes)) (sym (all-last key [] before rise))
-    ∙ and-swap (all (λ r. atMost (r .bytes) key) before) (atMost key (first .bytes))
+    ∙ and-comm (all (λ r. atMost (r .bytes) key) before) (atMost key (first .bytes))
 
 least-cond : (fits : Bool) (m at : ℕ) → cond fits m (earlier m at) ≡ leastOf m (cond fits [] (at ∷ []))
 unfolding leastOf
