@@ -12,7 +12,7 @@ use Rattle.part.specs.declared.Part.{Part}
 use Rattle.part.specs.Part.{part}
 use Rattle.framing.specs.declared.Frame.{Frame}
 use Rattle.payload.specs.Payload.{Entry, entryAt}
-use Rattle.block.specs.Block.{Block}
+use Rattle.block.specs.Block.{Block, blockIn}
 use Rattle.query.specs.Query.{Query, given}
 use Rattle.query.specs.Opening.{mayMatch}
 use Rattle.matching.specs.ResultList.{roomFor, numbersOf}
@@ -25,7 +25,7 @@ use Rattle.search.specs.declared.child.ChildOutcome.the-variants.{Answer
 use Rattle.search.specs.declared.walk.Progress.{Progress}
 use Rattle.search.specs.declared.walk.WalkOutcome.{WalkOutcome}
 use Rattle.search.specs.declared.walk.WalkOutcome.the-variants.{Answer as Going, Refused as Stopped}
-use Rattle.search.specs.Search.{Walked, nextKey, childNamed}
+use Rattle.search.specs.Search.{Walked, nextKey, childNamed, walkOf}
 
 -- ---- openings
 
@@ -115,10 +115,11 @@ pub record WalkAsks (file : List ℕ) (f : Frame) (above : Bound) (p : Progress)
   pub bound : PartWithin file (above .key)
   pub fits : HasRoom p places room
 
--- what putting the matches of a data block asks
+-- the same for a data block
 pub record FindAsks (file : List ℕ) (f : Frame) (p : Progress) (room : ℕ) : Type 0 where
   pub small : length file ≤ 2 ^ 30
   pub frame : FrameWithin file f
+  pub leaf : f .level ≡ 0
   pub fits : roomFor (p .found) ≤ room
 
 -- the lent lists hold what was opened and found, then zeros
@@ -128,10 +129,16 @@ pub record ListsHold (openedList results : List ℕ) (p : Progress) (s : Walked)
   pub many : p .used ≡ length (s .opened)
   pub matched : p .found ≡ length (s .matches)
 
--- what a walk says: it goes on with what was opened and found, which the lists hold, or it stops with a refusal
+-- what an answer says: the walk goes on with what was opened and found, which the lists hold, or it stops with a refusal
 unfoldable pub Reaches : WalkOutcome → (openedList results : List ℕ) → Outcome Walked → Type 0
 Reaches (Going p) openedList results o = (s : Walked) × (o ≡ answer s) × ListsHold openedList results p s
 Reaches (Stopped r) openedList results o = o ≡ refused (r .number) (r .place)
+
+-- what the walk down from a block says, with the lists as they were and as they are then
+pub record WalkSaid (file : List ℕ) (q : Query) (from : ℕ) (f : Frame) (above : Bound) (p : Progress) (opened₀ results₀ : List ℕ) (r : WalkOutcome) (openedNow resultsNow : List ℕ) : Type 0 where
+  pub stays : StaysWithin r (length opened₀) (length results₀)
+  pub reaches : (b : Block) (s : Walked) → blockIn file f ≡ answer b → ListsHold opened₀ results₀ p s
+      → Reaches r openedNow resultsNow (walkOf file q (length opened₀) (length results₀) from (f .level) b (boundOf file above) s)
 
 -- both lists are all zeros
 pub record ListsClear (openedList results : List ℕ) : Type 0 where
