@@ -9,7 +9,8 @@ use borrow.Fn.Kinds.{In}
 use borrow.Fn.PlainCycle.{Measures, is, falls, and}
 use denote.Ref.{now}
 use Rattle.query.specs.Query.{queryOf}
-use Rattle.search.proofs.OnwardLaws.{Onward, told-within, onward-start, onward-index, onward-end, onward-passed, onward-unopened, child-place, child-asks, onward-stopped, onward-more}
+use Rattle.search.proofs.OnwardLaws.{Onward, onward-start, onward-index, onward-end}
+use Rattle.search.proofs.StepLaws.{told-within, onward-passed, onward-unopened, child-place, child-asks, onward-stopped, onward-more}
 use Rattle.search.proofs.walk.walk.Reads as walk
 use Rattle.search.proofs.walk.walk.Kinds as walk-kinds
 use Rattle.search.proofs.walk.+walk.Lts-walk as walk-lts
