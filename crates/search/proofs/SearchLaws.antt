@@ -14,7 +14,7 @@ use Rattle.outcome.proofs.OutcomeLaws.{bind-answer, bind-refused}
 use Rattle.header.specs.declared.Header.{Header}
 use Rattle.header.specs.Header.{headerOf, blocksFrom}
 use Rattle.framing.specs.declared.Frame.{Frame}
-use Rattle.block.specs.Block.{Block, blockIn}
+use Rattle.block.specs.Block.{Block}
 use Rattle.query.specs.Query.{Query}
 use Rattle.matching.specs.ResultList.{numbersOf}
 use Rattle.matching.proofs.ResultListLaws.{roomFor-none}
@@ -27,7 +27,7 @@ use Rattle.search.specs.declared.walk.Progress.{Progress}
 use Rattle.search.specs.declared.walk.WalkOutcome.{WalkOutcome}
 use Rattle.search.specs.declared.walk.WalkOutcome.the-variants.{Answer as Going, Refused as Stopped}
 use Rattle.search.specs.Search.{Walked, nothing, withOpened, rootNamed, openBlock, walkOf, walkFrom, searchOf, searchAnswer, openedList, resultList}
-use Rattle.search.specs.Steps.{openingSaid, frameOf, PartWithin, boundOf, WalkAsks, ListsHold, Reaches, ListsClear}
+use Rattle.search.specs.Steps.{openingSaid, frameOf, PartWithin, boundOf, WalkAsks, ListsHold, Reaches, WalkSaid, ListsClear}
 use Rattle.search.proofs.OpeningLaws.{IsOpened, said⇒IsOpened, said⇒refused}
 
 -- ---- the root
@@ -97,12 +97,10 @@ module _ (file : List ℕ) (q : Query) (places room from root rootsize : ℕ) (n
 
       -- what it gives
       pub root-walked : ListsClear openedFirst results → length results ≡ room
-          → (w : WalkOutcome) (openedThen resultsThen : List ℕ)
-          → ((b : Block) (s : Walked) → blockIn file f ≡ answer b → ListsHold openedNow results begun s
-          → Reaches w openedThen resultsThen (walkOf file q (length openedNow) (length results) from (f .level) b (boundOf file bound) s))
+          → {w : WalkOutcome} {openedThen resultsThen : List ℕ} → WalkSaid file q from f bound begun openedNow results w openedThen resultsThen
           → Reaches w openedThen resultsThen (walkFrom file q places room from root rootsize)
       unfolding nothing
-      root-walked clear wide w openedThen resultsThen walked =
+      root-walked clear wide {w} {openedThen} {resultsThen} walked =
           let x = root-opened in
           let s = withOpened root nothing in
           subst (Reaches w openedThen resultsThen)
@@ -111,7 +109,7 @@ module _ (file : List ℕ) (q : Query) (places room from root rootsize : ℕ) (n
           ∙ ap (λ (g : Frame). walkOf file q places room from (g .level) (x .block) (boundOf file bound) s) (sym (x .frame))
           ∙ ap (λ (u : Option (List ℕ)). walkOf file q places room from (x .block .frame .level) (x .block) u s) (unbounded .1)
           ∙ sym (root-first ∙ bind-answer (openBlock file places from n nothing) Down (x .block) (x .again nothing refl)))
-          (walked (x .block) s (x .inside) (root-holds clear))
+          (walked .reaches (x .block) s (x .inside) (root-holds clear))
 
 -- ---- the header
 

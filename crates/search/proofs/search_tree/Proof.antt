@@ -71,7 +71,7 @@ returns-2 c =
     root-walked (now (args .file)) (queryOf (now (args .start)) (args .stop-given) (now (args .stop)) (now (args .prefix))) (length (now
     (args .opened))) (length (now (args .results))) _ (args .h .root) (args .h .rootsize) _ (root-named .ensures) _ (open-block .ensures .0)
     _ (root2 .given .1) (now (args .opened)) _ (now (args .results)) refl (open-block .ensures .1) _ (unbounded .ensures (now (args .file)))
-    (pre .clear) refl _ _ _ (walk .ensures .1)
+    (pre .clear) refl (walk .ensures)
 
 pub search-tree-spec : {M : Type 1} → statement M
 search-tree-spec =
