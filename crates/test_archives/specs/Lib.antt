@@ -1,3 +1,2 @@
 -- What the contracts of the driver cite.
 pub mod Onward
-pub mod Spanned

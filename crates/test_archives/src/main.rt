@@ -10,9 +10,9 @@ mod read;
 mod record_part;
 
 use cases::Case;
-use cases::Parsed;
+use cases::CaseOutcome;
 use cases::case_at;
-use cases::part;
+use cases::string;
 
 // Reads a file and closes it; answers how many bytes of `space` it fills. A longer file would be cut, and the corpus has none.
 fn fill(fd: i32, space: &mut [u8]) -> usize
@@ -26,7 +26,7 @@ fn fill(fd: i32, space: &mut [u8]) -> usize
 // Makes the call of a case on the bytes of its file, and prints the line.
 fn answer(file: &[u8], stored: &[u8], case: Case) {
     let name = case.name;
-    print::text(part(stored, name));
+    print::text(string(stored, name));
     let call = case.call;
     match call {
         1 => read::run(file, stored, case),
@@ -41,7 +41,7 @@ fn answer(file: &[u8], stored: &[u8], case: Case) {
 // Opens the file of a case, or says why it can't, and makes the call on its bytes.
 fn run_case(stored: &[u8], case: Case) {
     let name = case.name;
-    let path = part(stored, name);
+    let path = string(stored, name);
     let fd = os::open_read(path);
     if fd < 0 {
         os::fail(path);
@@ -58,12 +58,12 @@ fn run_all(stored: &[u8]) {
     while at < stored.len() {
         let parsed = case_at(stored, at);
         match parsed {
-            Parsed::Cut => {
+            CaseOutcome::Cut => {
                 print::number(b"cut case at ", at as u64);
                 print::text(b"\n");
                 return;
             },
-            Parsed::Whole(case) => {
+            CaseOutcome::Answer(case) => {
                 run_case(stored, case);
                 at = case.next;
             },

@@ -1,18 +1,18 @@
 // Call 1: reading front to back.
 use crate::cases::Case;
-use crate::cases::part;
+use crate::cases::string;
 use crate::lists::RUBBISH;
 use crate::lists::room;
 use crate::print;
 
 // Reads the file under the query of a case, with all of `results` lent, and prints the answer.
 fn answer(file: &[u8], stored: &[u8], case: Case, results: &mut [u64]) {
-    let start_span = case.start;
-    let stop_span = case.stop;
-    let prefix_span = case.prefix;
-    let start = part(stored, start_span);
-    let stop = part(stored, stop_span);
-    let prefix = part(stored, prefix_span);
+    let start_part = case.start;
+    let stop_part = case.stop;
+    let prefix_part = case.prefix;
+    let start = string(stored, start_part);
+    let stop = string(stored, stop_part);
+    let prefix = string(stored, prefix_part);
     let stop_given = case.stop_given;
     let answer = reader::read(file, start, stop_given, stop, prefix, results);
     print::query(start, stop_given, stop, prefix);

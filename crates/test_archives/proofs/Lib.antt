@@ -1,2 +1,0 @@
--- Laws of the strings among the stored cases.
-pub mod SpannedLaws
