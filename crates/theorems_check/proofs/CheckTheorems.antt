@@ -91,7 +91,7 @@ module _ (file : List ℕ) (places : ℕ) where
 
   -- so the rules decide the answer
   pub check-by-rules : (r : Checked) → r ≡ checkAnswer (checkOf file places) → CheckedByRules file places r
-  check-by-rules r told = rw told (record { only = number-0⇒Rules; every = Rules⇒number-0; too-few = Rules⇒number-18 })
+  check-by-rules r told = rw told (record { only = number-0⇒Rules; every = λ bs k enough. Rules⇒number-0 bs k (omega arith); too-few = λ bs k few. Rules⇒number-18 bs k (omega arith) })
 
 -- with places enough for the ordinary blocks of whatever keeps the rules, the number is 0 exactly where something does
 pub number-0-exactly : (file : List ℕ) (places : ℕ) → ((bs : List Block) → Rules file bs → length (ordinary bs) ≤ places)

@@ -51,11 +51,11 @@ unfolding allAtMost
 allAtMost-of a b h =
     member-all (λ r. all (λ s. atMost (r .bytes) (s .bytes)) (b .records)) (a .records) (λ r m. member-all (λ s. atMost (r .bytes) (s .bytes)) (b .records) (λ s n. h r s m n))
 
--- what stands behind the first
-pub neighbours-behind : (a : Block) (bs : List Block) → neighboursOf a bs ≡ answer tt → neighbours bs ≡ answer tt
+-- what stands after the first
+pub neighbours-after : (a : Block) (bs : List Block) → neighboursOf a bs ≡ answer tt → neighbours bs ≡ answer tt
 unfolding neighbours neighboursOf
-neighbours-behind a [] h = refl
-neighbours-behind a (b ∷ bs) h = kept⁻¹ (allAtMost a b) 23 (b .frame .start) (neighboursOf b bs) tt h .1
+neighbours-after a [] h = refl
+neighbours-after a (b ∷ bs) h = kept⁻¹ (allAtMost a b) 23 (b .frame .start) (neighboursOf b bs) tt h .1
 
 pub neighbours-before : (a : Block) (bs : List Block) → ((b : Block) → List·Memᴰ b bs → allAtMost a b ≡ true) → neighbours bs ≡ answer tt → neighboursOf a bs ≡ answer tt
 unfolding neighbours neighboursOf

@@ -67,4 +67,4 @@ checked⇒read file places z = let (bs, a) = number-0⇒Rules file places z in (
 pub read-by-rules : (file : List ℕ) (q : Query) (room : ℕ) (r : ReadAnswer) (results : List ℕ)
     → r ≡ readAnswer (readOf file q room) → results ≡ readList room (readOf file q room) → ReadByRules file q room r results
 unfolding ReadByRules
-read-by-rules file q room r results told result-list bs accepted fits = rw (told, result-list) (accepted⇒matches file bs accepted q room fits)
+read-by-rules file q room r results told result-list bs accepted fits = rw (told, result-list) (accepted⇒matches file bs accepted q room (omega arith))

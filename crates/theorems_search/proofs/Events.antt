@@ -44,7 +44,7 @@ findsIn [] = []
 findsIn (opens offset ∷ es) = findsIn es
 findsIn (finds r ∷ es) = r ∷ findsIn es
 
--- the events one behind the other, on lists with so many places: 26, 27
+-- the events one after the other, on lists with so many places: 26, 27
 unfoldable pub run : (places room : ℕ) → List Event → Walked → Outcome Walked
 run places room [] s = answer s
 run places room (opens offset ∷ es) s = must (ltb (length (s .opened)) places) 26 0 >> run places room es (withOpened offset s)

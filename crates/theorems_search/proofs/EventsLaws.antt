@@ -39,7 +39,7 @@ unfolding findsIn
 findsIn-finds [] = refl
 findsIn-finds (r ∷ rs) = ap (λ (l : List Text). r ∷ l) (findsIn-finds rs)
 
--- ---- one list of events behind another
+-- ---- one list of events after another
 
 module _ (places room : ℕ) where
   pub run-append : (es fs : List Event) (s : Walked) → run places room (es ++ fs) s ≡ (run places room es s >>= run places room fs)

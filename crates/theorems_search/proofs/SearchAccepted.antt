@@ -129,7 +129,7 @@ module _ (file : List ℕ) (bytes : AreBytes file) (q : Query) (asked : QueryByt
   unfolding SearchedByRules
   search-by-rules told opened-list result-list bs accepted =
       let (opened, rule, whole) = search-equals-reading-and-opens-by-rule file bs accepted bytes q asked in
-      (opened, rule, λ opened-fit matches-fit. rw (told, opened-list, result-list) (whole places room opened-fit matches-fit))
+      (opened, rule, λ opened-fit matches-fit. rw (told, opened-list, result-list) (whole places room (omega arith) (omega arith)))
 
   -- the blocks opened are the first numbers of the list at exit, as many as are counted
   pub opened-listed : (bs : List Block) (opened : List ℕ) → Searched file bs q opened places room r list results → take (r .opened) list ≡ opened

@@ -23,7 +23,7 @@ use Rattle.theorems_search.proofs.SearchRoom.{search-fits}
 
 -- ---- what is reported of an answer
 
--- number and place are 0; blocks and matches are counted and listed, with zeros behind them
+-- number and place are 0; blocks and matches are counted and listed, with zeros after them
 pub record Reported (o : Outcome Walked) (places room : ℕ) (opened : List ℕ) (ms : List Text) : Type 0 where
   pub number : searchAnswer o .number ≡ 0
   pub place : searchAnswer o .place ≡ 0

@@ -1,4 +1,4 @@
--- The lists of the walk only grow: what it has opened and found it keeps, and puts more behind it.
+-- The lists of the walk only grow: what it has opened and found it keeps, and puts more after it.
 -- Assumes nothing.
 use mathlib.Core.Path.{_≡_, refl, sym, ap, _∙_, subst}
 use mathlib.Core.List.{List, [], _∷_, _++_, append-nil, append-assoc, List·Memᴰ, Memᴰ·append-left}
@@ -11,7 +11,7 @@ use Rattle.query.specs.Query.{Query}
 use Rattle.search.specs.Search.{Walked, withOpened, withMatch, openBlock, addMatches, walkOver, walkOf}
 use Rattle.theorems_search.proofs.WalkSteps.{over-keeps, matches-keep, opens-keep, walk-keeps}
 
--- t has all that s has, in its order, and more behind it
+-- t has all that s has, in its order, and more after it
 pub record Grown (s t : Walked) : Type 0 where
   pub more-opened : List ℕ
   pub opened-are : t .opened ≡ s .opened ++ more-opened

@@ -1,4 +1,4 @@
--- `zs::zs_record` meets its contract: the test says which case of the part holds. Assumes nothing.
+-- `zs_record` meets its contract: the test says which case of the part holds. Assumes nothing.
 use mathlib.Core.Path.{sym, ap, _∙_}
 use mathlib.Core.Bool.{Bool, cond}
 use Prim.Native.Nat.{ℕ}
