@@ -35,11 +35,11 @@ fn refusal(number: u64, place: u64) -> ReadAnswer
 }
 
 // The refusal where the list has no room for the matches: the list is cleared again.
-fn no_room(results: &mut [u64]) -> ReadAnswer
+fn no_room(list: &mut [u64]) -> ReadAnswer
     ensures { λ r. ⌜ r ≡ record { number = 27; place = 0; matches = 0 } ⌝ }
-    ensures { λ _. ⌜ now (results .exit) ≡ zeros (length (now (results .entry))) ⌝ }
+    ensures { λ _. ⌜ now (list .exit) ≡ zeros (length (now (list .entry))) ⌝ }
 {
-    output_list::clear(results);
+    output_list::clear(list);
     refusal(27, 0)
 }
 
