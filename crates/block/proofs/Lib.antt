@@ -5,3 +5,4 @@ pub mod LocalLaws
 pub mod HeldLaws
 pub mod TileLaws
 pub mod RefusalLaws
+pub mod LaidLaws

@@ -10,7 +10,7 @@ use Rattle.block.specs.declared.pass.SurveyOutcome.the-variants.{Answer 
 use Rattle.block.specs.declared.Survey.{Survey}
 use Rattle.block.specs.Block.{Block}
 
--- what a blockSaid's tests report: its frame, and how many records it has
+-- what a block's tests report: its frame, and how many records it has
 pub record Tallied : Type 0 where
   pub frame : Frame
   pub records : ℕ

@@ -39,7 +39,7 @@ pub fn block_in(file: &[u8], f: Frame) -> BlockOutcome
     let level = f.level;
     let from = f.body + 1;
     let end = f.end;
-    if 63 < level {
+    if Frame::LARGEST_LEVEL < level {
         return BlockOutcome::Answer {
             frame: f,
             records: 0,
@@ -70,7 +70,7 @@ pub fn block_in(file: &[u8], f: Frame) -> BlockOutcome
 fn one_if_ordinary(level: u8) -> usize
     ensures { λ r. ⌜ r ≡ cond (blocks.isOrdinary level) 1 0 ⌝ }
 {
-    if level <= 63 { 1 } else { 0 }
+    if level <= Frame::LARGEST_LEVEL { 1 } else { 0 }
 }
 
 // Whether a block is an index block with this start and full size, or one was found before.
@@ -89,7 +89,7 @@ fn found_root(found: bool, f: Frame, root: u64, rootsize: u64) -> bool
     if f.level < 1 {
         return false;
     }
-    f.level <= 63
+    f.level <= Frame::LARGEST_LEVEL
 }
 
 pub enum SurveyOutcome {

@@ -19,6 +19,11 @@ pub struct Frame {
     pub end: usize,
 }
 
+impl Frame {
+    // The largest level of an ordinary block; higher levels are reserved.
+    pub const LARGEST_LEVEL: u8 = 63;
+}
+
 pub enum NumberOutcome {
     // The value, and where the number ends.
     Answer { value: u64, next: usize },

@@ -11,9 +11,9 @@ use Rattle.items.proofs.ItemsLaws.{sound-end, sound-step, sound-refused}
 use Rattle.payload.specs.Payload.{Text}
 use Rattle.query.specs.Query.{Query}
 use Rattle.matching.specs.Matching.{matching}
-use Rattle.matching.specs.Collect.{Stored, putAll}
+use Rattle.matching.specs.ResultList.{Stored, putAll}
 use Rattle.matching.proofs.MatchLaws.{matching-nil, matching-append}
-use Rattle.matching.proofs.StoreLaws.{putAll-append}
+use Rattle.matching.proofs.ResultListLaws.{putAll-append}
 
 -- `step` reads an item at an offset; refusals have a place, which no item depends on. `texts` are the records of an item.
 module _ {A : Type 0} (step : (place at : ℕ) → Outcome (Step A)) (texts : A → List Text) (q : Query) (end from : ℕ) (first : Stored) where

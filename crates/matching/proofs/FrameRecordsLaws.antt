@@ -1,23 +1,26 @@
--- Laws of the records that can be read in a frame.
+-- Laws of the records that can be read in a frame, and of those of a block that was accepted.
 -- Assumes nothing.
-use mathlib.Core.Path.{_≡_, refl, sym, ap, _∙_}
+use mathlib.Core.Path.{_≡_, sym, ap, _∙_}
 use mathlib.Core.Bool.{Bool, true, false, cond}
 use mathlib.Core.List.{List, [], _∷_}
 use Prim.Native.Nat.{ℕ, zero, suc, _+_, _-_, _≤_}
 use native.Mathlib.Omega.{arith}
 use lib.Dec.{leb}
 use lib.ListN.{length, take}
+use lib.Seq.{length-take-le}
 use Rattle.outcome.specs.Outcome.{Outcome, answer, refused}
-use Rattle.outcome.proofs.OutcomeLaws.{answer-injective, kept⁻¹, bind⁻¹}
-use Rattle.items.specs.Items.{Step, itemsFrom, soundFrom, whereAnswered}
+use Rattle.outcome.proofs.OutcomeLaws.{answer-injective, bind⁻¹}
+use Rattle.items.specs.Items.{Step, soundFrom, whereAnswered}
 use Rattle.items.proofs.ItemsLaws.{items⇒sound}
 use Rattle.framing.specs.declared.Frame.{Frame}
-use Rattle.payload.specs.Payload.{Text, textAt, payloadAt, recordsAt, entriesAt}
-use Rattle.block.specs.Block.{Block, isData, isOrdinary, blockIn}
-use Rattle.block.proofs.BlockLaws.{data-level, not-data-level, block-data, block-index, block-reserved}
-use Rattle.matching.specs.Collect.{recordsFrom, recordsInFrame}
+use Rattle.payload.specs.Payload.{Text, textAt, recordsAt}
+use Rattle.block.specs.Block.{Block, blockIn}
+use Rattle.block.specs.Laid.{laidItems, laidRecords}
+use Rattle.block.proofs.BlockLaws.{data-level, not-data-level, block-data}
+use Rattle.block.proofs.LaidLaws.{payload⇒items, laid-data}
+use Rattle.matching.specs.Matching.{recordsFrom}
 
--- ---- the records of a frame
+-- ---- how many
 
 -- there are at most as many items as the fuel
 pub sound-few : {A : Type 0} (step : ℕ → Outcome (Step A)) (end fuel at : ℕ) → length (soundFrom step end fuel at) ≤ fuel
@@ -38,46 +41,32 @@ pub records-few : (place : ℕ) (s : List ℕ) (from : ℕ) → length (recordsF
 unfolding recordsFrom
 records-few place s from = sound-few (textAt place s) (length s) (length s - from) from
 
-pub in-data : (file : List ℕ) (f : Frame) → f .level ≡ 0 → recordsInFrame file f ≡ recordsFrom (f .start) (take (f .end) file) (f .body + 1)
-unfolding recordsInFrame
-in-data file f h = rw (data-level (f .level) h)
+-- ---- the records of a frame
 
-pub in-other : (file : List ℕ) (f : Frame) → (f .level ≡ 0 → ⊥) → recordsInFrame file f ≡ []
-unfolding recordsInFrame
-in-other file f h = rw (not-data-level (f .level) h)
+-- those of a data block are what can be read in its payload
+pub data-records : (file : List ℕ) (f : Frame) → f .level ≡ 0 → f .end ≤ length file
+    → laidRecords file f ≡ recordsFrom (f .start) (take (f .end) file) (f .body + 1)
+unfolding laidItems recordsFrom
+data-records file f level within =
+    laid-data file f level .0
+    ∙ ap (λ (n : ℕ). soundFrom (textAt (f .start) (take (f .end) file)) n (n - (f .body + 1)) (f .body + 1)) (sym (length-take-le (f .end) file within))
 
--- ---- the records of a payload that was accepted
-
-pub payload⇒items : {A : Type 0} (step : ℕ → Outcome (Step A)) (textOf : A → Text) (unsorted place end at : ℕ) (xs : List A)
-    → payloadAt step textOf unsorted place end at ≡ answer xs → itemsFrom step end (end - at) at ≡ answer xs
-unfolding payloadAt
-payload⇒items step textOf unsorted place end at xs e =
-    let some = kept⁻¹ _ 15 place _ xs e in
-    let items = bind⁻¹ (itemsFrom step end (end - at) at) _ xs (some .1) in
-    let sorted = kept⁻¹ _ unsorted place _ xs (items .2) in
-    items .1 ∙ ap answer (answer-injective (items .0) xs (sorted .1))
-
-pub records⇒from : (place : ℕ) (s : List ℕ) (at : ℕ) (rs : List Text) → recordsAt place s at ≡ answer rs → recordsFrom place s at ≡ rs
-unfolding recordsAt recordsFrom
-records⇒from place s at rs e = items⇒sound (textAt place s) (length s) (length s - at) at rs (payload⇒items (textAt place s) (λ r. r) 16 place (length s) at rs e)
+-- any other block has none
+pub no-records : (file : List ℕ) (f : Frame) → (f .level ≡ 0 → ⊥) → laidRecords file f ≡ []
+unfolding laidRecords
+no-records file f level = rw (not-data-level (f .level) level)
 
 -- ---- the records of a block that was accepted
 
--- the block in a frame has the records of the frame
-pub inside⇒records : (file : List ℕ) (f : Frame) (b : Block) → blockIn file f ≡ answer b → recordsInFrame file f ≡ b .records
-unfolding recordsInFrame
-inside⇒records file f b e = by-data (isData (f .level)) refl
-  where
-    by-ordinary : (o : Bool) → isOrdinary (f .level) ≡ o → isData (f .level) ≡ false → recordsInFrame file f ≡ b .records
-    by-ordinary true o d =
-        let all = bind⁻¹ (entriesAt (f .start) (take (f .end) file) (f .body + 1)) _ b (sym (block-index file f d o) ∙ e) in
-        rw d (ap (λ (c : Block). c .records) (answer-injective (record { frame = f; records = []; entries = all .0 }) b (all .2)))
-    by-ordinary false o d = rw d (ap (λ (c : Block). c .records) (answer-injective (record { frame = f; records = []; entries = [] }) b (sym (block-reserved file f d o) ∙ e)))
+pub records⇒from : (place : ℕ) (s : List ℕ) (at : ℕ) (rs : List Text) → recordsAt place s at ≡ answer rs → recordsFrom place s at ≡ rs
+unfolding recordsAt recordsFrom
+records⇒from place s at rs e =
+    items⇒sound (textAt place s) (length s) (length s - at) at rs (payload⇒items (textAt place s) (λ r. r) 16 place (length s) at rs e)
 
-    by-data : (d : Bool) → isData (f .level) ≡ d → recordsInFrame file f ≡ b .records
-    by-data true d =
-        let all = bind⁻¹ (recordsAt (f .start) (take (f .end) file) (f .body + 1)) _ b (sym (block-data file f d) ∙ e) in
-        rw d
-        (records⇒from (f .start) (take (f .end) file) (f .body + 1) (all .0) (all .1)
-        ∙ ap (λ (c : Block). c .records) (answer-injective (record { frame = f; records = all .0; entries = [] }) b (all .2)))
-    by-data false d = by-ordinary (isOrdinary (f .level)) refl d
+-- reading the payload of a data block again finds its records
+pub inside⇒records : (file : List ℕ) (f : Frame) (b : Block) → blockIn file f ≡ answer b → f .level ≡ 0
+    → recordsFrom (f .start) (take (f .end) file) (f .body + 1) ≡ b .records
+inside⇒records file f b e level =
+    let all = bind⁻¹ (recordsAt (f .start) (take (f .end) file) (f .body + 1)) _ b (sym (block-data file f (data-level (f .level) level)) ∙ e) in
+    records⇒from (f .start) (take (f .end) file) (f .body + 1) (all .0) (all .1)
+    ∙ ap (λ (c : Block). c .records) (answer-injective (record { frame = f; records = all .0; entries = [] }) b (all .2))

@@ -1,6 +1,6 @@
 -- Laws of matches and of the result list.
 pub mod MatchLaws
-pub mod StoreLaws
+pub mod ResultListLaws
 pub mod CollectLaws
 pub mod RecordsLaws
 pub mod FrameRecordsLaws

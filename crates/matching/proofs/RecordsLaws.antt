@@ -6,8 +6,6 @@ use mathlib.Core.List.{List, [], _∷_, flatMap}
 use Prim.Native.Nat.{ℕ, _+_, _-_, _≤_, _<_}
 use native.Mathlib.Omega.{arith}
 use lib.ListN.{length, take, drop}
-use Rattle.output_list.specs.OutputList.{withPair}
-use Rattle.output_list.proofs.OutputListLaws.{length-withPair}
 use Rattle.outcome.specs.Outcome.{answer, refused}
 use Rattle.items.specs.Items.{soundFrom}
 use Rattle.part.proofs.PartLaws.{length-part, lent-part}
@@ -15,9 +13,10 @@ use Rattle.payload.specs.Payload.{textAt}
 use Rattle.payload.specs.Answers.{textIn}
 use Rattle.payload.proofs.PayloadLaws.{text⇒Placed}
 use Rattle.query.specs.Query.{Query, matches}
-use Rattle.matching.specs.Matching.{matching}
-use Rattle.matching.specs.Collect.{Stored, put, putAll, recordsFrom}
+use Rattle.matching.specs.Matching.{matching, recordsFrom}
+use Rattle.matching.specs.ResultList.{withRecord, Stored, put, putAll}
 use Rattle.matching.proofs.MatchLaws.{matching-nil, matching-kept, matching-passed}
+use Rattle.matching.proofs.ResultListLaws.{length-withRecord}
 use Rattle.matching.proofs.CollectLaws.{Collected, collected-more, collected-end, collected-refused}
 
 -- lists of one, joined
@@ -43,7 +42,7 @@ module _ (s : List ℕ) (from : ℕ) (q : Query) (first : Stored) where
       (e : (place : ℕ) → textAt place s at ≡ answer (record { item = textIn s start n; next = start + n })) where
     -- a record that matches is put
     pub records-kept : matches q (take (start + n - start) (drop start s)) ≡ true
-        → (list : List ℕ) → list ≡ withPair (stored .list) (stored .count) start n → RecordsCollected (start + n) (record { count = stored .count + 1; list = list })
+        → (list : List ℕ) → list ≡ withRecord (stored .list) (stored .count) start n → RecordsCollected (start + n) (record { count = stored .count + 1; list = list })
     unfolding put putAll textIn
     records-kept m list is =
         let b = text-bounds 0 s at start n (e 0) in
@@ -51,10 +50,10 @@ module _ (s : List ℕ) (from : ℕ) (q : Query) (first : Stored) where
         let forward = b .0 in
         collected-more (λ place. textAt place s) (λ r. r ∷ []) q (length s) from first at stored p h (record { item = textIn s start n; next = start + n }) e (omega arith)
         (record { count = stored .count + 1; list = list })
-        (ap (λ (l : List ℕ). record { count = stored .count + 1; list = l }) (is ∙ ap (withPair (stored .list) (stored .count) start) (sym (length-part s start n (b .1))))
+        (ap (λ (l : List ℕ). record { count = stored .count + 1; list = l }) (is ∙ ap (withRecord (stored .list) (stored .count) start) (sym (length-part s start n (b .1))))
         ∙ sym (ap (putAll stored) (matching-kept q (textIn s start n) [] (ap (matches q) (sym (lent-part s start n)) ∙ m) ∙ ap (λ l. textIn s start n ∷ l) (matching-nil q))))
         (omega arith)
-        (ap length is ∙ length-withPair (stored .list) (stored .count) start n)
+        (ap length is ∙ length-withRecord (stored .list) (stored .count) start n)
 
     -- any other is passed
     pub records-passed : matches q (take (start + n - start) (drop start s)) ≡ false → RecordsCollected (start + n) stored

@@ -1,14 +1,31 @@
-// What reading front to back and the search share: putting the matching records of a payload on a result list.
+// What reading front to back and the search share: the room of a result list, and putting the matching records of a payload on it.
 ghost use Prim.Native.Nat.{ℕ, _+_, _-_, _^_, _<_};
+ghost use lib.Dec.{leb};
 ghost use lib.ListN.{length};
 ghost use mathlib.Core.Path.{_≡_};
 ghost use Rattle.query.specs.Query.{queryOf};
-ghost use Rattle.matching.specs.Matching.{matching};
-ghost use Rattle.matching.specs.Collect.{Stored, putAll, recordsFrom};
+ghost use Rattle.matching.specs.Matching.{matching, recordsFrom};
+ghost use Rattle.matching.specs.ResultList.{roomFor, withRecord, Stored, putAll};
+use part::Part;
 use payload::TextOutcome;
 use payload::text_at;
 
-// Puts the matching records from an offset to the end of `s` behind `count` matches; answers how many matches there are then.
+// Whether a result list has room for n matches.
+pub fn has_room(results: &[u64], n: usize) -> bool
+    ensures { λ r. ⌜ r ≡ leb (roomFor n) (length (now (results .entry))) ⌝ }
+{
+    n <= results.len() / 2
+}
+
+// Puts a record after `count` matches, where there is room; answers whether there was.
+pub fn put_match(results: &mut [u64], count: usize, found: Part) -> bool
+    ensures { λ r. ⌜ (r ≡ leb (roomFor (count + 1)) (length (now (results .entry))))
+        × (now (results .exit) ≡ withRecord (now (results .entry)) count (found .offset) (found .length)) ⌝ }
+{
+    output_list::put_pair(results, count, found.offset as u64, found.length as u64)
+}
+
+// Puts the matching records from an offset to the end of `s` after `count` matches; answers how many matches there are then.
 pub fn collect_records(
     s: &[u8],
     from: usize,
@@ -20,7 +37,9 @@ pub fn collect_records(
     count: usize,
 ) -> usize
     requires { ⌜ count + (length (now s) - from) < 2 ^ 64 ⌝ }
-    ensures { λ r. ⌜ ((place : ℕ) → _≡_ {A = Stored} (record { count = r; list = now (results .exit) }) (putAll (record { count = count; list = now (results .entry) }) (matching (queryOf (now (start .entry)) «stop_given» (now (stop .entry)) (now (prefix .entry))) (recordsFrom place (now (s .entry)) from)))) ⌝ }
+    ensures { λ r. ⌜ ((place : ℕ) → _≡_ {A = Stored} (record { count = r; list = now (results .exit) })
+        (putAll (record { count = count; list = now (results .entry) })
+        (matching (queryOf (now (start .entry)) «stop_given» (now (stop .entry)) (now (prefix .entry))) (recordsFrom place (now (s .entry)) from)))) ⌝ }
 {
     let mut at = from;
     let mut found = count;
@@ -28,10 +47,11 @@ pub fn collect_records(
         let step = text_at(s, at);
         match step {
             TextOutcome::Refused(_) => return found,
-            TextOutcome::Answer { at: first, length } => {
-                let end = first + length;
+            TextOutcome::Answer(text) => {
+                let first = text.offset;
+                let end = first + text.length;
                 if query::matches(&s[first..end], start, stop_given, stop, prefix) {
-                    output_list::put_pair(results, found, first as u64, length as u64);
+                    put_match(results, found, text);
                     found += 1;
                 }
                 at = end;

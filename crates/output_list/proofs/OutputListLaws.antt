@@ -1,4 +1,4 @@
--- Laws of `padded` and `zeros`: the numbers put at the front of a list, and zeros behind them.
+-- Laws of `padded` and `zeros`: the numbers put at the front of a list, and zeros after them.
 -- Assumes nothing.
 use mathlib.Core.Path.{_≡_, refl, sym, ap, _∙_}
 use mathlib.Core.Bool.{Bool, true, false, cond}
@@ -38,7 +38,7 @@ getD-zeros room i = rw zeros-replicate (at room i)
     at (suc n) zero = refl
     at (suc n) (suc k) = at n k
 
--- ---- the numbers, and zeros behind them
+-- ---- the numbers, and zeros after them
 
 -- what is padded is the numbers and then zeros
 pub padded-append : (room : ℕ) (l : List ℕ) → padded room l ≡ l ++ zeros (room - length l)
@@ -49,7 +49,7 @@ padded-append room l = rw zeros-replicate
 pub length-padded : (room : ℕ) (l : List ℕ) → length l ≤ room → length (padded room l) ≡ room
 length-padded room l h = rw (padded-append, length-append, length-zeros) (omega arith)
 
--- a list that is full has no zeros behind its numbers
+-- a list that is full has no zeros after its numbers
 pub padded-full : (room : ℕ) (l : List ℕ) → length l ≡ room → padded room l ≡ l
 unfolding padded
 padded-full room l h =
@@ -60,7 +60,7 @@ padded-full room l h =
 pub take-padded : (room : ℕ) (l : List ℕ) → take (length l) (padded room l) ≡ l
 take-padded room l = rw padded-append (take-append-seam l (zeros (room - length l)))
 
--- zeros stand behind them
+-- zeros stand after them
 pub drop-padded : (room : ℕ) (l : List ℕ) → drop (length l) (padded room l) ≡ zeros (room - length l)
 drop-padded room l = rw padded-append (drop-append-seam l (zeros (room - length l)))
 
@@ -68,9 +68,9 @@ drop-padded room l = rw padded-append (drop-append-seam l (zeros (room - length 
 pub getD-padded : (room : ℕ) (l : List ℕ) (i : ℕ) → i < length l → getD (padded room l) i 0 ≡ getD l i 0
 getD-padded room l i h = rw padded-append (List·getD-append l (zeros (room - length l)) 0 i h)
 
--- a place behind the numbers holds 0
-pub getD-padded-behind : (room : ℕ) (l : List ℕ) (i : ℕ) → length l ≤ i → getD (padded room l) i 0 ≡ 0
-getD-padded-behind room l i h =
+-- a place after the numbers holds 0
+pub getD-padded-after : (room : ℕ) (l : List ℕ) (i : ℕ) → length l ≤ i → getD (padded room l) i 0 ≡ 0
+getD-padded-after room l i h =
     let split : i ≡ length l + (i - length l) = omega arith in
     rw (padded-append, split, getD-append-add, getD-zeros)
 
@@ -81,7 +81,7 @@ padded-injective room l m same long =
 
 -- ---- stores
 
--- one store behind the numbers puts one number more
+-- one store after the numbers puts one number more
 pub set-padded : (room : ℕ) (l : List ℕ) (v : ℕ) → length l < room → set (padded room l) (length l) v ≡ padded room (l ++ (v ∷ []))
 unfolding padded
 set-padded room l v h =
@@ -101,7 +101,7 @@ pub cleared-none : (old : List ℕ) → Cleared old old 0
 unfolding zeros padded
 cleared-none old = record { within = omega arith; long = refl; holds = refl }
 
--- a store of 0 behind the cleared places clears one more
+-- a store of 0 after the cleared places clears one more
 pub cleared-more : (old list : List ℕ) (i : ℕ) → Cleared old list i → i < length old → Cleared old (set list i 0) (i + 1)
 cleared-more old list i done h =
     record {
@@ -139,7 +139,7 @@ length-withNumber list count number = go (hasPlace list count)
     go true = length-set list count number
     go false = refl
 
--- a number behind the numbers
+-- a number after the numbers
 pub withNumber-padded : (room : ℕ) (l : List ℕ) (count number : ℕ) → length l ≡ count → count < room → withNumber (padded room l) count number ≡ padded room (l ++ (number ∷ []))
 withNumber-padded room l count number e h =
     let long = length-padded room l (omega arith) in
@@ -160,7 +160,7 @@ room-some list count first second h =
     let room : leb (2 * count + 2) (length list) ≡ true = le-leb (2 * count + 2) (length list) (omega arith) in
     (sym room, sym (ap (λ (b : Bool). cond b (set (set list (2 * count) first) (2 * count + 1) second) list) room))
 
--- a pair behind pairs
+-- a pair after pairs
 pub withPair-padded : (room : ℕ) (l : List ℕ) (count first second : ℕ) → length l ≡ 2 * count → 2 * count + 2 ≤ room
     → withPair (padded room l) count first second ≡ padded room (l ++ (first ∷ second ∷ []))
 withPair-padded room l count first second e h =

@@ -1,12 +1,12 @@
 -- A lent list of 64-bit numbers (the paper's opened, result and work lists): the numbers put, in order, at its front, and
--- zeros behind them.
+-- zeros after them.
 use Prim.Native.Nat.{ℕ, _+_, _-_, _*_}
 use mathlib.Core.Bool.{Bool, cond}
 use mathlib.Core.List.{List, [], _++_}
 use lib.Dec.{leb, ltb}
 use lib.ListN.{length, set, replicate}
 
--- a list of `room` places that holds these numbers at the front and zeros behind
+-- a list of `room` places that holds these numbers at the front and zeros after them
 unfoldable pub padded : ℕ → List ℕ → List ℕ
 padded room numbers = numbers ++ replicate (room - length numbers) 0
 
@@ -14,18 +14,18 @@ padded room numbers = numbers ++ replicate (room - length numbers) 0
 unfoldable pub zeros : ℕ → List ℕ
 zeros room = padded room []
 
--- there is room for a number behind `count` numbers
+-- there is room for a number after `count` numbers
 unfoldable pub hasPlace : List ℕ → ℕ → Bool
 hasPlace list count = ltb count (length list)
 
--- the list with a number stored behind `count` numbers, where there is room, or as it is
+-- the list with a number stored after `count` numbers, where there is room, or as it is
 unfoldable pub withNumber : List ℕ → (count number : ℕ) → List ℕ
 withNumber list count number = cond (hasPlace list count) (set list count number) list
 
--- there is room for a pair behind `count` pairs
+-- there is room for a pair after `count` pairs
 unfoldable pub hasRoom : List ℕ → ℕ → Bool
 hasRoom list count = leb (2 * count + 2) (length list)
 
--- the list with a pair stored behind `count` pairs, where there is room, or as it is
+-- the list with a pair stored after `count` pairs, where there is room, or as it is
 unfoldable pub withPair : List ℕ → (count first second : ℕ) → List ℕ
 withPair list count first second = cond (hasRoom list count) (set (set list (2 * count) first) (2 * count + 1) second) list

@@ -1,4 +1,4 @@
-// Lent lists of answers: the numbers put stand at the front, and zeros behind them.
+// Lent lists of answers: the numbers put stand at the front, and zeros after them.
 ghost use mathlib.Core.Path.{_≡_};
 ghost use lib.ListN.{length};
 ghost use Rattle.output_list.specs.OutputList.{zeros, hasPlace, withNumber, hasRoom, withPair};
@@ -14,7 +14,7 @@ pub fn clear(list: &mut [u64])
     }
 }
 
-// Stores a number behind the `count` numbers at the front, where there is room; answers whether there was.
+// Stores a number after the `count` numbers at the front, where there is room; answers whether there was.
 pub fn put(list: &mut [u64], count: usize, number: u64) -> bool
     ensures { λ r. ⌜ (r ≡ hasPlace (now (list .entry)) count) × (now (list .exit) ≡ withNumber (now (list .entry)) count number) ⌝ }
 {
@@ -25,7 +25,7 @@ pub fn put(list: &mut [u64], count: usize, number: u64) -> bool
     true
 }
 
-// Stores a pair behind the `count` pairs at the front, where there is room; answers whether there was.
+// Stores a pair after the `count` pairs at the front, where there is room; answers whether there was.
 pub fn put_pair(list: &mut [u64], count: usize, first: u64, second: u64) -> bool
     ensures { λ r. ⌜ (r ≡ hasRoom (now (list .entry)) count) × (now (list .exit) ≡ withPair (now (list .entry)) count first second) ⌝ }
 {

@@ -15,6 +15,7 @@ use Rattle.framing.specs.Frame.{numberAt}
 use Rattle.payload.specs.Payload.{Text, Entry, textAt, entryAt, entrySized}
 use Rattle.payload.specs.declared.EntryOutcome.{EntryOutcome}
 use Rattle.payload.specs.declared.EntryOutcome.the-variants.{Answer as AnEntry}
+use Rattle.part.specs.declared.Part.{Part}
 use Rattle.payload.specs.Answers.{textIn, KeyWithin}
 use Rattle.framing.proofs.FrameLaws.{Numbered, numbered}
 
@@ -102,6 +103,6 @@ module _ (place : ℕ) (s : List ℕ) (at : ℕ) where
           })
 
 -- the key of an entry that an answer names
-pub within-told : (s : List ℕ) (r : EntryOutcome) (key n offset size next : ℕ) → r ≡ AnEntry key n offset size next → KeyWithin s r → key + n ≤ length s
+pub within-told : (s : List ℕ) (r : EntryOutcome) (key : Part) (offset size next : ℕ) → r ≡ AnEntry key offset size next → KeyWithin s r → key .offset + key .length ≤ length s
 unfolding KeyWithin
-within-told s r key n offset size next told h = subst (KeyWithin s) told h
+within-told s r key offset size next told h = subst (KeyWithin s) told h

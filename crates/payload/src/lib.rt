@@ -10,10 +10,11 @@ ghost use Rattle.payload.specs.Payload as payloads;
 ghost use Rattle.payload.specs.Answers as answers;
 use framing::NumberOutcome;
 use framing::number_at;
+use part::Part;
 
 pub enum TextOutcome {
-    // A byte string: the offset of its first byte, and its length. The next item follows it.
-    Answer { at: usize, length: usize },
+    // A byte string. The next item follows it.
+    Answer(Part),
     Refused(u64),
 }
 
@@ -26,10 +27,10 @@ pub fn text_at(s: &[u8], at: usize) -> TextOutcome
         NumberOutcome::Refused(n) => TextOutcome::Refused(n),
         NumberOutcome::Answer { value, next } => {
             if (s.len() - next) as u64 >= value {
-                TextOutcome::Answer {
-                    at: next,
+                TextOutcome::Answer(Part {
+                    offset: next,
                     length: value as usize,
-                }
+                })
             } else {
                 TextOutcome::Refused(15)
             }
@@ -38,10 +39,9 @@ pub fn text_at(s: &[u8], at: usize) -> TextOutcome
 }
 
 pub enum EntryOutcome {
-    // An entry: where its key stands and how long it is, the offset and full size of the block it names, where the next entry begins.
+    // An entry: its key, the offset and full size of the block that it names, and where the next entry begins.
     Answer {
-        key: usize,
-        length: usize,
+        key: Part,
         offset: u64,
         size: u64,
         next: usize,
@@ -57,20 +57,20 @@ pub fn entry_at(s: &[u8], at: usize) -> EntryOutcome
     let text = text_at(s, at);
     match text {
         TextOutcome::Refused(n) => EntryOutcome::Refused(n),
-        TextOutcome::Answer { at, length } => {
-            let first = number_at(s, at + length, 15);
+        TextOutcome::Answer(key) => {
+            let first = number_at(s, key.offset + key.length, 15);
             match first {
                 NumberOutcome::Refused(n) => EntryOutcome::Refused(n),
-                NumberOutcome::Answer { value, next } => sized(s, at, length, value, next),
+                NumberOutcome::Answer { value, next } => sized(s, key, value, next),
             }
         },
     }
 }
 
 // The entry whose key and offset have been read.
-fn sized(s: &[u8], key: usize, length: usize, offset: u64, at: usize) -> EntryOutcome
-    requires { ⌜ key + length ≤ lib.ListN.length (now s) ⌝ }
-    ensures { λ r. ⌜ ((place : ℕ) → answers.entrySaid place (now (s .entry)) r ≡ payloads.entrySized place (now (s .entry)) (answers.textIn (now (s .entry)) key length) offset at) ⌝ }
+fn sized(s: &[u8], key: Part, offset: u64, at: usize) -> EntryOutcome
+    requires { ⌜ key .offset + key .length ≤ length (now s) ⌝ }
+    ensures { λ r. ⌜ ((place : ℕ) → answers.entrySaid place (now (s .entry)) r ≡ payloads.entrySized place (now (s .entry)) (answers.textIn (now (s .entry)) (key .offset) (key .length)) offset at) ⌝ }
     ensures { λ r. ⌜ answers.KeyWithin (now (s .entry)) r ⌝ }
 {
     let number = number_at(s, at, 15);
@@ -78,7 +78,6 @@ fn sized(s: &[u8], key: usize, length: usize, offset: u64, at: usize) -> EntryOu
         NumberOutcome::Refused(n) => EntryOutcome::Refused(n),
         NumberOutcome::Answer { value, next } => EntryOutcome::Answer {
             key,
-            length,
             offset,
             size: value,
             next,
@@ -93,12 +92,16 @@ pub enum PayloadOutcome {
 }
 
 // Whether the byte strings rise up to here: they did so far, and the last one is at most the next.
-fn still_rising(s: &[u8], rising: bool, last: usize, size: usize, next: usize, n: usize) -> bool
-    requires { ⌜ (last + size ≤ length (now s)) × (next + n ≤ length (now s)) ⌝ }
-    ensures { λ r. ⌜ r ≡ (rising && atMost (part (now (s .entry)) last size) (part (now (s .entry)) next n)) ⌝ }
+fn still_rising(s: &[u8], rising: bool, last: Part, next: Part) -> bool
+    requires { ⌜ (last .offset + last .length ≤ length (now s)) × (next .offset + next .length ≤ length (now s)) ⌝ }
+    ensures { λ r. ⌜ r ≡ (rising && atMost (part (now (s .entry)) (last .offset) (last .length)) (part (now (s .entry)) (next .offset) (next .length))) ⌝ }
 {
+    let a = last.offset;
+    let b = a + last.length;
+    let c = next.offset;
+    let d = c + next.length;
     if rising {
-        return byte_string::at_most(&s[last..last + size], &s[next..next + n]);
+        return byte_string::at_most(&s[a..b], &s[c..d]);
     }
     false
 }
@@ -113,20 +116,18 @@ pub fn records_at(s: &[u8], from: usize) -> PayloadOutcome
     let mut at = from;
     let mut count: usize = 0;
     let mut rising = true;
-    let mut last = from;
-    let mut size: usize = 0;
+    let mut last = Part {
+        offset: from,
+        length: 0,
+    };
     while at < s.len() {
         let step = text_at(s, at);
         match step {
             TextOutcome::Refused(n) => return PayloadOutcome::Refused(n),
-            TextOutcome::Answer {
-                at: next,
-                length: n,
-            } => {
-                rising = still_rising(s, rising, last, size, next, n);
+            TextOutcome::Answer(next) => {
+                rising = still_rising(s, rising, last, next);
                 last = next;
-                size = n;
-                at = next + n;
+                at = next.offset + next.length;
                 count += 1;
             },
         }
@@ -148,22 +149,22 @@ pub fn entries_at(s: &[u8], from: usize) -> PayloadOutcome
     let mut at = from;
     let mut count: usize = 0;
     let mut rising = true;
-    let mut last = from;
-    let mut size: usize = 0;
+    let mut last = Part {
+        offset: from,
+        length: 0,
+    };
     while at < s.len() {
         let step = entry_at(s, at);
         match step {
             EntryOutcome::Refused(n) => return PayloadOutcome::Refused(n),
             EntryOutcome::Answer {
                 key,
-                length: n,
                 offset: _,
                 size: _,
                 next,
             } => {
-                rising = still_rising(s, rising, last, size, key, n);
+                rising = still_rising(s, rising, last, key);
                 last = key;
-                size = n;
                 at = next;
                 count += 1;
             },

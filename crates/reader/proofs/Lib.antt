@@ -1,5 +1,4 @@
 -- Laws of reading front to back.
 pub mod FramesLaws
-pub mod LaidLaws
 pub mod ReadLaws
 pub mod PlaceLaws

@@ -1,4 +1,4 @@
--- Where the records of a file lie: one behind the other, and their bytes are the file's.
+-- Where the records of a file lie: one after the other, and their bytes are the file's.
 -- Assumes nothing.
 use mathlib.Core.Path.{_≡_, refl, sym, ap, _∙_, subst}
 use mathlib.Core.Bool.{Bool, true, false, cond}
@@ -9,35 +9,34 @@ use native.Mathlib.Omega.{arith}
 use lib.Dec.{leb}
 use lib.ListN.{length, take, length-take}
 use borrow.Author.Tests.{leb-true, leb-false}
-use Rattle.outcome.specs.Outcome.{Outcome, answer, refused}
-use Rattle.items.specs.Items.{Step, soundFrom}
+use Rattle.lists.specs.Lists.{keep}
 use Rattle.part.specs.Part.{part}
-use Rattle.outcome.proofs.OutcomeLaws.{answer-injective, bind⁻¹}
-use Rattle.items.proofs.ItemsLaws.{sound-end, sound-step, sound-refused}
 use Rattle.part.proofs.PartLaws.{part-take}
+use Rattle.outcome.specs.Outcome.{Outcome, answer, refused}
+use Rattle.outcome.proofs.OutcomeLaws.{answer-injective, bind⁻¹}
+use Rattle.items.specs.Items.{Step, soundFrom}
+use Rattle.items.proofs.ItemsLaws.{sound-end, sound-step, sound-refused}
 use Rattle.framing.specs.declared.Frame.{Frame}
 use Rattle.framing.specs.Frame.{frameAt}
-use Rattle.payload.specs.Payload.{Text, textAt}
-use Rattle.block.specs.Block.{Block, isData, blocksAt}
-use Rattle.block.specs.Survey.{recordsOf}
-use Rattle.payload.specs.Answers.{textIn}
 use Rattle.framing.proofs.FrameLaws.{Framed, frame⇒Framed}
+use Rattle.payload.specs.Payload.{Text, textAt}
+use Rattle.payload.specs.Answers.{textIn}
 use Rattle.payload.proofs.PayloadLaws.{text⇒Placed}
+use Rattle.block.specs.Block.{Block, isData, blocksAt}
+use Rattle.block.specs.Laid.{laidItems, laidRecords, laidIn, laidAt, laidFrom}
+use Rattle.block.specs.Survey.{recordsOf}
+use Rattle.block.proofs.LaidLaws.{blocks⇒laid}
 use Rattle.query.specs.Query.{Query, matches}
-use Rattle.lists.specs.Lists.{keep}
 use Rattle.matching.specs.Matching.{matching}
-use Rattle.matching.specs.Collect.{recordsFrom, recordsInFrame}
-use Rattle.reader.specs.Laid.{laidAt, laidFrom}
 use Rattle.matching.proofs.RecordsLaws.{each-once}
-use Rattle.reader.proofs.LaidLaws.{blocks⇒laid}
 
 module _ (file : List ℕ) where
-  -- a record lies behind an offset, and its bytes are the file's there
+  -- a record lies after an offset, and its bytes are the file's there
   pub record Stands (from : ℕ) (r : Text) : Type 0 where
-    pub behind : from < r .at
+    pub after : from < r .at
     pub bytes-are : part file (r .at) (length (r .bytes)) ≡ r .bytes
 
-  -- records that lie one behind the other, from an offset to an end
+  -- records that lie one after the other, from an offset to an end
   unfoldable pub LaidOut : (from : ℕ) → List Text → (end : ℕ) → Type 0
   LaidOut from [] end = from ≤ end
   LaidOut from (r ∷ rs) end = Stands from r × LaidOut (r .at + length (r .bytes)) rs end
@@ -48,13 +47,13 @@ module _ (file : List ℕ) where
   unfolding LaidOut
   laid-wider [] from at end last f l h = omega arith
   laid-wider (r ∷ rs) from at end last f l (s, h) =
-      let behind = s .behind in
-      (record { behind = omega arith; bytes-are = s .bytes-are }, laid-wider rs _ _ end last (omega arith) l h)
+      let after = s .after in
+      (record { after = omega arith; bytes-are = s .bytes-are }, laid-wider rs _ _ end last (omega arith) l h)
 
   pub laid-order : (rs : List Text) (from end : ℕ) → LaidOut from rs end → from ≤ end
   unfolding LaidOut
   laid-order [] from end h = h
-  laid-order (r ∷ rs) from end (s, h) = let rest = laid-order rs _ end h in let behind = s .behind in omega arith
+  laid-order (r ∷ rs) from end (s, h) = let rest = laid-order rs _ end h in let after = s .after in omega arith
 
   pub laid-append : (xs ys : List Text) (from at end : ℕ) → LaidOut from xs at → LaidOut at ys end → LaidOut from (xs ++ ys) end
   unfolding LaidOut
@@ -88,27 +87,29 @@ module _ (file : List ℕ) where
   -- ---- a record, a frame, and all records of a file
 
   -- a record that is read in a part of the file that begins where the file begins
-  text-laid : (place end at : ℕ) (s : Step Text) → textAt place (take end file) at ≡ answer s → LaidOut at (s .item ∷ []) (s .next) × (s .next ≤ length (take end file))
+  text-laid : (place end at : ℕ) (s : Step Text) → textAt place (take end file) at ≡ answer s → LaidOut at (s .item ∷ []) (s .next) × (s .next ≤ end)
   unfolding LaidOut textIn
   text-laid place end at s e =
       let t = text⇒Placed place (take end file) at s e in
       go (s .item) (t .length-at) (t .item-is) (t .long) (t .forward) (t .ends) (t .within)
     where
-      go : (r : Text) (n : ℕ) → r ≡ textIn (take end file) (r .at) n → length (r .bytes) ≡ n → at < r .at → s .next ≡ r .at + n → s .next ≤ length (take end file) → LaidOut at (r ∷ []) (s .next) × (s .next ≤ length (take end file))
+      go : (r : Text) (n : ℕ) → r ≡ textIn (take end file) (r .at) n → length (r .bytes) ≡ n → at < r .at → s .next ≡ r .at + n → s .next ≤ length (take end file)
+          → LaidOut at (r ∷ []) (s .next) × (s .next ≤ end)
       go r n is long forward ends within =
           let cut = length-take end file in
           let bytes-are = ap (part file (r .at)) long ∙ sym (part-take file end (r .at) n (omega arith)) ∙ sym (ap (λ (t : Text). t .bytes) is) in
-          ((record { behind = forward; bytes-are = bytes-are }, omega arith), within)
+          ((record { after = forward; bytes-are = bytes-are }, omega arith), omega arith)
 
-  records-laid : (place end from : ℕ) → from ≤ length (take end file) → LaidOut from (recordsFrom place (take end file) from) (length (take end file))
-  unfolding recordsFrom
-  records-laid place end from h =
-      subst (λ rs. LaidOut from rs (length (take end file))) (each-once (soundFrom (textAt place (take end file)) (length (take end file)) (length (take end file) - from) from))
-      (laid-sound (textAt place (take end file)) (λ r. r ∷ []) (length (take end file)) (text-laid place end) (length (take end file) - from) from h)
+  items-laid : (f : Frame) → f .body + 1 ≤ f .end → LaidOut (f .body + 1) (laidItems file textAt f) (f .end)
+  unfolding laidItems
+  items-laid f h =
+      let step = textAt (f .start) (take (f .end) file) in
+      subst (λ rs. LaidOut (f .body + 1) rs (f .end)) (each-once (soundFrom step (f .end) (f .end - (f .body + 1)) (f .body + 1)))
+      (laid-sound step (λ r. r ∷ []) (f .end) (text-laid (f .start) (f .end)) (f .end - (f .body + 1)) (f .body + 1) h)
 
-  frame-laid : (at : ℕ) (f : Frame) → Framed file at f → LaidOut at (recordsInFrame file f) (at + f .size) × (at + f .size ≤ length file)
-  unfolding recordsInFrame LaidOut
-  frame-laid at f l = (go (isData (f .level)), l .within)
+  frame-laid : (at : ℕ) (f : Frame) → Framed file at f → LaidOut at (laidRecords file f) (at + f .size)
+  unfolding laidRecords LaidOut
+  frame-laid at f l = go (isData (f .level))
     where
       number : at < f .body
       number = l .number
@@ -119,26 +120,23 @@ module _ (file : List ℕ) where
       sized : f .end + 8 ≡ at + f .size
       sized = l .sized
 
-      within : at + f .size ≤ length file
-      within = l .within
-
-      go : (d : Bool) → LaidOut at (cond d (recordsFrom (f .start) (take (f .end) file) (f .body + 1)) []) (at + f .size)
-      go true =
-          let cut = length-take (f .end) file in
-          laid-wider (recordsFrom (f .start) (take (f .end) file) (f .body + 1)) at (f .body + 1) (length (take (f .end) file)) (at + f .size) (omega arith) (omega arith) (records-laid (f .start) (f .end) (f .body + 1) (omega arith))
+      go : (d : Bool) → LaidOut at (cond d (laidItems file textAt f) []) (at + f .size)
+      go true = laid-wider (laidItems file textAt f) at (f .body + 1) (f .end) (at + f .size) (omega arith) (omega arith) (items-laid f (omega arith))
       go false = omega arith
 
-  step-laid : (at : ℕ) (s : Step (List Text)) → laidAt file at ≡ answer s → LaidOut at (s .item) (s .next) × (s .next ≤ length file)
-  unfolding laidAt
+  step-laid : (at : ℕ) (s : Step Block) → laidAt file at ≡ answer s → LaidOut at (s .item .records) (s .next) × (s .next ≤ length file)
+  unfolding laidAt laidIn
   step-laid at s e =
       let all = bind⁻¹ (frameAt file at) _ s e in
-      subst (λ (t : Step (List Text)). LaidOut at (t .item) (t .next) × (t .next ≤ length file)) (answer-injective _ s (all .2)) (frame-laid at (all .0) (frame⇒Framed file at (all .0) (all .1)))
+      let l = frame⇒Framed file at (all .0) (all .1) in
+      subst (λ (t : Step Block). LaidOut at (t .item .records) (t .next) × (t .next ≤ length file)) (answer-injective _ s (all .2)) (frame-laid at (all .0) l, l .within)
 
   -- the records of a file whose blocks are accepted
   pub blocks-laid : (from : ℕ) (bs : List Block) → blocksAt file from ≡ answer bs → from ≤ length file → LaidOut from (recordsOf bs) (length file)
-  unfolding laidFrom
+  unfolding recordsOf laidFrom
   blocks-laid from bs e h =
-      subst (λ rs. LaidOut from rs (length file)) (blocks⇒laid file from bs e) (laid-sound (laidAt file) (λ rs. rs) (length file) step-laid (length file - from) from h)
+      subst (λ (cs : List Block). LaidOut from (recordsOf cs) (length file)) (blocks⇒laid file from bs e)
+      (laid-sound (laidAt file) (λ b. b .records) (length file) step-laid (length file - from) from h)
 
   -- those of them that match
   pub matching-laid : (q : Query) (rs : List Text) (from end : ℕ) → LaidOut from rs end → LaidOut from (matching q rs) end
@@ -146,8 +144,8 @@ module _ (file : List ℕ) where
   matching-laid q [] from end h = h
   matching-laid q (r ∷ rs) from end (s, h) = go (matches q (r .bytes)) (matching-laid q rs (r .at + length (r .bytes)) end h)
     where
-      behind : from < r .at
-      behind = s .behind
+      after : from < r .at
+      after = s .after
 
       go : (b : Bool) → LaidOut (r .at + length (r .bytes)) (matching q rs) end → LaidOut from (cond b (r ∷ matching q rs) (matching q rs)) end
       go true rest = (s, rest)
@@ -159,14 +157,14 @@ module _ (file : List ℕ) where
   pub laid-part : (xs : List Text) (r : Text) (ys : List Text) (from end : ℕ) → LaidOut from (xs ++ r ∷ ys) end
       → (from < r .at) × (r .at + length (r .bytes) ≤ end) × (part file (r .at) (length (r .bytes)) ≡ r .bytes)
   unfolding LaidOut
-  laid-part [] r ys from end (s, h) = (s .behind, laid-order ys _ end h, s .bytes-are)
+  laid-part [] r ys from end (s, h) = (s .after, laid-order ys _ end h, s .bytes-are)
   laid-part (x ∷ xs) r ys from end (s, h) =
       let rest = laid-part xs r ys _ end h in
-      let behind = s .behind in
+      let after = s .after in
       let further = rest .0 in
       (omega arith, rest .1, rest .2)
 
-  -- a later record begins behind an earlier one
+  -- a later record begins after an earlier one ends
   pub laid-rising : (xs : List Text) (r : Text) (ys : List Text) (t : Text) (zs : List Text) (from end : ℕ) → LaidOut from (xs ++ r ∷ (ys ++ t ∷ zs)) end
       → r .at + length (r .bytes) < t .at
   unfolding LaidOut

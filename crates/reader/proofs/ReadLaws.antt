@@ -1,12 +1,13 @@
 -- Laws of reading: the ways out, and what each answers.
 -- Assumes nothing.
 use mathlib.Core.Path.{_≡_, sym, ap, ap₂, _∙_}
+use mathlib.Core.Bool.{true, false}
 use mathlib.Core.List.{List}
-use Prim.Native.Nat.{ℕ, _*_, _/_, _≤_, _<_}
+use Prim.Native.Nat.{ℕ, _≤_, _<_}
 use native.Mathlib.Omega.{arith}
 use lib.Dec.{leb}
 use lib.ListN.{length}
-use borrow.Author.Tests.{le-leb, lt-leb}
+use borrow.Author.Tests.{leb-true, leb-false, le-leb, lt-leb}
 use Rattle.output_list.specs.OutputList.{padded, zeros}
 use Rattle.output_list.proofs.OutputListLaws.{length-zeros}
 use Rattle.outcome.specs.Outcome.{Outcome, answer, refused, numberOf, placeOf, countOf, listOf}
@@ -17,15 +18,14 @@ use Rattle.block.specs.declared.Survey.{Survey}
 use Rattle.payload.specs.Payload.{Text}
 use Rattle.block.specs.Block.{Block, blocksAt}
 use Rattle.block.specs.Survey.{recordsOf, surveyed, surveyOf}
+use Rattle.block.specs.Laid.{laidFrom}
+use Rattle.block.proofs.LaidLaws.{blocks⇒laid}
 use Rattle.query.specs.Query.{Query}
 use Rattle.reader.specs.declared.ReadAnswer.{ReadAnswer}
 use Rattle.matching.specs.Matching.{matching}
-use Rattle.matching.specs.ResultList.{numbersOf}
+use Rattle.matching.specs.ResultList.{roomFor, numbersOf, Stored, putAll}
+use Rattle.matching.proofs.ResultListLaws.{count-putAll, length-putAll, stored-all}
 use Rattle.reader.specs.Read.{readBlocks, readOf, readAnswer, readList}
-use Rattle.matching.specs.Collect.{Stored, putAll}
-use Rattle.reader.specs.Laid.{laidFrom}
-use Rattle.matching.proofs.StoreLaws.{count-putAll, length-putAll, stored-all}
-use Rattle.reader.proofs.LaidLaws.{blocks⇒laid}
 
 -- ---- what is reported
 
@@ -64,18 +64,18 @@ module _ (file : List ℕ) (q : Query) (room : ℕ) (h : Header) where
   blocks-refused number place e = bind-refused (blocksAt file (blocksFrom h)) _ number place e
 
   -- every block is accepted, and there is room
-  pub blocks-fit : (bs : List Block) → blocksAt file (blocksFrom h) ≡ answer bs → 2 * length (matching q (recordsOf bs)) ≤ room
+  pub blocks-fit : (bs : List Block) → blocksAt file (blocksFrom h) ≡ answer bs → roomFor (length (matching q (recordsOf bs))) ≤ room
       → readBlocks file q room h ≡ answer (matching q (recordsOf bs))
   unfolding readBlocks
   blocks-fit bs e fits =
-      bind-answer (blocksAt file (blocksFrom h)) _ bs e ∙ kept (leb (2 * length (matching q (recordsOf bs))) room) 27 0 _ (le-leb _ room fits)
+      bind-answer (blocksAt file (blocksFrom h)) _ bs e ∙ kept (leb (roomFor (length (matching q (recordsOf bs)))) room) 27 0 _ (le-leb _ room fits)
 
   -- or there isn't
-  pub blocks-overflow : (bs : List Block) → blocksAt file (blocksFrom h) ≡ answer bs → room < 2 * length (matching q (recordsOf bs))
+  pub blocks-overflow : (bs : List Block) → blocksAt file (blocksFrom h) ≡ answer bs → room < roomFor (length (matching q (recordsOf bs)))
       → readBlocks file q room h ≡ refused 27 0
   unfolding readBlocks
   blocks-overflow bs e many =
-      bind-answer (blocksAt file (blocksFrom h)) _ bs e ∙ broken (leb (2 * length (matching q (recordsOf bs))) room) 27 0 _ (lt-leb _ room many)
+      bind-answer (blocksAt file (blocksFrom h)) _ bs e ∙ broken (leb (roomFor (length (matching q (recordsOf bs)))) room) 27 0 _ (lt-leb _ room many)
 
   -- ---- the ways out of the code
 
@@ -95,16 +95,16 @@ module _ (file : List ℕ) (q : Query) (room : ℕ) (h : Header) where
   unfolding surveyOf
   accepted s e = let all = bind⁻¹ (blocksAt file (blocksFrom h)) _ s e in (all .0, all .1)
 
-  -- the code puts the matching records of the frames on a list that is all zeros, and counts them
+  -- the code puts the matching records of the blocks as they lie on a list that is all zeros, and counts them
   module _ (first : List ℕ) (cleared : first ≡ zeros room) (found : ℕ) (list : List ℕ)
-      (is : _≡_ {A = Stored} (record { count = found; list = list }) (putAll (record { count = 0; list = first }) (matching q (laidFrom file (blocksFrom h)))))
+      (is : _≡_ {A = Stored} (record { count = found; list = list }) (putAll (record { count = 0; list = first }) (matching q (recordsOf (laidFrom file (blocksFrom h))))))
       (s : Survey) (sound : surveyOf file (blocksFrom h) (h .root) (h .rootsize) ≡ answer s) where
     -- these are the matching records of the blocks
     put-records : (bs : List Block) → blocksAt file (blocksFrom h) ≡ answer bs → record { count = found; list = list } ≡ putAll (record { count = 0; list = zeros room }) (matching q (recordsOf bs))
     put-records bs e =
         is
-        ∙ ap (λ (l : List ℕ). putAll (record { count = 0; list = l }) (matching q (laidFrom file (blocksFrom h)))) cleared
-        ∙ ap (λ (rs : List Text). putAll (record { count = 0; list = zeros room }) (matching q rs)) (blocks⇒laid file (blocksFrom h) bs e)
+        ∙ ap (λ (l : List ℕ). putAll (record { count = 0; list = l }) (matching q (recordsOf (laidFrom file (blocksFrom h))))) cleared
+        ∙ ap (λ (cs : List Block). putAll (record { count = 0; list = zeros room }) (matching q (recordsOf cs))) (blocks⇒laid file (blocksFrom h) bs e)
 
     counted : (bs : List Block) → blocksAt file (blocksFrom h) ≡ answer bs → found ≡ length (matching q (recordsOf bs))
     counted bs e =
@@ -115,24 +115,26 @@ module _ (file : List ℕ) (q : Query) (room : ℕ) (h : Header) where
     same-room : length list ≡ room
     same-room = ap (λ (t : Stored). length (t .list)) is ∙ length-putAll (record { count = 0; list = first }) _ ∙ ap length cleared ∙ length-zeros room
 
-    -- more matches than the list has pairs of places
-    pub read-overflow : length list / 2 < found
+    -- the test of the code is the definition's
+    same-test : (bs : List Block) → blocksAt file (blocksFrom h) ≡ answer bs → leb (roomFor (length (matching q (recordsOf bs)))) room ≡ leb (roomFor found) (length list)
+    same-test bs e = ap₂ (λ (n k : ℕ). leb (roomFor n) k) (sym (counted bs e)) (sym same-room)
+
+    -- more matches than the list has room for
+    pub read-overflow : leb (roomFor found) (length list) ≡ false
         → (r : ReadAnswer) (last : List ℕ) → r ≡ record { number = 27; place = 0; matches = 0 } → last ≡ zeros (length list) → Told r last
     read-overflow many r last is clear =
         let all = accepted s sound in
-        let number = counted (all .0) (all .1) in
-        let long = same-room in
-        told-refusal room (readBlocks file q room h) 27 0 (blocks-overflow (all .0) (all .1) (omega arith)) r last is (clear ∙ ap zeros long)
+        told-refusal room (readBlocks file q room h) 27 0
+        (blocks-overflow (all .0) (all .1) (leb-false _ room (same-test (all .0) (all .1) ∙ many)))
+        r last is (clear ∙ ap zeros same-room)
 
-    -- every match has its pair
-    pub read-fit : found ≤ length list / 2 → Told (record { number = 0; place = 0; matches = found }) list
+    -- there is room for every match
+    pub read-fit : leb (roomFor found) (length list) ≡ true → Told (record { number = 0; place = 0; matches = found }) list
     read-fit few =
         let all = accepted s sound in
-        let number = counted (all .0) (all .1) in
-        let long = same-room in
-        let fits : 2 * length (matching q (recordsOf (all .0))) ≤ room = omega arith in
+        let fits = leb-true (roomFor (length (matching q (recordsOf (all .0))))) room (same-test (all .0) (all .1) ∙ few) in
         told-matches room (readBlocks file q room h) (matching q (recordsOf (all .0))) (blocks-fit (all .0) (all .1) fits) _ list
-        (ap (λ (n : ℕ). record { number = 0; place = 0; matches = n }) number)
+        (ap (λ (n : ℕ). record { number = 0; place = 0; matches = n }) (counted (all .0) (all .1)))
         (ap (λ (t : Stored). t .list) (put-records (all .0) (all .1) ∙ stored-all room (matching q (recordsOf (all .0))) fits))
 
 -- ---- the header
@@ -146,7 +148,7 @@ module _ (file : List ℕ) (q : Query) (room : ℕ) where
   unfolding readOf
   header-accepts h e = bind-answer (headerOf file) _ h e
 
--- the blocks behind a header that was accepted, over a list that was cleared
+-- the blocks after a header that was accepted, over a list that was cleared
 module _ (old list : List ℕ) (cleared : list ≡ zeros (length old)) where
   still-long : length list ≡ length old
   still-long = ap length cleared ∙ length-zeros (length old)
@@ -154,8 +156,8 @@ module _ (old list : List ℕ) (cleared : list ≡ zeros (length old)) where
   pub still-zeros : list ≡ zeros (length list)
   still-zeros = cleared ∙ ap zeros (sym still-long)
 
-  pub read-behind : (file : List ℕ) (q : Query) (h : Header) → headerOf file ≡ answer h
+  pub read-after : (file : List ℕ) (q : Query) (h : Header) → headerOf file ≡ answer h
       → (r : ReadAnswer) (last : List ℕ) → Told file q (length list) h r last → (r ≡ readAnswer (readOf file q (length old))) × (last ≡ readList (length old) (readOf file q (length old)))
-  read-behind file q h e r last (is, held) =
+  read-after file q h e r last (is, held) =
       let same = ap (λ (n : ℕ). readBlocks file q n h) still-long ∙ sym (header-accepts file q (length old) h e) in
       (is ∙ ap readAnswer same, held ∙ ap₂ readList still-long same)

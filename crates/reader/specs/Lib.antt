@@ -1,3 +1,2 @@
 -- The meaning of reading a file front to back.
 pub mod Read
-pub mod Laid

@@ -1,5 +1,5 @@
 -- Reading a file front to back under a query.
-use Prim.Native.Nat.{ℕ, _*_}
+use Prim.Native.Nat.{ℕ}
 use mathlib.Core.List.{List}
 use lib.Dec.{leb}
 use lib.ListN.{length}
@@ -11,14 +11,14 @@ use Rattle.block.specs.Block.{blocksAt}
 use Rattle.block.specs.Survey.{recordsOf}
 use Rattle.query.specs.Query.{Query}
 use Rattle.matching.specs.Matching.{matching}
-use Rattle.matching.specs.ResultList.{numbersOf}
+use Rattle.matching.specs.ResultList.{roomFor, numbersOf}
 use Rattle.reader.specs.declared.ReadAnswer.{ReadAnswer}
 
--- behind the header: the block stage, then 27 exactly if the list has fewer than two places per match
+-- after the header: the block stage, then 27 exactly if the list has no room for the matches
 unfoldable pub readBlocks : (file : List ℕ) (q : Query) (room : ℕ) → Header → Outcome (List Text)
 readBlocks file q room h = do
   bs ← blocksAt file (blocksFrom h)
-  must (leb (2 * length (matching q (recordsOf bs))) room) 27 0
+  must (leb (roomFor (length (matching q (recordsOf bs)))) room) 27 0
   answer (matching q (recordsOf bs))
 
 -- reading front to back: refusals 1 to 9, then the blocks

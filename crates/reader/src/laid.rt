@@ -1,9 +1,10 @@
 // Putting the matching records of a file on a result list. The file's blocks have been tested before.
 ghost use mathlib.Core.Path.{_≡_};
+ghost use Rattle.block.specs.Laid.{laidFrom};
+ghost use Rattle.block.specs.Survey.{recordsOf};
 ghost use Rattle.query.specs.Query.{queryOf};
 ghost use Rattle.matching.specs.Matching.{matching};
-ghost use Rattle.matching.specs.Collect.{Stored, putAll};
-ghost use Rattle.reader.specs.Laid.{laidFrom};
+ghost use Rattle.matching.specs.ResultList.{Stored, putAll};
 use framing::FrameOutcome;
 use framing::frame_at;
 use matching::collect_records;
@@ -18,7 +19,9 @@ pub fn collect(
     prefix: &[u8],
     results: &mut [u64],
 ) -> usize
-    ensures { λ r. ⌜ _≡_ {A = Stored} (record { count = r; list = now (results .exit) }) (putAll (record { count = 0; list = now (results .entry) }) (matching (queryOf (now (start .entry)) «stop_given» (now (stop .entry)) (now (prefix .entry))) (laidFrom (now (file .entry)) from))) ⌝ }
+    ensures { λ r. ⌜ _≡_ {A = Stored} (record { count = r; list = now (results .exit) })
+        (putAll (record { count = 0; list = now (results .entry) })
+        (matching (queryOf (now (start .entry)) «stop_given» (now (stop .entry)) (now (prefix .entry))) (recordsOf (laidFrom (now (file .entry)) from)))) ⌝ }
 {
     let mut at = from;
     let mut found: usize = 0;

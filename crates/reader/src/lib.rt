@@ -14,6 +14,7 @@ use block::pass::SurveyOutcome;
 use block::pass::survey;
 use header::Header;
 use header::HeaderOutcome;
+use matching::has_room;
 
 // Number and place of a refusal, both 0 without one, and how many records match.
 #[repr(C)]
@@ -33,6 +34,15 @@ fn refusal(number: u64, place: u64) -> ReadAnswer
     }
 }
 
+// The refusal where the list has no room for the matches: the list is cleared again.
+fn no_room(list: &mut [u64]) -> ReadAnswer
+    ensures { λ r. ⌜ r ≡ record { number = 27; place = 0; matches = 0 } ⌝ }
+    ensures { λ _. ⌜ now (list .exit) ≡ zeros (length (now (list .entry))) ⌝ }
+{
+    output_list::clear(list);
+    refusal(27, 0)
+}
+
 // Reads the file front to back. The result list holds offset and length of each match, then zeros; after a refusal zeros.
 pub fn read(
     file: &[u8],
@@ -42,8 +52,12 @@ pub fn read(
     prefix: &[u8],
     results: &mut [u64],
 ) -> ReadAnswer
-    ensures { λ r. ⌜ r ≡ readAnswer (readOf (now (file .entry)) (queryOf (now (start .entry)) «stop_given» (now (stop .entry)) (now (prefix .entry))) (length (now (results .entry)))) ⌝ }
-    ensures { λ r. ⌜ now (results .exit) ≡ readList (length (now (results .entry))) (readOf (now (file .entry)) (queryOf (now (start .entry)) «stop_given» (now (stop .entry)) (now (prefix .entry))) (length (now (results .entry)))) ⌝ }
+    ensures { λ r. ⌜ r ≡ readAnswer
+        (readOf (now (file .entry)) (queryOf (now (start .entry)) «stop_given» (now (stop .entry)) (now (prefix .entry)))
+        (length (now (results .entry)))) ⌝ }
+    ensures { λ r. ⌜ now (results .exit) ≡ readList (length (now (results .entry)))
+        (readOf (now (file .entry)) (queryOf (now (start .entry)) «stop_given» (now (stop .entry)) (now (prefix .entry)))
+        (length (now (results .entry)))) ⌝ }
 {
     output_list::clear(results);
     let made = Header::read(file);
@@ -64,8 +78,12 @@ fn read_blocks(
     results: &mut [u64],
 ) -> ReadAnswer
     requires { ⌜ (blocksFrom h ≤ length (now file)) × (now results ≡ zeros (length (now results))) ⌝ }
-    ensures { λ r. ⌜ r ≡ readAnswer (readBlocks (now (file .entry)) (queryOf (now (start .entry)) «stop_given» (now (stop .entry)) (now (prefix .entry))) (length (now (results .entry))) h) ⌝ }
-    ensures { λ r. ⌜ now (results .exit) ≡ readList (length (now (results .entry))) (readBlocks (now (file .entry)) (queryOf (now (start .entry)) «stop_given» (now (stop .entry)) (now (prefix .entry))) (length (now (results .entry))) h) ⌝ }
+    ensures { λ r. ⌜ r ≡ readAnswer
+        (readBlocks (now (file .entry)) (queryOf (now (start .entry)) «stop_given» (now (stop .entry)) (now (prefix .entry)))
+        (length (now (results .entry))) h) ⌝ }
+    ensures { λ r. ⌜ now (results .exit) ≡ readList (length (now (results .entry)))
+        (readBlocks (now (file .entry)) (queryOf (now (start .entry)) «stop_given» (now (stop .entry)) (now (prefix .entry)))
+        (length (now (results .entry))) h) ⌝ }
 {
     let from = Header::AROUND + h.extent as usize;
     let stage = survey(file, from, h.root, h.rootsize);
@@ -73,9 +91,8 @@ fn read_blocks(
         SurveyOutcome::Refused { number, place } => refusal(number, place as u64),
         SurveyOutcome::Answer(_) => {
             let found = collect(file, from, start, stop_given, stop, prefix, results);
-            if results.len() / 2 < found {
-                output_list::clear(results);
-                return refusal(27, 0);
+            if !has_room(results, found) {
+                return no_room(results);
             }
             ReadAnswer {
                 number: 0,

@@ -14,7 +14,7 @@ module _ (stored : List ℕ) (s : Span) where
   unfolding bytesOf
   spanned-turned h = rw (lt-leb (s .from) (s .end) h) refl
 
-  -- it ends behind the stored bytes
+  -- it ends after the stored bytes
   pub spanned-past : s .from ≤ s .end → length stored < s .end → take 0 stored ≡ bytesOf stored s
   unfolding bytesOf
   spanned-past h past = rw (le-leb (s .from) (s .end) h, lt-leb (s .end) (length stored) past) refl

@@ -1,4 +1,4 @@
-// The stored cases, one behind the other: what stands where is said in cli/reference/README.md.
+// The stored cases, one after the other: what stands where is said in cli/reference/README.md.
 ghost use Prim.Native.Nat.{_≤_};
 ghost use mathlib.Core.Path.{_≡_};
 ghost use lib.ListN.{length};
@@ -6,7 +6,7 @@ ghost use Rattle.test_archives.specs.Onward.{Onward};
 ghost use Rattle.test_archives.specs.Spanned.{bytesOf};
 use endian::le64_at;
 
-// A string of bytes among the stored cases, by its first position and the one behind its last.
+// A string of bytes among the stored cases, by its first position and the one after its last.
 pub struct Span {
     pub from: usize,
     pub end: usize,
@@ -33,8 +33,8 @@ pub enum Parsed {
     Cut,
 }
 
-// The position `count` behind `at`, or the end where that lies beyond it.
-fn behind(stored: &[u8], at: usize, count: usize) -> usize
+// The position `count` after `at`, or the end where that lies beyond it.
+fn after(stored: &[u8], at: usize, count: usize) -> usize
     requires { ⌜ at ≤ length (now stored) ⌝ }
     ensures { λ r. ⌜ (at ≤ r) × (r ≤ length (now (stored .entry))) ⌝ }
 {
@@ -55,9 +55,9 @@ fn string_at(stored: &[u8], at: usize) -> Span
     requires { ⌜ at ≤ length (now stored) ⌝ }
     ensures { λ r. ⌜ (at ≤ r .end) × (r .end ≤ length (now (stored .entry))) ⌝ }
 {
-    let from = behind(stored, at, 1);
+    let from = after(stored, at, 1);
     let size = byte_at(stored, at) as usize;
-    let end = behind(stored, from, size);
+    let end = after(stored, from, size);
     Span { from, end }
 }
 
@@ -83,9 +83,9 @@ pub fn case_at(stored: &[u8], at: usize) -> Parsed
 {
     let name = string_at(stored, at);
     let call_at = name.end;
-    let start = string_at(stored, behind(stored, call_at, 1));
+    let start = string_at(stored, after(stored, call_at, 1));
     let given_at = start.end;
-    let stop = string_at(stored, behind(stored, given_at, 1));
+    let stop = string_at(stored, after(stored, given_at, 1));
     let prefix = string_at(stored, stop.end);
     let numbers_at = prefix.end;
     if stored.len() - numbers_at < 20 {

@@ -1,4 +1,7 @@
 // The lists that the calls are lent.
+ghost use Prim.Native.Nat.{min};
+ghost use lib.ListN.{length};
+ghost use mathlib.Core.Path.{_≡_};
 ghost use Rattle.io.specs.Counts.{Counts};
 
 // What stands in each place before a call, so that a place that isn't cleared shows.
@@ -6,6 +9,7 @@ pub const RUBBISH: u64 = 0x5a5a5a5a5a5a5a5a;
 
 // How many places of `list` are lent where a case asks for `places`. No case of the corpus asks for more than there are.
 pub fn room(places: u64, list: &[u64]) -> usize
+    ensures { λ r. ⌜ r ≡ min places (length (now (list .entry))) ⌝ }
     ensures { λ r. ⌜ Counts r (now (list .entry)) ⌝ }
 {
     if places < list.len() as u64 {

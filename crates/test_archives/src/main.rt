@@ -52,7 +52,7 @@ fn run_case(stored: &[u8], case: Case) {
     answer(&space[..n], stored, case);
 }
 
-// Runs the cases one behind the other.
+// Runs the cases one after the other.
 fn run_all(stored: &[u8]) {
     let mut at = 0;
     while at < stored.len() {

@@ -5,13 +5,13 @@ pub fn text(bytes: &[u8]) {
     io::write_all(STDOUT_FILENO, bytes);
 }
 
-// A number behind a label.
+// A number after a label.
 pub fn number(label: &[u8], n: u64) {
     text(label);
     io::print_decimal(STDOUT_FILENO, n);
 }
 
-// The numbers of a list behind a label, a space in front of each.
+// The numbers of a list after a label, a space in front of each.
 pub fn list(label: &[u8], numbers: &[u64]) {
     text(label);
     let mut i = 0;
@@ -25,7 +25,7 @@ fn byte(b: u8) {
     io::print_hex(STDOUT_FILENO, b as u64, 2);
 }
 
-// Bytes in hex behind a label, `-` for none.
+// Bytes in hex after a label, `-` for none.
 pub fn hex(label: &[u8], bytes: &[u8]) {
     text(label);
     if bytes.len() == 0 {
@@ -39,7 +39,7 @@ pub fn hex(label: &[u8], bytes: &[u8]) {
     }
 }
 
-// Start, stop and prefix of a query, each behind a space: `-` for a stop that isn't given, `empty` for an empty one.
+// Start, stop and prefix of a query, each after a space: `-` for a stop that isn't given, `empty` for an empty one.
 pub fn query(start: &[u8], stop_given: bool, stop: &[u8], prefix: &[u8]) {
     hex(b" ", start);
     if !stop_given {

@@ -3,13 +3,13 @@
 use mathlib.Core.Path.{_≡_, refl, sym, ap, ap₂, _∙_, subst}
 use mathlib.Core.Bool.{Bool, true, false}
 use mathlib.Core.List.{List, _∷_, _++_, List·Memᴰ}
-use Prim.Native.Nat.{ℕ, _+_, _*_, _≤_, _<_}
+use Prim.Native.Nat.{ℕ, _+_, _≤_, _<_}
 use native.Mathlib.Omega.{arith}
 use lib.Dec.{leb}
-use lib.ListN.{length, getD, length-append}
+use lib.ListN.{length, getD}
 use borrow.Author.Tests.{leb-true, leb-false}
 use Rattle.output_list.specs.OutputList.{padded, zeros}
-use Rattle.output_list.proofs.OutputListLaws.{length-zeros, length-padded, getD-padded}
+use Rattle.output_list.proofs.OutputListLaws.{length-zeros, length-padded}
 use Rattle.outcome.specs.Outcome.{Outcome, answer, refused}
 use Rattle.part.specs.Part.{part}
 use Rattle.outcome.proofs.OutcomeLaws.{answer-injective, answer-not-refused, bind⁻¹, kept⁻¹}
@@ -21,17 +21,17 @@ use Rattle.block.specs.Block.{Block, blocksAt}
 use Rattle.block.specs.Survey.{recordsOf}
 use Rattle.query.specs.Query.{Query, matches}
 use Rattle.matching.specs.Matching.{matching}
-use Rattle.matching.specs.ResultList.{numbersOf}
+use Rattle.matching.specs.ResultList.{roomFor, numbersOf}
 use Rattle.reader.specs.Read.{readBlocks, readOf, readAnswer, readList}
 use Rattle.record.specs.Record.{recordOf}
 use Rattle.record.proofs.RecordLaws.{within-of, record-within}
 use Rattle.matching.proofs.MatchLaws.{matching-member, member-matching}
-use Rattle.matching.proofs.StoreLaws.{length-numbers, numbers-pair}
+use Rattle.matching.proofs.ResultListLaws.{length-numbers, pair-padded}
 use Rattle.reader.proofs.ReadLaws.{answer-of-refusal, list-of-refusal, answer-of-matches, list-of-matches, blocks-refused, blocks-fit, blocks-overflow, header-accepts}
 use Rattle.reader.proofs.PlaceLaws.{LaidOut, blocks-laid, matching-laid, laid-part, laid-rising, laid-member}
 
 module _ (file : List ℕ) (q : Query) (room : ℕ) where
-  -- ---- what an answer says: header and blocks are accepted, and the matches have two places each
+  -- ---- what an answer says: header and blocks are accepted, and there is room for the matches
 
   pub record IsRead (ms : List Text) : Type 0 where
     pub header : Header
@@ -39,17 +39,17 @@ module _ (file : List ℕ) (q : Query) (room : ℕ) where
     pub header-accepted : headerOf file ≡ answer header
     pub blocks-accepted : blocksAt file (blocksFrom header) ≡ answer blocks
     pub matches-are : ms ≡ matching q (recordsOf blocks)
-    pub room-enough : 2 * length ms ≤ room
+    pub room-enough : roomFor (length ms) ≤ room
 
   pub is-read : (ms : List Text) → readOf file q room ≡ answer ms → IsRead ms
   unfolding readOf readBlocks
   is-read ms e =
       let first = bind⁻¹ (headerOf file) (readBlocks file q room) ms e in
       let second = bind⁻¹ (blocksAt file (blocksFrom (first .0))) _ ms (first .2) in
-      let third = kept⁻¹ (leb (2 * length (matching q (recordsOf (second .0)))) room) 27 0 _ ms (second .2) in
+      let third = kept⁻¹ (leb (roomFor (length (matching q (recordsOf (second .0))))) room) 27 0 _ ms (second .2) in
       go (first .0) (second .0) (first .1) (second .1) (leb-true _ room (third .0)) (answer-injective (matching q (recordsOf (second .0))) ms (third .1))
     where
-      go : (h : Header) (bs : List Block) → headerOf file ≡ answer h → blocksAt file (blocksFrom h) ≡ answer bs → 2 * length (matching q (recordsOf bs)) ≤ room → matching q (recordsOf bs) ≡ ms → IsRead ms
+      go : (h : Header) (bs : List Block) → headerOf file ≡ answer h → blocksAt file (blocksFrom h) ≡ answer bs → roomFor (length (matching q (recordsOf bs))) ≤ room → matching q (recordsOf bs) ≡ ms → IsRead ms
       go h bs a b fits same =
           record {
             header = h;
@@ -57,7 +57,7 @@ module _ (file : List ℕ) (q : Query) (room : ℕ) where
             header-accepted = a;
             blocks-accepted = b;
             matches-are = sym same;
-            room-enough = subst (λ (l : List Text). 2 * length l ≤ room) same fits;
+            room-enough = subst (λ (l : List Text). roomFor (length l) ≤ room) same fits;
           }
 
   -- ---- demand 1: the answer, and the list at exit, for all inputs
@@ -91,28 +91,28 @@ module _ (file : List ℕ) (q : Query) (room : ℕ) where
     read-unsound number place e = header-accepts file q room h header-accepted ∙ blocks-refused file q room h number place e
 
     module _ (bs : List Block) (blocks-accepted : blocksAt file (blocksFrom h) ≡ answer bs) where
-      -- with two places for each match reading gives exactly the records that match
-      pub read-whole : 2 * length (matching q (recordsOf bs)) ≤ room → readOf file q room ≡ answer (matching q (recordsOf bs))
+      -- with room for the matches reading gives exactly the records that match
+      pub read-whole : roomFor (length (matching q (recordsOf bs))) ≤ room → readOf file q room ≡ answer (matching q (recordsOf bs))
       read-whole fits = header-accepts file q room h header-accepted ∙ blocks-fit file q room h bs blocks-accepted fits
 
-      -- 27 exactly if the list has fewer than two places for each match
-      pub read-27 : room < 2 * length (matching q (recordsOf bs)) → readOf file q room ≡ refused 27 0
+      -- 27 exactly if the list has no room for the matches
+      pub read-27 : room < roomFor (length (matching q (recordsOf bs))) → readOf file q room ≡ refused 27 0
       read-27 many = header-accepts file q room h header-accepted ∙ blocks-overflow file q room h bs blocks-accepted many
 
-      pub read-27⁻¹ : (number place : ℕ) → readOf file q room ≡ refused number place → room < 2 * length (matching q (recordsOf bs))
-      read-27⁻¹ number place e = go (leb (2 * length (matching q (recordsOf bs))) room) refl
+      pub read-27⁻¹ : (number place : ℕ) → readOf file q room ≡ refused number place → room < roomFor (length (matching q (recordsOf bs)))
+      read-27⁻¹ number place e = go (leb (roomFor (length (matching q (recordsOf bs)))) room) refl
         where
-          go : (b : Bool) → leb (2 * length (matching q (recordsOf bs))) room ≡ b → room < 2 * length (matching q (recordsOf bs))
+          go : (b : Bool) → leb (roomFor (length (matching q (recordsOf bs)))) room ≡ b → room < roomFor (length (matching q (recordsOf bs)))
           go true p = absurd (answer-not-refused (matching q (recordsOf bs)) number place (sym (read-whole (leb-true _ room p)) ∙ e))
-          go false p = leb-false (2 * length (matching q (recordsOf bs))) room p
+          go false p = leb-false (roomFor (length (matching q (recordsOf bs)))) room p
 
       -- the matches are the records that match
       pub found : (ms : List Text) → readOf file q room ≡ answer ms → ms ≡ matching q (recordsOf bs)
-      found ms e = go (leb (2 * length (matching q (recordsOf bs))) room) refl
+      found ms e = go (leb (roomFor (length (matching q (recordsOf bs)))) room) refl
         where
-          go : (b : Bool) → leb (2 * length (matching q (recordsOf bs))) room ≡ b → ms ≡ matching q (recordsOf bs)
+          go : (b : Bool) → leb (roomFor (length (matching q (recordsOf bs)))) room ≡ b → ms ≡ matching q (recordsOf bs)
           go true p = answer-injective ms (matching q (recordsOf bs)) (sym e ∙ read-whole (leb-true _ room p))
-          go false p = absurd (answer-not-refused ms 27 0 (sym e ∙ read-27 (leb-false (2 * length (matching q (recordsOf bs))) room p)))
+          go false p = absurd (answer-not-refused ms 27 0 (sym e ∙ read-27 (leb-false (roomFor (length (matching q (recordsOf bs)))) room p)))
 
       -- a record is found exactly if it is a record of the file and matches; `matching-keeps` and `matching-append` say in which order and how often
       pub found⇒matches : (ms : List Text) → readOf file q room ≡ answer ms → (r : Text) → List·Memᴰ r ms → List·Memᴰ r (recordsOf bs) × (matches q (r .bytes) ≡ true)
@@ -133,19 +133,14 @@ module _ (file : List ℕ) (q : Query) (room : ℕ) where
   -- the pair of each match: the offset of its first byte and its length. The record that is handed back for a pair is the match.
   pub read-pair : (xs : List Text) (m : Text) (ys : List Text) → readOf file q room ≡ answer (xs ++ m ∷ ys)
       → (list : List ℕ) → list ≡ readList room (readOf file q room)
-      → (getD list (2 * length xs) 0 ≡ m .at) × (getD list (2 * length xs + 1) 0 ≡ length (m .bytes)) × (recordOf file (getD list (2 * length xs) 0) (getD list (2 * length xs + 1) 0) ≡ m .bytes)
+      → (getD list (roomFor (length xs)) 0 ≡ m .at) × (getD list (roomFor (length xs) + 1) 0 ≡ length (m .bytes)) × (recordOf file (getD list (roomFor (length xs)) 0) (getD list (roomFor (length xs) + 1) 0) ≡ m .bytes)
   read-pair xs m ys e list is =
-      let pair = numbers-pair xs m ys in
-      let first : getD list (2 * length xs) 0 ≡ m .at = place (2 * length xs) (omega (arith, more)) ∙ pair .0 in
-      let second : getD list (2 * length xs + 1) 0 ≡ length (m .bytes) = place (2 * length xs + 1) (omega (arith, more)) ∙ pair .1 in
+      let held = is ∙ read-answer (xs ++ m ∷ ys) e .1 in
+      let pair = pair-padded room xs m ys in
+      let first : getD list (roomFor (length xs)) 0 ≡ m .at = ap (λ (l : List ℕ). getD l (roomFor (length xs)) 0) held ∙ pair .0 in
+      let second : getD list (roomFor (length xs) + 1) 0 ≡ length (m .bytes) = ap (λ (l : List ℕ). getD l (roomFor (length xs) + 1) 0) held ∙ pair .1 in
       (first, second, ap₂ (recordOf file) first second ∙ handed)
     where
-      more : length (numbersOf (xs ++ m ∷ ys)) ≡ 2 * (length xs + length (m ∷ ys))
-      more = length-numbers (xs ++ m ∷ ys) ∙ ap (λ (n : ℕ). 2 * n) (length-append xs (m ∷ ys))
-
-      place : (i : ℕ) → i < length (numbersOf (xs ++ m ∷ ys)) → getD list i 0 ≡ getD (numbersOf (xs ++ m ∷ ys)) i 0
-      place i h = ap (λ (l : List ℕ). getD l i 0) (is ∙ read-answer (xs ++ m ∷ ys) e .1) ∙ getD-padded room (numbersOf (xs ++ m ∷ ys)) i h
-
       handed : recordOf file (m .at) (length (m .bytes)) ≡ m .bytes
       handed =
           let laid = read-laid (xs ++ m ∷ ys) (is-read (xs ++ m ∷ ys) e) in

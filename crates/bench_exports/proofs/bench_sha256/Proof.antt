@@ -1,4 +1,4 @@
--- `bench_exports::bench_sha256` meets its contract: the state absorbed all bytes at once. Assumes nothing.
+-- `bench_sha256` meets its contract: the state absorbed all bytes at once. Assumes nothing.
 use mathlib.Core.Path.{_∙_}
 use borrow.Author.Needs.{needs}
 use denote.Ref.{now}

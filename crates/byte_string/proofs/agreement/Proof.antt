@@ -1,4 +1,4 @@
--- `byte_string::agreement` meets its contract. The loop's invariant: the first n bytes agree, so that going on from n finds the place.
+-- `agreement` meets its contract. The loop's invariant: the first n bytes agree, so that going on from n finds the place.
 -- The measure is what is left of x. Assumes nothing.
 use Prim.Native.Nat.{_-_}
 use native.Mathlib.Omega.{arith}

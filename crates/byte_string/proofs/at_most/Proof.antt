@@ -1,4 +1,4 @@
--- `byte_string::at_most` meets its contract: x is at most y where y does not come before x.
+-- `at_most` meets its contract: x is at most y where y does not come before x.
 -- Assumes nothing.
 use mathlib.Core.Path.{sym, ap, _∙_}
 use mathlib.Core.Bool.{not}

@@ -1,4 +1,4 @@
--- `byte_string::begins_with` meets its contract: x begins with p where they agree in all of p.
+-- `begins_with` meets its contract: x begins with p where they agree in all of p.
 -- Assumes nothing.
 use mathlib.Core.Path.{sym}
 use borrow.Author.Needs.{needs}

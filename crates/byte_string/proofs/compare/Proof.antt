@@ -1,4 +1,4 @@
--- `byte_string::compare` meets its contract. Each answer is one law of the place at which x and y part: both end there, one ends, or the bytes there decide.
+-- `compare` meets its contract. Each answer is one law of the place at which x and y part: both end there, one ends, or the bytes there decide.
 -- Assumes nothing.
 use mathlib.Core.Path.{sym, ap}
 use borrow.Author.Needs.{needs}

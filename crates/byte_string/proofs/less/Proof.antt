@@ -1,4 +1,4 @@
--- `byte_string::less` meets its contract. Each answer is one law of the place at which x and y part: y ends there, x ends, or the bytes there decide.
+-- `less` meets its contract. Each answer is one law of the place at which x and y part: y ends there, x ends, or the bytes there decide.
 -- Assumes nothing.
 use mathlib.Core.Path.{sym}
 use borrow.Author.Needs.{needs}

@@ -1,4 +1,4 @@
--- `checker::hash::hash_right` meets its contract: the state holds the payloads, so its digest is their hash. Assumes nothing.
+-- `hash_right` meets its contract: the state holds the payloads, so its digest is their hash. Assumes nothing.
 use mathlib.Core.Path.{ap, _∙_}
 use borrow.Author.Needs.{needs}
 use denote.Ref.{now}

@@ -1,4 +1,4 @@
--- `checker::hash::hashed` meets its contract. The loop's invariant is `Passed`: the state holds the payloads of the blocks seen. Assumes nothing.
+-- `hashed` meets its contract. The loop's invariant is `Passed`: the state holds the payloads of the blocks seen. Assumes nothing.
 use mathlib.Core.Path.{sym, ap, _∙_}
 use native.Mathlib.Omega.{arith}
 use borrow.Author.Needs.{needs}

@@ -1,4 +1,4 @@
--- `checker::hash::passed` meets its contract by the test of the level. Assumes nothing.
+-- `passed` meets its contract by the test of the level. Assumes nothing.
 use borrow.Author.Needs.{needs}
 use borrow.Author.Tests.{eq-eqb, ne-eqb}
 use Rattle.part.specs.Part.{part}

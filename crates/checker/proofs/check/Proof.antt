@@ -1,4 +1,4 @@
--- `checker::check` meets its contract: the check, then the work list is cleared. Assumes nothing.
+-- `check` meets its contract: the check, then the work list is cleared. Assumes nothing.
 use borrow.Author.Needs.{needs}
 use mathlib.Core.Path.{ap, _∙_}
 use Rattle.output_list.specs.OutputList.{zeros}

@@ -1,4 +1,4 @@
--- `checker::check_blocks` meets its contract: each way out is one law of `CheckLaws`. Assumes nothing.
+-- `check_blocks` meets its contract: each way out is one law of `CheckLaws`. Assumes nothing.
 use mathlib.Core.Path.{sym, ap, _∙_}
 use native.Mathlib.Omega.{arith}
 use borrow.Author.Needs.{needs}

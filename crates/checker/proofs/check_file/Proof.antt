@@ -1,4 +1,4 @@
--- `checker::check_file` meets its contract: the header, then the blocks. Assumes nothing.
+-- `check_file` meets its contract: the header, then the blocks. Assumes nothing.
 use mathlib.Core.Path.{sym, ap, _∙_}
 use borrow.Author.Needs.{needs}
 use denote.Ref.{now}

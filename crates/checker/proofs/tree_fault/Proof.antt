@@ -1,4 +1,4 @@
--- `checker::tree_fault` meets its contract: 19 and 20, then 22 to 25. Assumes nothing.
+-- `tree_fault` meets its contract: 19 and 20, then 22 to 25. Assumes nothing.
 use native.Mathlib.Omega.{arith}
 use borrow.Author.Needs.{needs}
 use denote.Ref.{now}

@@ -1,4 +1,4 @@
--- `crc64::byte_step` meets its contract. The loop's invariant: with i of the 8 bits gone, those to come lead from r to the register
+-- `byte_step` meets its contract. The loop's invariant: with i of the 8 bits gone, those to come lead from r to the register
 -- after the byte. Assumes nothing.
 use mathlib.Core.Logic.{⊎-elim}
 use mathlib.Core.Path.{_∙_}

@@ -1,4 +1,4 @@
--- `block::framing::crc_right` meets its contract: both sides of the comparison are those of the definition. Assumes nothing.
+-- `crc_right` meets its contract: both sides of the comparison are those of the definition. Assumes nothing.
 use mathlib.Core.Path.{ap₂}
 use lib.Dec.{eqb}
 use Rattle.part.specs.Part.{part}

@@ -1,4 +1,4 @@
--- `block::framing::frame_at` meets its contract: a numberSaid that was read leads to `framed`, a refusal stays. Assumes nothing.
+-- `frame_at` meets its contract: a number that was read leads to `framed`, a refusal stays. Assumes nothing.
 use mathlib.Core.Path.{sym, ap, _∙_}
 use native.Mathlib.Omega.{arith}
 use denote.Ref.{now}

@@ -1,4 +1,4 @@
--- `block::framing::framed` meets its contract: each return is one case of the two rules. Assumes nothing.
+-- `framed` meets its contract: each return is one case of the two rules. Assumes nothing.
 use mathlib.Core.Path.{sym}
 use native.Mathlib.Omega.{arith}
 use Rattle.framing.specs.Answers.{frameSaid}

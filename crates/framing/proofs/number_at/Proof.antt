@@ -1,4 +1,4 @@
--- `block::framing::number_at` meets its contract: each arm of the match is one case of `readAs`. Assumes nothing.
+-- `number_at` meets its contract: each arm of the match is one case of `readAs`. Assumes nothing.
 use mathlib.Core.Path.{sym, ap, _∙_}
 use native.Mathlib.Omega.{arith}
 use lib.ListN.{length-take, length-drop}

@@ -1,4 +1,4 @@
--- `block::framing::sound_frame_at` meets its contract: the frameSaid, then the rule of its CRC. Assumes nothing.
+-- `sound_frame_at` meets its contract: the frame, then the rule of its CRC. Assumes nothing.
 use mathlib.Core.Path.{sym, ap, _∙_}
 use native.Mathlib.Omega.{arith}
 use denote.Ref.{now}

@@ -1,4 +1,4 @@
--- `header::crc_right` meets its contract. That the header data and their CRC lie within the file, which it requires, bounds the sums.
+-- `crc_right` meets its contract. That the header data and their CRC lie within the file, which it requires, bounds the sums.
 -- Assumes nothing.
 use mathlib.Core.Path.{sym}
 use native.Mathlib.Omega.{arith}

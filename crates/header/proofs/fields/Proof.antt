@@ -1,4 +1,4 @@
--- `header::fields` meets its contract: each return is one case of the definition, over parts that are lent.
+-- `fields` meets its contract: each return is one case of the definition, over parts that are lent.
 -- What it requires bounds the sums and the ends of the parts.
 -- Assumes nothing.
 use mathlib.Core.Path.{_≡_, sym, _∙_}

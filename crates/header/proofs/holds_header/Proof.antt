@@ -1,4 +1,4 @@
--- `header::holds_header` meets its contract: the sum 24 + H is compared as a difference, after a test that it does not wrap.
+-- `holds_header` meets its contract: the sum 24 + H is compared as a difference, after a test that it does not wrap.
 -- Assumes nothing.
 use mathlib.Core.Path.{sym}
 use native.Mathlib.Omega.{arith}

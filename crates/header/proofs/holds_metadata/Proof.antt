@@ -1,4 +1,4 @@
--- `header::holds_metadata` meets its contract: both tests are those of the definition.
+-- `holds_metadata` meets its contract: both tests are those of the definition.
 -- Assumes nothing.
 use mathlib.Core.Path.{sym}
 use native.Mathlib.Omega.{arith}

@@ -1,4 +1,4 @@
--- `header::is_metadata` meets its contract: each return is one case of the metadata rule.
+-- `is_metadata` meets its contract: each return is one case of the metadata rule.
 -- Assumes nothing.
 use mathlib.Core.Path.{sym}
 use native.Mathlib.Omega.{arith}

@@ -1,4 +1,4 @@
--- `matching::collect_records` meets its contract. The loop's invariant is `RecordsCollected`: going on from here gives what the whole gives.
+-- `collect_records` meets its contract. The loop's invariant is `RecordsCollected`: going on from here gives what the whole gives.
 -- Assumes nothing.
 use mathlib.Core.Path.{sym, ap, _∙_}
 use Prim.Native.Nat.{_-_}
@@ -49,12 +49,13 @@ enum-known-step c = search needs
 add-end : tie.Need-add-end Inv-loop μ-loop
 unfolding textSaid
 add-end c =
-    let args = c .before .before .before .before .before .before .before .before .before .before .before .args in
-    let loop = c .before .before .before .before .before .loop in
-    let text-at = c .before .before .before .text-at in
-    let good = c .before .before .before .before .before .before .before .before .before .before .before .good in
-    let b = text-bounds 0 (now (args .s)) (loop .at) _ _ (sym (text-at .ensures 0) ∙ ap (textSaid 0 (now (args .s)))
-    (c .before .step .given .1)) in let forward = b .0 in let within = b .1 in omega (arith, good)
+    let args = c .before .before .before .before .before .before .before .before .before .before .before .before .args in
+    let loop = c .before .before .before .before .before .before .loop in
+    let text-at = c .before .before .before .before .text-at in
+    let step = c .before .before .step in
+    let good = c .before .before .before .before .before .before .before .before .before .before .before .before .good in
+    let b = text-bounds 0 (now (args .s)) (loop .at) _ _ (sym (text-at .ensures 0) ∙ ap (textSaid 0 (now (args .s))) (step .given .1)) in
+    let forward = b .0 in let within = b .1 in omega (arith, good)
 
 sub-matches : tie.Need-sub-matches Inv-loop μ-loop
 sub-matches c = search needs
@@ -65,69 +66,70 @@ part-matches-start c = search needs
 part-matches-end : tie.Need-part-matches-end Inv-loop μ-loop
 unfolding textSaid
 part-matches-end c =
-    let args = c .before .before .before .before .before .before .before .before .before .before .before .args in
-    let loop = c .before .before .before .before .before .loop in
-    let text-at = c .before .before .before .text-at in
-    let good = c .before .before .before .before .before .before .before .before .before .before .before .good in
-    let b = text-bounds 0 (now (args .s)) (loop .at) _ _ (sym (text-at .ensures 0) ∙ ap (textSaid 0 (now (args .s)))
-    (c .before .step .given .1)) in let forward = b .0 in let within = b .1 in omega (arith, good)
+    let args = c .before .before .before .before .before .before .before .before .before .before .before .before .args in
+    let loop = c .before .before .before .before .before .before .loop in
+    let text-at = c .before .before .before .before .text-at in
+    let step = c .before .before .step in
+    let good = c .before .before .before .before .before .before .before .before .before .before .before .before .good in
+    let b = text-bounds 0 (now (args .s)) (loop .at) _ _ (sym (text-at .ensures 0) ∙ ap (textSaid 0 (now (args .s))) (step .given .1)) in
+    let forward = b .0 in let within = b .1 in omega (arith, good)
 
 matches-requires : tie.Need-matches-requires Inv-loop μ-loop
 matches-requires c κs = search needs
 
-put-pair-requires : tie.Need-put-pair-requires Inv-loop μ-loop
-put-pair-requires c κs = search needs
+put-match-requires : tie.Need-put-match-requires Inv-loop μ-loop
+put-match-requires c κs = search needs
 
 add-found : tie.Need-add-found Inv-loop μ-loop
 add-found c =
-    let loop = c .before .before .before .before .before .before .before .before .before .before .before .before .loop in
-    let pre = c .before .before .before .before .before .before .before .before .before .before .before .before .before .before .before .before .before .before .pre in
+    let loop = c .before .before .before .before .before .before .before .before .before .before .before .before .before .loop in
+    let pre = c .before .before .before .before .before .before .before .before .before .before .before .before .before .before .before .before .before .before .before .pre in
     let few = loop .inv .few in let room = pre in omega arith
 
 loop-less : tie.Need-loop-less Inv-loop μ-loop
 unfolding textSaid
 loop-less c =
-    let args = c .before .before .before .before .before .before .before .before .before .before .before .before .before .before .before .before .before .before .args in
-    let loop = c .before .before .before .before .before .before .before .before .before .before .before .before .loop in
-    let text-at = c .before .before .before .before .before .before .before .before .before .before .text-at in
-    let step = c .before .before .before .before .before .before .before .before .step in
-    let b = text-bounds 0 (now (args .s)) (loop .at) _ _ (sym (text-at .ensures 0) ∙ ap (textSaid 0 (now (args .s))) (step .given .1)) in let
-    forward = b .0 in let within = b .1 in omega arith
+    let args = c .before .before .before .before .before .before .before .before .before .before .before .before .before .before .before .before .before .before .before .args in
+    let loop = c .before .before .before .before .before .before .before .before .before .before .before .before .before .loop in
+    let text-at = c .before .before .before .before .before .before .before .before .before .before .before .text-at in
+    let step = c .before .before .before .before .before .before .before .before .before .step in
+    let b = text-bounds 0 (now (args .s)) (loop .at) _ _ (sym (text-at .ensures 0) ∙ ap (textSaid 0 (now (args .s))) (step .given .1)) in
+    let forward = b .0 in let within = b .1 in omega arith
 
 loop-again : tie.Need-loop-again Inv-loop μ-loop
 unfolding textSaid
 loop-again c =
-    let loop = c .before .before .before .before .before .before .before .before .before .before .before .before .loop in
-    let loop-test = c .before .before .before .before .before .before .before .before .before .before .before .loop-test in
-    let text-at = c .before .before .before .before .before .before .before .before .before .before .text-at in
-    let args = c .before .before .before .before .before .before .before .before .before .before .before .before .before .before .before .before .before .before .args in
-    let step = c .before .before .before .before .before .before .before .before .step in
+    let loop = c .before .before .before .before .before .before .before .before .before .before .before .before .before .loop in
+    let loop-test = c .before .before .before .before .before .before .before .before .before .before .before .before .loop-test in
+    let text-at = c .before .before .before .before .before .before .before .before .before .before .before .text-at in
+    let args = c .before .before .before .before .before .before .before .before .before .before .before .before .before .before .before .before .before .before .before .args in
+    let step = c .before .before .before .before .before .before .before .before .before .step in
     let matches = c .before .before .before .before .before .matches in
     let if1 = c .before .before .before .before .if1 in
-    let put-pair = c .before .before .put-pair in
-    records-kept _ _ _ _ _ _ (loop .inv) (loop-test .taken) _ _ (λ place. (sym (text-at .ensures place) ∙ ap (textSaid place (now (args .s)))
-    (step .given .1))) (sym (matches .ensures) ∙ if1 .taken) _ (put-pair .ensures .1)
+    let put-match = c .before .before .put-match in
+    records-kept _ _ _ _ _ _ (loop .inv) (loop-test .taken) _ _ (λ place. (sym (text-at .ensures place) ∙ ap (textSaid place (now
+    (args .s))) (step .given .1))) (sym (matches .ensures) ∙ if1 .taken) _ (put-match .ensures .1)
 
 loop-less-2 : tie.Need-loop-less-2 Inv-loop μ-loop
 unfolding textSaid
 loop-less-2 c =
-    let args = c .before .before .before .before .before .before .before .before .before .before .before .before .before .before .args in
-    let loop = c .before .before .before .before .before .before .before .before .loop in
-    let text-at = c .before .before .before .before .before .before .text-at in
-    let step = c .before .before .before .before .step in
-    let b = text-bounds 0 (now (args .s)) (loop .at) _ _ (sym (text-at .ensures 0) ∙ ap (textSaid 0 (now (args .s))) (step .given .1)) in let
-    forward = b .0 in let within = b .1 in omega arith
+    let args = c .before .before .before .before .before .before .before .before .before .before .before .before .before .before .before .args in
+    let loop = c .before .before .before .before .before .before .before .before .before .loop in
+    let text-at = c .before .before .before .before .before .before .before .text-at in
+    let step = c .before .before .before .before .before .step in
+    let b = text-bounds 0 (now (args .s)) (loop .at) _ _ (sym (text-at .ensures 0) ∙ ap (textSaid 0 (now (args .s))) (step .given .1)) in
+    let forward = b .0 in let within = b .1 in omega arith
 
 loop-again-2 : tie.Need-loop-again-2 Inv-loop μ-loop
 unfolding textSaid
 loop-again-2 c =
-    let loop = c .before .before .before .before .before .before .before .before .loop in
-    let loop-test = c .before .before .before .before .before .before .before .loop-test in
-    let text-at = c .before .before .before .before .before .before .text-at in
-    let args = c .before .before .before .before .before .before .before .before .before .before .before .before .before .before .args in
-    let step = c .before .before .before .before .step in
-    records-passed _ _ _ _ _ _ (loop .inv) (loop-test .taken) _ _ (λ place. (sym (text-at .ensures place) ∙ ap (textSaid place (now (args .s)))
-    (step .given .1))) (sym (c .before .matches .ensures) ∙ c .if1 .left)
+    let loop = c .before .before .before .before .before .before .before .before .before .loop in
+    let loop-test = c .before .before .before .before .before .before .before .before .loop-test in
+    let text-at = c .before .before .before .before .before .before .before .text-at in
+    let args = c .before .before .before .before .before .before .before .before .before .before .before .before .before .before .before .args in
+    let step = c .before .before .before .before .before .step in
+    records-passed _ _ _ _ _ _ (loop .inv) (loop-test .taken) _ _ (λ place. (sym (text-at .ensures place) ∙ ap (textSaid place (now
+    (args .s))) (step .given .1))) (sym (c .before .matches .ensures) ∙ c .if1 .left)
 
 same-length-2 : tie.Need-same-length-2 Inv-loop μ-loop
 same-length-2 c = c .before .loop .inv .long
@@ -152,7 +154,7 @@ collect-records-spec =
     part-matches-start
     part-matches-end
     matches-requires
-    put-pair-requires
+    put-match-requires
     add-found
     loop-less
     loop-again

@@ -1,4 +1,4 @@
--- `output_list::clear` meets its contract. The loop's invariant: the first i places are 0, and those from i on are as they were.
+-- `clear` meets its contract. The loop's invariant: the first i places are 0, and those from i on are as they were.
 -- Assumes nothing.
 use Prim.Native.Nat.{_-_}
 use native.Mathlib.Omega.{arith}

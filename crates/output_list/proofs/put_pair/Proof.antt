@@ -1,4 +1,4 @@
--- `output_list::put_pair` meets its contract: both places lie within the list exactly where there is room. Assumes nothing.
+-- `put_pair` meets its contract: both places lie within the list exactly where there is room. Assumes nothing.
 use native.Mathlib.Omega.{arith}
 use borrow.Author.Needs.{needs}
 use denote.Ref.{now}
@@ -8,7 +8,7 @@ use Rattle.output_list.proofs.put_pair.Statement.{statement}
 use Rattle.output_list.proofs.put_pair.Tie as tie
 
 returns : tie.Need-returns
-returns c = room-none (now (c .before .args .list)) (c .before .args .count) (c .before .args .first) (c .before .args .second) (c .if1 .taken)
+returns c = room-none (now (c .before .args .list)) (c .before .args .count) (c .before .args .first) (c .before .args .second) (omega arith)
 
 mul-list : tie.Need-mul-list
 mul-list c = search needs
@@ -35,7 +35,7 @@ same-length : tie.Need-same-length
 same-length c = search needs
 
 returns-2 : tie.Need-returns-2
-returns-2 c = room-some (now (c .before .args .list)) (c .before .args .count) (c .before .args .first) (c .before .args .second) (c .if1 .left)
+returns-2 c = room-some (now (c .before .args .list)) (c .before .args .count) (c .before .args .first) (c .before .args .second) (omega arith)
 
 pub put-pair-spec : {M : Type 1} → statement M
 put-pair-spec =

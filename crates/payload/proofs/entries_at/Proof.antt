@@ -1,4 +1,4 @@
--- `block::payloadSaid::entries_at` meets its contract. The loop's invariant is `Scanned`: the entries seen, their count, whether they rise, and
+-- `entries_at` meets its contract. The loop's invariant is `Scanned`: the entries seen, their count, whether they rise, and
 -- the last one. Assumes nothing.
 use mathlib.Core.Path.{refl, sym, ap, _∙_}
 use Prim.Native.Nat.{_+_, _-_, _≤_}
@@ -14,10 +14,10 @@ use Rattle.payload.proofs.entries_at.Statement.{statement}
 use Rattle.payload.proofs.entries_at.Tie as tie
 
 abbrev Inv-loop : tie.InvT-loop
-Inv-loop s from at₀ count₀ rising₀ last₀ size₀ at count rising last size = Scanned (λ p. entryAt p s) (λ e. e .key) s from at count rising last size
+Inv-loop s from at₀ count₀ rising₀ last₀ at count rising last = Scanned (λ p. entryAt p s) (λ e. e .key) s from at count rising (last .offset) (last .length)
 
 abbrev μ-loop : tie.MeasureT-loop
-μ-loop s from at₀ count₀ rising₀ last₀ size₀ at count rising last size = length s - at
+μ-loop s from at₀ count₀ rising₀ last₀ at count rising last = length s - at
 
 returns : tie.Need-returns Inv-loop μ-loop
 unfolding payloadSaid entriesAt
@@ -57,8 +57,7 @@ still-rising-requires c κs =
     let args = c .before .before .before .before .before .before .before .before .args in
     let loop = c .before .before .before .before .before .loop in
     let e = (sym (entry-at .ensures .0 0) ∙ ap (entrySaid 0 (now (args .s))) (c .before .step2 .given .1)) in let t = entry⇒Entered 0 (now
-    (args .s)) (loop .at) _ e in let forward = t .forward in let within = t .within in let inside : c .before .step2 .given .0 .0 +
-    c .before .step2 .given .0 .1 .0 ≤ length (now (args .s)) = within-told _ _ _ _ _ _ _ (c .before .step2 .given .1)
+    (args .s)) (loop .at) _ e in let forward = t .forward in let within = t .within in let inside : c .before .step2 .given .0 .0 .offset + c .before .step2 .given .0 .0 .length ≤ length (now (args .s)) = within-told _ _ _ _ _ _ (c .before .step2 .given .1)
     (entry-at .ensures .1) in let p = loop .inv in let l = p .last-within in omega arith
 
 add-count : tie.Need-add-count Inv-loop μ-loop
@@ -75,8 +74,8 @@ loop-less c =
     let step2 = c .before .before .step2 in
     let loop = c .before .before .before .before .before .before .loop in
     let e = (sym (entry-at .ensures .0 0) ∙ ap (entrySaid 0 (now (args .s))) (step2 .given .1)) in let t = entry⇒Entered 0 (now (args .s))
-    (loop .at) _ e in let forward = t .forward in let within = t .within in let inside : step2 .given .0 .0 + step2 .given .0 .1 .0 ≤ length
-    (now (args .s)) = within-told _ _ _ _ _ _ _ (step2 .given .1) (entry-at .ensures .1) in omega arith
+    (loop .at) _ e in let forward = t .forward in let within = t .within in let inside : step2 .given .0 .0 .offset + step2 .given .0 .0 .length ≤ length
+    (now (args .s)) = within-told _ _ _ _ _ _ (step2 .given .1) (entry-at .ensures .1) in omega arith
 
 loop-again : tie.Need-loop-again Inv-loop μ-loop
 unfolding entrySaid textIn
@@ -87,8 +86,8 @@ loop-again c =
     let loop = c .before .before .before .before .before .before .loop in
     let loop-test = c .before .before .before .before .before .loop-test in
     let e = (sym (entry-at .ensures .0 0) ∙ ap (entrySaid 0 (now (args .s))) (step2 .given .1)) in let t = entry⇒Entered 0 (now (args .s))
-    (loop .at) _ e in let forward = t .forward in let within = t .within in let inside : step2 .given .0 .0 + step2 .given .0 .1 .0 ≤ length
-    (now (args .s)) = within-told _ _ _ _ _ _ _ (step2 .given .1) (entry-at .ensures .1) in scanned-more (λ p. entryAt p (now (args .s))) (λ
+    (loop .at) _ e in let forward = t .forward in let within = t .within in let inside : step2 .given .0 .0 .offset + step2 .given .0 .0 .length ≤ length
+    (now (args .s)) = within-told _ _ _ _ _ _ (step2 .given .1) (entry-at .ensures .1) in scanned-more (λ p. entryAt p (now (args .s))) (λ
     e. e .key) (now (args .s)) (args .from) _ _ _ _ _ (loop .inv) (loop-test .taken) _ _ _ _ (λ place. sym (entry-at .ensures .0 place) ∙ ap
     (entrySaid place (now (args .s))) (step2 .given .1)) refl (omega arith) (omega arith) (omega arith) _ (c .still-rising .ensures)
 

@@ -1,4 +1,4 @@
--- `block::payload::entry_at` meets its contract: a key, then two numbers. Assumes nothing.
+-- `entry_at` meets its contract: a key, then two numbers. Assumes nothing.
 use mathlib.Core.Path.{sym, ap, _∙_}
 use native.Mathlib.Omega.{arith}
 use borrow.Author.Needs.{needs}
@@ -21,11 +21,12 @@ enum-known-text-2 c = search needs
 add-number-at : tie.Need-add-number-at
 unfolding textSaid
 add-number-at c =
-    let args = c .before .before .before .before .before .args in
-    let text-at = c .before .before .before .text-at in
-    let good = c .before .before .before .before .before .good in
-    let t = text⇒Placed 0 (now (args .s)) (args .at) _ (sym (text-at .ensures 0) ∙ ap (textSaid 0 (now (args .s))) (c .before .text2 .given .1))
-    in let within = t .within in omega (arith, good)
+    let args = c .before .before .before .before .before .before .args in
+    let text-at = c .before .before .before .before .text-at in
+    let text2 = c .before .before .text2 in
+    let good = c .before .before .before .before .before .before .good in
+    let t = text⇒Placed 0 (now (args .s)) (args .at) _ (sym (text-at .ensures 0) ∙ ap (textSaid 0 (now (args .s))) (text2 .given .1)) in let
+    within = t .within in omega (arith, good)
 
 number-at-requires : tie.Need-number-at-requires
 number-at-requires c κs = search needs
@@ -39,9 +40,9 @@ enum-known-first-2 c = search needs
 sized-requires : tie.Need-sized-requires
 unfolding textSaid
 sized-requires c κs =
-    let args = c .before .before .before .before .before .before .before .before .before .args in
-    let text-at = c .before .before .before .before .before .before .before .text-at in
-    let text2 = c .before .before .before .before .before .text2 in
+    let args = c .before .before .before .before .before .before .before .before .before .before .args in
+    let text-at = c .before .before .before .before .before .before .before .before .text-at in
+    let text2 = c .before .before .before .before .before .before .text2 in
     let t = text⇒Placed 0 (now (args .s)) (args .at) _ (sym (text-at .ensures 0) ∙ ap (textSaid 0 (now (args .s))) (text2 .given .1)) in
     t .within
 
@@ -50,33 +51,33 @@ unfolding textSaid entrySaid KeyWithin
 returns c =
     let args = c .before .before .before .before .before .args in
     let text-at = c .before .before .before .text-at in (
-      λ place. sym (entry-keyless place (now (args .s)) (args .at) _ place (sym (text-at .ensures place) ∙ ap (textSaid place (now (args .s)))
-          (c .before .text .given .1))),
+      λ place. sym (entry-keyless place (now (args .s)) (args .at) _ place (sym (text-at .ensures place) ∙ ap (textSaid place (now
+          (args .s))) (c .before .text .given .1))),
       tt,
     )
 
 returns-2 : tie.Need-returns-2
 unfolding textSaid numberSaid entrySaid KeyWithin
 returns-2 c =
-    let args = c .before .before .before .before .before .before .before .before .before .args in
-    let text-at = c .before .before .before .before .before .before .before .text-at in
-    let text2 = c .before .before .before .before .before .text2 in
+    let args = c .before .before .before .before .before .before .before .before .before .before .args in
+    let text-at = c .before .before .before .before .before .before .before .before .text-at in
+    let text2 = c .before .before .before .before .before .before .text2 in
     let number-at = c .before .before .before .number-at in (
-      λ place. sym (entry-refused place (now (args .s)) (args .at) _ _ place (sym (text-at .ensures place) ∙ ap (textSaid place (now (args .s)))
-          (text2 .given .1)) (sym (number-at .ensures place) ∙ ap (numberSaid place) (c .before .first .given .1))),
+      λ place. sym (entry-refused place (now (args .s)) (args .at) _ _ place (sym (text-at .ensures place) ∙ ap (textSaid place (now
+          (args .s))) (text2 .given .1)) (sym (number-at .ensures place) ∙ ap (numberSaid place) (c .before .first .given .1))),
       tt,
     )
 
 returns-3 : tie.Need-returns-3
 unfolding textSaid numberSaid entrySaid
 returns-3 c =
-    let args = c .before .before .before .before .before .before .before .before .before .before .args in
-    let text-at = c .before .before .before .before .before .before .before .before .text-at in
-    let text2 = c .before .before .before .before .before .before .text2 in
+    let args = c .before .before .before .before .before .before .before .before .before .before .before .args in
+    let text-at = c .before .before .before .before .before .before .before .before .before .text-at in
+    let text2 = c .before .before .before .before .before .before .before .text2 in
     let number-at = c .before .before .before .before .number-at in
     let first2 = c .before .before .first2 in (
-      λ place. c .sized .ensures .0 place ∙ sym (entry-read place (now (args .s)) (args .at) _ _ (sym (text-at .ensures place) ∙ ap (textSaid
-          place (now (args .s))) (text2 .given .1)) (sym (number-at .ensures place) ∙ ap (numberSaid place) (first2 .given .1))),
+      λ place. c .sized .ensures .0 place ∙ sym (entry-read place (now (args .s)) (args .at) _ _ (sym (text-at .ensures place) ∙ ap
+          (textSaid place (now (args .s))) (text2 .given .1)) (sym (number-at .ensures place) ∙ ap (numberSaid place) (first2 .given .1))),
       c .sized .ensures .1,
     )
 

@@ -1,4 +1,4 @@
--- `block::payloadSaid::records_at` meets its contract. The loop's invariant is `Scanned`: the records seen, their count, whether they rise, and
+-- `records_at` meets its contract. The loop's invariant is `Scanned`: the records seen, their count, whether they rise, and
 -- the last one. Assumes nothing.
 use mathlib.Core.Path.{refl, sym, ap, _∙_}
 use Prim.Native.Nat.{_-_}
@@ -14,10 +14,10 @@ use Rattle.payload.proofs.records_at.Statement.{statement}
 use Rattle.payload.proofs.records_at.Tie as tie
 
 abbrev Inv-loop : tie.InvT-loop
-Inv-loop s from at₀ count₀ rising₀ last₀ size₀ at count rising last size = Scanned (λ p. textAt p s) (λ x. x) s from at count rising last size
+Inv-loop s from at₀ count₀ rising₀ last₀ at count rising last = Scanned (λ p. textAt p s) (λ x. x) s from at count rising (last .offset) (last .length)
 
 abbrev μ-loop : tie.MeasureT-loop
-μ-loop s from at₀ count₀ rising₀ last₀ size₀ at count rising last size = length s - at
+μ-loop s from at₀ count₀ rising₀ last₀ at count rising last = length s - at
 
 returns : tie.Need-returns Inv-loop μ-loop
 unfolding payloadSaid recordsAt
@@ -56,48 +56,49 @@ still-rising-requires c κs =
     let text-at = c .before .before .before .text-at in
     let args = c .before .before .before .before .before .before .before .before .args in
     let loop = c .before .before .before .before .before .loop in
-    let e = (sym (text-at .ensures 0) ∙ ap (textSaid 0 (now (args .s))) (c .before .step2 .given .1)) in let t = text⇒Placed 0 (now (args .s))
-    (loop .at) _ e in let forward = t .forward in let within = t .within in let p = loop .inv in let l = p .last-within in omega arith
+    let e = (sym (text-at .ensures 0) ∙ ap (textSaid 0 (now (args .s))) (c .before .step2 .given .1)) in let t = text⇒Placed 0 (now
+    (args .s)) (loop .at) _ e in let forward = t .forward in let within = t .within in let p = loop .inv in let l = p .last-within in omega
+    arith
 
 add-at : tie.Need-add-at Inv-loop μ-loop
 unfolding textSaid
 add-at c =
-    let text-at = c .before .before .before .before .text-at in
-    let args = c .before .before .before .before .before .before .before .before .before .args in
-    let step2 = c .before .before .step2 in
-    let loop = c .before .before .before .before .before .before .loop in
-    let good = c .before .before .before .before .before .before .before .before .before .good in
-    let e = (sym (text-at .ensures 0) ∙ ap (textSaid 0 (now (args .s))) (step2 .given .1)) in let t = text⇒Placed 0 (now (args .s)) (loop .at) _
-    e in let forward = t .forward in let within = t .within in omega (arith, good)
+    let text-at = c .before .before .before .before .before .text-at in
+    let args = c .before .before .before .before .before .before .before .before .before .before .args in
+    let step2 = c .before .before .before .step2 in
+    let loop = c .before .before .before .before .before .before .before .loop in
+    let good = c .before .before .before .before .before .before .before .before .before .before .good in
+    let e = (sym (text-at .ensures 0) ∙ ap (textSaid 0 (now (args .s))) (step2 .given .1)) in let t = text⇒Placed 0 (now (args .s))
+    (loop .at) _ e in let forward = t .forward in let within = t .within in omega (arith, good)
 
 add-count : tie.Need-add-count Inv-loop μ-loop
 add-count c =
-    let loop = c .before .before .before .before .before .before .loop in
-    let good = c .before .before .before .before .before .before .before .before .before .good in
+    let loop = c .before .before .before .before .before .before .before .loop in
+    let good = c .before .before .before .before .before .before .before .before .before .before .good in
     let p = loop .inv in let few = p .few in let within = p .within in omega (arith, good)
 
 loop-less : tie.Need-loop-less Inv-loop μ-loop
 unfolding textSaid
 loop-less c =
-    let text-at = c .before .before .before .before .text-at in
-    let args = c .before .before .before .before .before .before .before .before .before .args in
-    let step2 = c .before .before .step2 in
-    let loop = c .before .before .before .before .before .before .loop in
-    let e = (sym (text-at .ensures 0) ∙ ap (textSaid 0 (now (args .s))) (step2 .given .1)) in let t = text⇒Placed 0 (now (args .s)) (loop .at) _
-    e in let forward = t .forward in let within = t .within in omega arith
+    let text-at = c .before .before .before .before .before .text-at in
+    let args = c .before .before .before .before .before .before .before .before .before .before .args in
+    let step2 = c .before .before .before .step2 in
+    let loop = c .before .before .before .before .before .before .before .loop in
+    let e = (sym (text-at .ensures 0) ∙ ap (textSaid 0 (now (args .s))) (step2 .given .1)) in let t = text⇒Placed 0 (now (args .s))
+    (loop .at) _ e in let forward = t .forward in let within = t .within in omega arith
 
 loop-again : tie.Need-loop-again Inv-loop μ-loop
 unfolding textSaid textIn
 loop-again c =
-    let text-at = c .before .before .before .before .text-at in
-    let args = c .before .before .before .before .before .before .before .before .before .args in
-    let step2 = c .before .before .step2 in
-    let loop = c .before .before .before .before .before .before .loop in
-    let loop-test = c .before .before .before .before .before .loop-test in
-    let e = (sym (text-at .ensures 0) ∙ ap (textSaid 0 (now (args .s))) (step2 .given .1)) in let t = text⇒Placed 0 (now (args .s)) (loop .at) _
-    e in let forward = t .forward in let within = t .within in scanned-more (λ p. textAt p (now (args .s))) (λ x. x) (now (args .s))
-    (args .from) _ _ _ _ _ (loop .inv) (loop-test .taken) _ _ _ _ (λ place. sym (text-at .ensures place) ∙ ap (textSaid place (now (args .s)))
-    (step2 .given .1)) refl (omega arith) (omega arith) (omega arith) _ (c .still-rising .ensures)
+    let text-at = c .before .before .before .before .before .text-at in
+    let args = c .before .before .before .before .before .before .before .before .before .before .args in
+    let step2 = c .before .before .before .step2 in
+    let loop = c .before .before .before .before .before .before .before .loop in
+    let loop-test = c .before .before .before .before .before .before .loop-test in
+    let e = (sym (text-at .ensures 0) ∙ ap (textSaid 0 (now (args .s))) (step2 .given .1)) in let t = text⇒Placed 0 (now (args .s))
+    (loop .at) _ e in let forward = t .forward in let within = t .within in scanned-more (λ p. textAt p (now (args .s))) (λ x. x) (now
+    (args .s)) (args .from) _ _ _ _ _ (loop .inv) (loop-test .taken) _ _ _ _ (λ place. sym (text-at .ensures place) ∙ ap (textSaid place
+    (now (args .s))) (step2 .given .1)) refl (omega arith) (omega arith) (omega arith) _ (c .before .still-rising .ensures)
 
 returns-3 : tie.Need-returns-3 Inv-loop μ-loop
 unfolding payloadSaid recordsAt

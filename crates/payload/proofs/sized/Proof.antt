@@ -1,4 +1,4 @@
--- `block::payload::sized` meets its contract: one more numberSaid ends the entrySaid. Assumes nothing.
+-- `sized` meets its contract: one more number ends the entry. Assumes nothing.
 use mathlib.Core.Path.{sym, ap, _∙_}
 use borrow.Author.Needs.{needs}
 use denote.Ref.{now}

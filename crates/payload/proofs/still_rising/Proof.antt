@@ -1,4 +1,4 @@
--- `block::payload::still_rising` meets its contract. Assumes nothing.
+-- `still_rising` meets its contract. Assumes nothing.
 use mathlib.Core.Path.{_∙_, ap₂}
 use borrow.Author.Needs.{needs}
 use Rattle.byte_string.specs.Order.{atMost}
@@ -7,8 +7,11 @@ use Rattle.payload.proofs.ScanLaws.{still, no-longer, lent}
 use Rattle.payload.proofs.still_rising.Statement.{statement}
 use Rattle.payload.proofs.still_rising.Tie as tie
 
-add-at-most : tie.Need-add-at-most
-add-at-most c = search needs
+add-b : tie.Need-add-b
+add-b c = search needs
+
+add-d : tie.Need-add-d
+add-d c = search needs
 
 sub-at-most : tie.Need-sub-at-most
 sub-at-most c = search needs
@@ -18,9 +21,6 @@ part-at-most-start c = search needs
 
 part-at-most-end : tie.Need-part-at-most-end
 part-at-most-end c = search needs
-
-add-at-most-2 : tie.Need-add-at-most-2
-add-at-most-2 c = search needs
 
 sub-at-most-2 : tie.Need-sub-at-most-2
 sub-at-most-2 c = search needs
@@ -38,8 +38,9 @@ returns : tie.Need-returns
 unfolding part
 returns c =
     let if1 = c .before .before .before .if1 in
-    let args = c .before .before .before .before .before .args in
-    still _ _ _ (if1 .taken) (c .at-most .ensures ∙ ap₂ atMost (lent _ (args .last) (args .size)) (lent _ (args .next) (args .n)))
+    let args = c .before .before .before .before .before .before .before .args in
+    still _ _ _ (if1 .taken) (c .at-most .ensures ∙ ap₂ atMost (lent _ (args .last .offset) (args .last .length)) (lent _
+    (args .next .offset) (args .next .length)))
 
 returns-2 : tie.Need-returns-2
 returns-2 c = no-longer _ _ (c .if1 .left)
@@ -48,11 +49,11 @@ pub still-rising-spec : {M : Type 1} → statement M
 still-rising-spec =
     tie.close
     (tie.spec
-    add-at-most
+    add-b
+    add-d
     sub-at-most
     part-at-most-start
     part-at-most-end
-    add-at-most-2
     sub-at-most-2
     part-at-most-start-2
     part-at-most-end-2

@@ -1,4 +1,4 @@
--- `block::payload::text_at` meets its contract: a numberSaid, then the rule that its bytes are there. Assumes nothing.
+-- `text_at` meets its contract: a number, then the rule that its bytes are there. Assumes nothing.
 use mathlib.Core.Path.{sym, ap, _∙_}
 use native.Mathlib.Omega.{arith}
 use borrow.Author.Needs.{needs}

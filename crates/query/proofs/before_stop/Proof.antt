@@ -1,4 +1,4 @@
--- `query::before_stop` meets its contract: x is compared with a stop that is given, and a stop that is not given refuses nothing.
+-- `before_stop` meets its contract: x is compared with a stop that is given, and a stop that is not given refuses nothing.
 -- Assumes nothing.
 use mathlib.Core.Path.{sym, _∙_}
 use borrow.Author.Needs.{needs}

@@ -1,4 +1,4 @@
--- `query::may_match` meets its contract: its tests are the definition's, in the same order.
+-- `may_match` meets its contract: its tests are the definition's, in the same order.
 -- Assumes nothing.
 use mathlib.Core.Path.{sym, _∙_}
 use borrow.Author.Needs.{needs}

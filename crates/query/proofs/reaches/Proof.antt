@@ -1,4 +1,4 @@
--- `query::reaches` meets its contract: x is compared with a bound that is given, and a bound that is not given refuses nothing.
+-- `reaches` meets its contract: x is compared with a bound that is given, and a bound that is not given refuses nothing.
 -- Assumes nothing.
 use mathlib.Core.Path.{sym, _∙_}
 use mathlib.Core.Logic.{⊎-elim}

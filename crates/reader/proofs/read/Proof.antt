@@ -1,4 +1,4 @@
--- `reader::read` meets its contract: the header, then the blocks, over a list that was cleared. Assumes nothing.
+-- `read` meets its contract: the header, then the blocks, over a list that was cleared. Assumes nothing.
 use mathlib.Core.Path.{sym, ap, _∙_}
 use borrow.Author.Needs.{needs}
 use denote.Ref.{now}
@@ -6,7 +6,7 @@ use lib.ListN.{length}
 use Rattle.header.specs.Header.{headerSaid}
 use Rattle.header.proofs.HeaderLaws.{blocks-within}
 use Rattle.query.specs.Query.{queryOf}
-use Rattle.reader.proofs.ReadLaws.{told-refusal, header-refuses, still-zeros, read-behind}
+use Rattle.reader.proofs.ReadLaws.{told-refusal, header-refuses, still-zeros, read-after}
 use Rattle.reader.proofs.read.Statement.{statement}
 use Rattle.reader.proofs.read.Tie as tie
 
@@ -62,7 +62,7 @@ returns-2 c =
     let read = c .before .before .before .before .before .before .before .read in
     let made2 = c .before .before .before .before .before .made2 in
     let read-blocks = c .before .before .read-blocks in
-    read-behind (now (args .results)) _ (clear .ensures) (now (args .file)) (queryOf (now (args .start)) (args .stop-given) (now
+    read-after (now (args .results)) _ (clear .ensures) (now (args .file)) (queryOf (now (args .start)) (args .stop-given) (now
     (args .stop)) (now (args .prefix))) _ (sym (read .ensures) ∙ ap headerSaid (made2 .given .1)) _ _ (read-blocks .ensures)
 
 pub read-spec : {M : Type 1} → statement M

@@ -1,7 +1,8 @@
--- `reader::read_blocks` meets its contract: each way out is one law of `ReadLaws`. Assumes nothing.
+-- `read_blocks` meets its contract: each way out is one law of `ReadLaws`. Assumes nothing.
 use mathlib.Core.Path.{sym, ap, _∙_}
 use native.Mathlib.Omega.{arith}
 use borrow.Author.Needs.{needs}
+use borrow.Author.Tests.{not-true, not-false}
 use denote.Ref.{now}
 use lib.ListN.{length}
 use Rattle.header.specs.Header.{blocksFrom}
@@ -33,11 +34,11 @@ enum-told c = search needs
 collect-requires : tie.Need-collect-requires
 collect-requires c κs = search needs
 
-clear-requires : tie.Need-clear-requires
-clear-requires c κs = search needs
+has-room-requires : tie.Need-has-room-requires
+has-room-requires c κs = search needs
 
-refusal-requires-2 : tie.Need-refusal-requires-2
-refusal-requires-2 c κs = search needs
+no-room-requires : tie.Need-no-room-requires
+no-room-requires c κs = search needs
 
 same-length : tie.Need-same-length
 same-length c = search needs
@@ -45,26 +46,27 @@ same-length c = search needs
 returns : tie.Need-returns
 unfolding surveySaid blocksFrom
 returns c =
-    let args = c .before .before .before .before .before .before .before .before .before .before .before .before .before .before .before .before .before .before .args in
-    let pre = c .before .before .before .before .before .before .before .before .before .before .before .before .before .before .before .before .before .before .pre in
-    let collect = c .before .before .before .before .before .before .before .before .collect in
-    let the-survey = c .before .before .before .before .before .before .before .before .before .before .before .before .survey in
-    let enum-told = c .before .before .before .before .before .before .before .before .before .before .enum-told in
-    let if1 = c .before .before .before .before .before .if1 in
-    let clear = c .before .before .before .clear in
+    let args = c .before .before .before .before .before .before .before .before .before .before .before .before .before .before .before .before .before .before .before .args in
+    let pre = c .before .before .before .before .before .before .before .before .before .before .before .before .before .before .before .before .before .before .before .pre in
+    let collect = c .before .before .before .before .before .before .before .before .before .collect in
+    let survey = c .before .before .before .before .before .before .before .before .before .before .before .before .before .survey in
+    let enum-told = c .before .before .before .before .before .before .before .before .before .before .before .enum-told in
+    let has-room = c .before .before .before .before .before .has-room in
+    let if1 = c .before .before .before .before .if1 in
+    let no-room = c .before .before .no-room in
     read-overflow (now (args .file)) (queryOf (now (args .start)) (args .stop-given) (now (args .stop)) (now (args .prefix))) (length (now
-    (args .results))) (args .h) (now (args .results)) (pre .1) _ _ (collect .ensures) _ (sym (the-survey .ensures) ∙ ap surveySaid
-    (enum-told .given .1)) (if1 .taken) _ _ (c .refusal2 .ensures) (clear .ensures)
+    (args .results))) (args .h) (now (args .results)) (pre .1) _ _ (collect .ensures) _ (sym (survey .ensures) ∙ ap surveySaid
+    (enum-told .given .1)) (sym (has-room .ensures) ∙ not-true _ (if1 .taken)) _ _ (no-room .ensures .0) (no-room .ensures .1)
 
 returns-2 : tie.Need-returns-2
 unfolding surveySaid blocksFrom
 returns-2 c =
     let args = c .before .before .before .before .before .before .before .before .before .before .args in
-    let the-survey = c .before .before .before .before .survey in
+    let survey = c .before .before .before .before .survey in
     let stage = c .before .before .stage in
     let pre = c .before .before .before .before .before .before .before .before .before .before .pre in
     read-refused (now (args .file)) (queryOf (now (args .start)) (args .stop-given) (now (args .stop)) (now (args .prefix))) (length (now
-    (args .results))) (args .h) _ _ (sym (the-survey .ensures) ∙ ap surveySaid (stage .given .1)) _ _ (c .refusal .ensures) (pre .1)
+    (args .results))) (args .h) _ _ (sym (survey .ensures) ∙ ap surveySaid (stage .given .1)) _ _ (c .refusal .ensures) (pre .1)
 
 same-length-2 : tie.Need-same-length-2
 same-length-2 c = search needs
@@ -72,14 +74,14 @@ same-length-2 c = search needs
 returns-3 : tie.Need-returns-3
 unfolding surveySaid blocksFrom
 returns-3 c =
-    let args = c .before .before .before .before .before .before .before .before .before .before .before .before .before .args in
-    let pre = c .before .before .before .before .before .before .before .before .before .before .before .before .before .pre in
-    let collect = c .before .before .before .collect in
-    let the-survey = c .before .before .before .before .before .before .before .survey in
-    let enum-told = c .before .before .before .before .before .enum-told in
+    let args = c .before .before .before .before .before .before .before .before .before .before .before .before .before .before .before .args in
+    let pre = c .before .before .before .before .before .before .before .before .before .before .before .before .before .before .before .pre in
+    let collect = c .before .before .before .before .before .collect in
+    let survey = c .before .before .before .before .before .before .before .before .before .survey in
+    let enum-told = c .before .before .before .before .before .before .before .enum-told in
     read-fit (now (args .file)) (queryOf (now (args .start)) (args .stop-given) (now (args .stop)) (now (args .prefix))) (length (now
-    (args .results))) (args .h) (now (args .results)) (pre .1) _ _ (collect .ensures) _ (sym (the-survey .ensures) ∙ ap surveySaid
-    (enum-told .given .1)) (c .if1 .left)
+    (args .results))) (args .h) (now (args .results)) (pre .1) _ _ (collect .ensures) _ (sym (survey .ensures) ∙ ap surveySaid
+    (enum-told .given .1)) (sym (c .before .has-room .ensures) ∙ not-false _ (c .if1 .left))
 
 pub read-blocks-spec : {M : Type 1} → statement M
 read-blocks-spec =
@@ -91,8 +93,8 @@ read-blocks-spec =
     refusal-requires
     enum-told
     collect-requires
-    clear-requires
-    refusal-requires-2
+    has-room-requires
+    no-room-requires
     same-length
     returns
     returns-2

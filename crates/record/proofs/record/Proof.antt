@@ -1,23 +1,20 @@
--- `record::record` meets its contract: a part that lies within is lent, or the empty part at 0. Assumes nothing.
-use mathlib.Core.Path.{sym, _∙_}
+-- `record` meets its contract: the part lies within the file, and is lent. Assumes nothing.
 use native.Mathlib.Omega.{arith}
 use borrow.Author.Needs.{needs}
 use denote.Ref.{now, ptr}
-use Rattle.record.proofs.RecordLaws.{within⁻¹, lent-within, record-outside, place-within, place-outside}
+use Rattle.record.proofs.RecordLaws.{part-fits, part-lent, part-place}
 use Rattle.record.proofs.record.Statement.{statement}
 use Rattle.record.proofs.record.Tie as tie
 
-is-within-requires : tie.Need-is-within-requires
-is-within-requires c κs = search needs
+part-of-requires : tie.Need-part-of-requires
+part-of-requires c κs = search needs
 
 add-end : tie.Need-add-end
 add-end c =
     let args = c .before .before .before .args in
     let good = c .before .before .before .good in
-    let h = within⁻¹ (now (args .file)) (args .offset) (args .length) (sym (c .before .is-within .ensures) ∙ c .if1 .taken) in omega (
-      arith,
-      good,
-    )
+    let fits = part-fits (now (args .file)) (args .offset) (args .length) _ (c .before .part-of .ensures) in
+    omega (arith, good)
 
 sub-result : tie.Need-sub-result
 sub-result c = search needs
@@ -28,42 +25,18 @@ part-result-start c = search needs
 part-result-end : tie.Need-part-result-end
 part-result-end c =
     let args = c .before .before .before .args in
-    let good = c .before .before .before .good in
-    let h = within⁻¹ (now (args .file)) (args .offset) (args .length) (sym (c .before .is-within .ensures) ∙ c .if1 .taken) in omega (
-      arith,
-      good,
-    )
+    let fits = part-fits (now (args .file)) (args .offset) (args .length) _ (c .before .part-of .ensures) in
+    omega arith
 
 returns : tie.Need-returns
 returns c =
     let args = c .before .before .before .before .args in
-    let is-within = c .before .before .is-within in (
-      lent-within (now (args .file)) (args .offset) (args .length) (sym (is-within .ensures) ∙ c .before .if1 .taken),
-      place-within (now
-          (args .file)) (args .offset) (args .length) (ptr (args .file)) (sym (is-within .ensures) ∙ c .before .if1 .taken),
-    )
-
-slice-aggregate-result : tie.Need-slice-aggregate-result
-slice-aggregate-result c = search needs
-
-returns-2 : tie.Need-returns-2
-returns-2 c =
-    let args = c .before .before .before .before .args in
-    let is-within = c .before .before .is-within in (
-      sym (record-outside (now (args .file)) (args .offset) (args .length) (sym (is-within .ensures) ∙ c .before .if1 .left)),
-      place-outside
-          (now (args .file)) (args .offset) (args .length) (ptr (args .file)) (sym (is-within .ensures) ∙ c .before .if1 .left),
+    let part-of = c .before .before .part-of in (
+      part-lent (now (args .file)) (args .offset) (args .length) _ (part-of .ensures),
+      part-place (now (args .file)) (args .offset) (args .length) _ (part-of .ensures) (ptr (args .file)),
     )
 
 pub record-spec : {M : Type 1} → statement M
 record-spec =
     tie.close
-    (tie.spec
-    is-within-requires
-    add-end
-    sub-result
-    part-result-start
-    part-result-end
-    returns
-    slice-aggregate-result
-    returns-2)
+    (tie.spec part-of-requires add-end sub-result part-result-start part-result-end returns)

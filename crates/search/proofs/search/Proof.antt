@@ -1,4 +1,4 @@
--- `search::search` meets its contract: over lists that were cleared, and that are cleared again after a refusal.
+-- `search` meets its contract: over lists that were cleared, and that are cleared again after a refusal.
 -- Assumes nothing.
 use denote.Ref.{now}
 use borrow.Author.Needs.{needs}

@@ -1,4 +1,4 @@
--- `search::search_file` meets its contract: the header, then the walk from the root that it names.
+-- `search_file` meets its contract: the header, then the walk from the root that it names.
 -- Assumes nothing.
 use denote.Ref.{now}
 use borrow.Author.Needs.{needs}

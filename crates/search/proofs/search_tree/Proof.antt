@@ -1,4 +1,4 @@
--- `search::search_tree` meets its contract: the root, and the walk down from it.
+-- `search_tree` meets its contract: the root, and the walk down from it.
 -- Assumes nothing.
 use denote.Ref.{now}
 use borrow.Author.Needs.{needs}

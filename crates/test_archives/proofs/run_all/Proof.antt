@@ -1,4 +1,4 @@
--- `test_archives::run_all` is safe and ends: the next case begins behind this one, so fewer bytes are left. Assumes nothing.
+-- `test_archives::run_all` is safe and ends: the next case begins after this one, so fewer bytes are left. Assumes nothing.
 use Prim.Native.Nat.{_-_}
 use mathlib.Core.Path.{subst}
 use native.Mathlib.Omega.{arith}

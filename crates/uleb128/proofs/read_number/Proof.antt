@@ -1,4 +1,4 @@
--- `uleb128::read_number` meets its contract. The loop's invariant: the n bytes passed are from 80 hex up, and value and scale are
+-- `read_number` meets its contract. The loop's invariant: the n bytes passed are from 80 hex up, and value and scale are
 -- what they stand for. Assumes nothing.
 use mathlib.Core.Path.{sym}
 use mathlib.Core.Logic.{⊎-elim, inl, inr}

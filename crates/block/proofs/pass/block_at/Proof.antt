@@ -1,4 +1,4 @@
--- `blockSaid::pass::block_at` meets its contract: the frameSaid, then the blockSaid in it. Assumes nothing.
+-- `block_at` meets its contract: the frame, then the block in it. Assumes nothing.
 use mathlib.Core.Path.{sym, ap, _∙_}
 use Prim.Native.Nat.{ℕ}
 use borrow.Author.Needs.{needs}

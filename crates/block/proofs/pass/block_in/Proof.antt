@@ -1,4 +1,4 @@
--- `blockSaid::pass::block_in` meets its contract: the level says which tests a payloadSaid has. Assumes nothing.
+-- `block_in` meets its contract: the level says which tests a payload has. Assumes nothing.
 use mathlib.Core.Path.{sym, ap, _∙_}
 use borrow.Author.Needs.{needs}
 use denote.Ref.{now}

@@ -1,4 +1,4 @@
--- `block::pass::found_root` meets its contract: each return is one case of `isRoot`. Assumes nothing.
+-- `found_root` meets its contract: each return is one case of `isRoot`. Assumes nothing.
 use Rattle.block.proofs.SurveyLaws.{found-before, found-here, root-elsewhere, root-other-size, root-data, root-index}
 use Rattle.block.proofs.pass.found_root.Statement.{statement}
 use Rattle.block.proofs.pass.found_root.Tie as tie

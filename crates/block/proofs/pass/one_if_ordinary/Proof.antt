@@ -1,4 +1,4 @@
--- `block::pass::one_if_ordinary` meets its contract. Assumes nothing.
+-- `one_if_ordinary` meets its contract. Assumes nothing.
 use mathlib.Core.Path.{sym, ap}
 use Prim.Native.Nat.{ℕ}
 use mathlib.Core.Bool.{Bool, cond}

@@ -1,4 +1,4 @@
--- `blockSaid::pass::surveySaid` meets its contract. The loop's invariant is `Surveyed`: the blocks seen, and what they add up to. Assumes
+-- `survey` meets its contract. The loop's invariant is `Surveyed`: the blocks seen, and what they add up to. Assumes
 -- nothing.
 use mathlib.Core.Path.{sym, ap, _∙_}
 use Prim.Native.Nat.{_-_}

@@ -1,4 +1,4 @@
--- `checker::names::count_names` meets its contract. The loop's invariant is `Counting`: the blocks so far are named rightly.
+-- `count_names` meets its contract. The loop's invariant is `Counting`: the blocks so far are named rightly.
 -- Assumes nothing.
 use mathlib.Core.Path.{sym, _∙_}
 use Prim.Native.Nat.{_-_}

@@ -1,4 +1,4 @@
--- `checker::names::mark` meets its contract. Assumes nothing.
+-- `mark` meets its contract. Assumes nothing.
 use borrow.Author.Needs.{needs}
 use denote.Ref.{now}
 use Rattle.check_names.proofs.WordLaws.{mark-more, mark-same}

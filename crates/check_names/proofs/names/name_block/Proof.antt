@@ -1,4 +1,4 @@
--- `checker::names::name_block` meets its contract: the frameSaid at a start is that of the block there. Assumes nothing.
+-- `name_block` meets its contract: the frame at a start is that of the block there. Assumes nothing.
 use mathlib.Core.Path.{sym, ap, _∙_}
 use native.Mathlib.Omega.{arith}
 use borrow.Author.Needs.{needs}

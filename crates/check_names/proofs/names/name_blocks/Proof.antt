@@ -1,4 +1,4 @@
--- `checker::names::name_blocks` meets its contract. The loop's invariant is `Passing`: the blocks so far break no rule, and their entries
+-- `name_blocks` meets its contract. The loop's invariant is `Passing`: the blocks so far break no rule, and their entries
 -- are seen. Assumes nothing.
 use mathlib.Core.Path.{_∙_}
 use Prim.Native.Nat.{_-_}

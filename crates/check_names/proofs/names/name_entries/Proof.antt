@@ -1,4 +1,4 @@
--- `checker::names::name_entries` meets its contract. The loop's invariant is `Marked`: the entries so far name fitting blocks and are seen.
+-- `name_entries` meets its contract. The loop's invariant is `Marked`: the entries so far name fitting blocks and are seen.
 -- Assumes nothing.
 use mathlib.Core.Path.{sym, ap, _∙_}
 use Prim.Native.Nat.{_-_}

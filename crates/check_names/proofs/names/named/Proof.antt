@@ -1,4 +1,4 @@
--- `checker::names::named` meets its contract: the search finds the block, and its frameSaid tells size and level. Assumes nothing.
+-- `named` meets its contract: the search finds the block, and its frame tells size and level. Assumes nothing.
 use mathlib.Core.Path.{sym, ap, _∙_}
 use borrow.Author.Needs.{needs}
 use denote.Ref.{now}

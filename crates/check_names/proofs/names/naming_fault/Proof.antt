@@ -1,4 +1,4 @@
--- `checker::names::naming_fault` meets its contract: the starts are filled in, then 19, then 20. Assumes nothing.
+-- `naming_fault` meets its contract: the starts are filled in, then 19, then 20. Assumes nothing.
 use native.Mathlib.Omega.{arith}
 use borrow.Author.Needs.{needs}
 use denote.Ref.{now}

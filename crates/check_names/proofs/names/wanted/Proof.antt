@@ -1,4 +1,4 @@
--- `checker::names::wanted` meets its contract. Assumes nothing.
+-- `wanted` meets its contract. Assumes nothing.
 use borrow.Author.Tests.{eq-eqb, ne-eqb}
 use Rattle.check_names.proofs.names.wanted.Statement.{statement}
 use Rattle.check_names.proofs.names.wanted.Tie as tie

@@ -1,4 +1,4 @@
--- `checker::starts::fill` meets its contract. The loop's invariant is `Hopped`: the starts of the blocks so far are stored, where there is
+-- `fill` meets its contract. The loop's invariant is `Hopped`: the starts of the blocks so far are stored, where there is
 -- room for all. Assumes nothing.
 use mathlib.Core.Path.{sym, ap, _∙_}
 use Prim.Native.Nat.{_-_}

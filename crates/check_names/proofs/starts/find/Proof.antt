@@ -1,4 +1,4 @@
--- `checker::starts::find` meets its contract. The loop's invariant is `Bracket`: the target can stand only from `low` up to `high`.
+-- `find` meets its contract. The loop's invariant is `Bracket`: the target can stand only from `low` up to `high`.
 -- Assumes nothing.
 use Prim.Native.Nat.{_-_}
 use native.Mathlib.Omega.{arith}

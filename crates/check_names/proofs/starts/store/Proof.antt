@@ -1,4 +1,4 @@
--- `checker::starts::store` meets its contract. Assumes nothing.
+-- `store` meets its contract. Assumes nothing.
 use mathlib.Core.Path.{sym}
 use borrow.Author.Needs.{needs}
 use Rattle.check_names.proofs.HopLaws.{stored-in, stored-out}

@@ -1,4 +1,4 @@
--- `checker::ascent::ascend` meets its contract: the cycle of one function, whose measure is the level. The loop's invariant: going on
+-- `ascend` meets its contract: the cycle of one function, whose measure is the level. The loop's invariant: going on
 -- from here gives what the whole walk gives. Assumes nothing.
 use mathlib.Core.Path.{sym, ap, _∙_}
 use Prim.Native.Nat.{ℕ, _-_, _<_}

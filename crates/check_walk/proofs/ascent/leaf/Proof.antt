@@ -1,4 +1,4 @@
--- `checker::ascent::leaf` meets its contract: its two tests are the definition's. Assumes nothing.
+-- `leaf` meets its contract: its two tests are the definition's. Assumes nothing.
 use mathlib.Core.Path.{sym}
 use borrow.Author.Needs.{needs}
 use Rattle.check_walk.specs.Ascent.{ascentSaid}

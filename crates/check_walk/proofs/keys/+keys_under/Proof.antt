@@ -1,4 +1,4 @@
--- `checker::keys::keys_under` meets its contract: the cycle of one function, whose measure is the level. The loop's invariant: going on
+-- `keys_under` meets its contract: the cycle of one function, whose measure is the level. The loop's invariant: going on
 -- from here gives what the whole walk gives, and the span lies within the file. Assumes nothing.
 use mathlib.Core.Path.{sym, ap, _∙_}
 use Prim.Native.Nat.{ℕ, _-_, _<_}

@@ -1,4 +1,4 @@
--- `checker::keys::at_most` meets its contract: the parts that are lent are the byte strings. Assumes nothing.
+-- `at_most` meets its contract: the parts that are lent are the byte strings. Assumes nothing.
 use borrow.Author.Needs.{needs}
 use denote.Ref.{now}
 use Rattle.check_walk.proofs.KeyLaws.{lent-at-most}

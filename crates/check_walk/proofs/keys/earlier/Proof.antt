@@ -1,4 +1,4 @@
--- `checker::keys::earlier` meets its contract by its two tests. Assumes nothing.
+-- `earlier` meets its contract by its two tests. Assumes nothing.
 use Rattle.check_walk.proofs.KeyLaws.{earlier-none, earlier-less, earlier-kept}
 use Rattle.check_walk.proofs.keys.earlier.Statement.{statement}
 use Rattle.check_walk.proofs.keys.earlier.Tie as tie

@@ -1,4 +1,4 @@
--- `checker::keys::entry_keys` meets its contract by the test of the key. Assumes nothing.
+-- `entry_keys` meets its contract by the test of the key. Assumes nothing.
 use mathlib.Core.Path.{sym, _∙_}
 use borrow.Author.Needs.{needs}
 use denote.Ref.{now}

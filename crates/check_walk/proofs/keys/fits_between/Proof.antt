@@ -1,4 +1,4 @@
--- `checker::keys::fits_between` meets its contract: both tests, the second where the first holds. Assumes nothing.
+-- `fits_between` meets its contract: both tests, the second where the first holds. Assumes nothing.
 use mathlib.Core.Path.{sym, _∙_}
 use Rattle.check_walk.specs.Keys.{Within, fitsBetween}
 use Rattle.check_walk.proofs.KeyLaws.{both-true, both-false}

@@ -1,4 +1,4 @@
--- `checker::keys::joined` meets its contract by its test. Assumes nothing.
+-- `joined` meets its contract by its test. Assumes nothing.
 use mathlib.Core.Path.{sym}
 use Rattle.check_walk.proofs.KeyLaws.{joined-none, joined-some}
 use Rattle.check_walk.proofs.keys.joined.Statement.{statement}

@@ -1,4 +1,4 @@
--- `checker::keys::leaf_keys` meets its contract by its two tests. Assumes nothing.
+-- `leaf_keys` meets its contract by its two tests. Assumes nothing.
 use borrow.Author.Needs.{needs}
 use denote.Ref.{now}
 use Rattle.check_walk.specs.Keys.{Within}

@@ -1,4 +1,4 @@
--- `checker::keys::keysEntering` meets its contract: the definition, field by field. Assumes nothing.
+-- `keysEntering` meets its contract: the definition, field by field. Assumes nothing.
 use mathlib.Core.Path.{refl}
 use Rattle.check_walk.specs.Keys.{nonePiece, keysEntering}
 use Rattle.check_walk.proofs.keys.opened.Statement.{statement}

@@ -1,4 +1,4 @@
--- `checker::keys::span_at` meets its contract. The loop's invariant: going on from here gives what all records give. Assumes nothing.
+-- `span_at` meets its contract. The loop's invariant: going on from here gives what all records give. Assumes nothing.
 use mathlib.Core.Path.{sym, ap, _∙_}
 use native.Mathlib.Omega.{arith}
 use borrow.Author.Needs.{needs}

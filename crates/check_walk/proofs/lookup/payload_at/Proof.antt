@@ -1,4 +1,4 @@
--- `checker::lookup::payload_at` meets its contract: what the frameSaid says, or nothing. Assumes nothing.
+-- `payload_at` meets its contract: what the frame says, or nothing. Assumes nothing.
 use mathlib.Core.Path.{sym, ap, _∙_}
 use native.Mathlib.Omega.{arith}
 use borrow.Author.Needs.{needs}

@@ -1,4 +1,4 @@
--- `checker::walk::behind_fault` meets its contract: the tests in the order of the refusals. Assumes nothing.
+-- `behind_fault` meets its contract: the tests in the order of the refusals. Assumes nothing.
 use mathlib.Core.Path.{sym, ap, _∙_}
 use native.Mathlib.Omega.{arith}
 use borrow.Author.Needs.{needs}

@@ -1,4 +1,4 @@
--- `checker::walk::level_at` meets its contract: the frameSaid's level, or 0. Assumes nothing.
+-- `level_at` meets its contract: the frame's level, or 0. Assumes nothing.
 use mathlib.Core.Path.{sym, ap, _∙_}
 use borrow.Author.Needs.{needs}
 use Rattle.framing.specs.Answers.{frameSaid}

@@ -1,4 +1,4 @@
--- `checker::walk::walk_fault` meets its contract: 22 by its walk, then what stands behind it. Assumes nothing.
+-- `walk_fault` meets its contract: 22 by its walk, then what stands behind it. Assumes nothing.
 use mathlib.Core.Path.{sym, ap, _∙_}
 use borrow.Author.Needs.{needs}
 use denote.Ref.{now}

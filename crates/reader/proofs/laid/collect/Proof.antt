@@ -1,4 +1,4 @@
--- `reader::laid::collect` meets its contract. The loop's invariant is `FramesCollected`: going on from here gives what the whole gives.
+-- `collect` meets its contract. The loop's invariant is `FramesCollected`: going on from here gives what the whole gives.
 -- Assumes nothing.
 use mathlib.Core.Path.{sym, ap, _∙_}
 use Prim.Native.Nat.{_-_, _^_}
@@ -107,10 +107,9 @@ loop-again c =
     let loop-test = c .before .before .before .before .before .before .before .before .before .before .before .before .before .loop-test in
     let frame-at = c .before .before .before .before .before .before .before .before .before .before .before .before .frame-at in
     let the-frame = c .before .before .before .before .before .before .before .before .before .before .frame in
-    let if1 = c .before .before .before .before .before .if1 in
     let collect-records = c .before .before .collect-records in
     frames-data _ _ _ _ _ _ (loop .inv) (loop-test .taken) _ (sym (frame-at .ensures) ∙ ap (frameSaid (loop .at)) (the-frame .given .1))
-    (if1 .taken) _ (collect-records .ensures _)
+    (omega arith) _ (collect-records .ensures _)
 
 loop-less-2 : tie.Need-loop-less-2 Inv-loop μ-loop
 unfolding frameSaid
@@ -130,7 +129,7 @@ loop-again-2 c =
     let frame-at = c .before .before .before .before .before .before .before .frame-at in
     let the-frame = c .before .before .before .before .before .frame in
     frames-other _ _ _ _ _ _ (loop .inv) (loop-test .taken) _ (sym (frame-at .ensures) ∙ ap (frameSaid (loop .at)) (the-frame .given .1))
-    (c .if1 .left)
+    (λ z. omega arith)
 
 same-length-2 : tie.Need-same-length-2 Inv-loop μ-loop
 same-length-2 c = c .before .loop .inv .long

@@ -1,4 +1,4 @@
--- `search::bound::admits` meets its contract: the opening test on the parts that it lends.
+-- `admits` meets its contract: the opening test on the parts that it lends.
 -- Assumes nothing.
 use native.Mathlib.Omega.{arith}
 use borrow.Author.Needs.{needs}

@@ -1,4 +1,4 @@
--- `search::bound::next_key` meets its contract: an entry begins with its key.
+-- `next_key` meets its contract: an entry begins with its key.
 -- Assumes nothing.
 use mathlib.Core.Path.{sym, ap, _∙_}
 use borrow.Author.Needs.{needs}

@@ -1,4 +1,4 @@
--- `search::opening::fitting_block` meets its contract: size and level, then the blockSaid in the frame.
+-- `fitting_block` meets its contract: size and level, then the block in the frame.
 -- Assumes nothing.
 use mathlib.Core.Path.{sym, ap, _∙_}
 use borrow.Author.Needs.{needs}

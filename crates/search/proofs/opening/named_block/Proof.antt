@@ -1,4 +1,4 @@
--- `search::opening::named_block` meets its contract: the offset, the frameSaid there, then the block in it.
+-- `named_block` meets its contract: the offset, the frame there, then the block in it.
 -- Assumes nothing.
 use mathlib.Core.Path.{sym, ap, _∙_}
 use borrow.Author.Needs.{needs}

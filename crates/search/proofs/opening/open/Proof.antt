@@ -1,4 +1,4 @@
--- `search::opening::open` meets its contract: a place on the opened list, then the block's tests.
+-- `open` meets its contract: a place on the opened list, then the block's tests.
 -- Assumes nothing.
 use borrow.Author.Needs.{needs}
 use borrow.Author.Tests.{not-true, not-false}

@@ -1,4 +1,4 @@
--- `search::walk::walk` meets its contract: the cycle of one function, whose measure is the level. The loop's invariant: going on from
+-- `walk` meets its contract: the cycle of one function, whose measure is the level. The loop's invariant: going on from
 -- here gives what going through all entries gives. Assumes nothing.
 use mathlib.Core.Path.{sym, ap, _∙_}
 use Prim.Native.Nat.{_-_}

@@ -1,4 +1,4 @@
--- `search::walk::find` meets its contract: the matching records behind what was found, and 27 where there is no room.
+-- `find` meets its contract: the matching records behind what was found, and 27 where there is no room.
 -- Assumes nothing.
 use mathlib.Core.Path.{sym}
 use native.Mathlib.Omega.{arith}

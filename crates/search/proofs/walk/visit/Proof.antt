@@ -1,4 +1,4 @@
--- `search::walk::visit` meets its contract: the opening test, then the block.
+-- `visit` meets its contract: the opening test, then the block.
 -- Assumes nothing.
 use borrow.Author.Needs.{needs}
 use borrow.Author.Tests.{not-true, not-false}

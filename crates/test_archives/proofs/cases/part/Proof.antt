@@ -1,4 +1,4 @@
--- `test_archives::cases::part` meets its contract: each return is one case of `bytesOf`. Assumes nothing.
+-- `part` meets its contract: each return is one case of `bytesOf`. Assumes nothing.
 use borrow.Author.Needs.{needs}
 use denote.Ref.{now}
 use Rattle.test_archives.proofs.SpannedLaws.{spanned-turned, spanned-past, spanned-within}
