@@ -1,150 +1,200 @@
--- Laws of the visit of an entry's block: passed, refused or opened, and what is known of an opened block.
+-- Laws of the block that an entry names: reading an entry and the key of the next, and the opening test on parts of the file.
 -- Assumes nothing.
-use mathlib.Core.Path.{_≡_, refl, sym, _∙_, subst}
-use mathlib.Core.Bool.{Bool, true, false, _&&_, cond}
-use mathlib.Core.List.{List, []}
-use mathlib.Core.Option.{Option, none, some}
-use Prim.Native.Nat.{ℕ, _-_, _≤_, _<_}
+use mathlib.Core.Path.{_≡_, refl, sym, ap, ap₂, _∙_, subst}
+use mathlib.Core.Bool.{Bool, true}
+use mathlib.Core.List.{List, [], _∷_}
+use Prim.Native.Nat.{ℕ, _+_, _-_, _≤_, _<_}
 use native.Mathlib.Omega.{arith}
-use lib.Dec.{leb, ltb, eqb}
-use lib.ListN.{length, replicate, length-replicate}
-use borrow.Author.Tests.{leb-true, ltb-true, lt-ltb}
-use Rattle.output_list.specs.OutputList.{withNumber}
-use Rattle.output_list.proofs.OutputListLaws.{length-withNumber}
-use Rattle.outcome.specs.Outcome.{Outcome, answer, refused, _>>=_}
-use Rattle.outcome.proofs.OutcomeLaws.{answer-injective, refused-not-answer, kept, kept⁻¹, bind-answer, bind⁻¹, map-refused⁻¹}
-use Rattle.lists.proofs.ListsLaws.{both⁻¹}
+use lib.ListN.{length, take, drop}
+use lib.Seq.{length-take-le}
+use Rattle.outcome.specs.Outcome.{Outcome, answer, refused}
+use Rattle.outcome.proofs.OutcomeLaws.{answer-injective, refused-not-answer, bind⁻¹}
+use Rattle.items.specs.Items.{Step, itemsFrom}
+use Rattle.items.proofs.ItemsLaws.{Row, row-end, row-more, items⇒row, row⇒items, items-end}
+use Rattle.part.specs.declared.Part.{Part}
+use Rattle.part.specs.Part.{part}
+use Rattle.part.proofs.PartLaws.{part-take, lent-part}
 use Rattle.framing.specs.declared.Frame.{Frame}
-use Rattle.framing.specs.Frame.{soundFrameAt}
-use Rattle.block.specs.Block.{Block, blockIn, blockAt}
-use Rattle.block.proofs.BlockLaws.{BlockRead, block⇒BlockRead, frame-bounds}
-use Rattle.query.specs.Query.{Query}
-use Rattle.search.specs.declared.walk.Child.{Child}
-use Rattle.search.specs.Search.{Walked, fittingBlock, namedBlock, openBlock}
-use Rattle.search.specs.Steps.{frameOf, admitted, visitOf, visitedList}
+use Rattle.payload.specs.Payload.{Text, Entry, textAt, entryAt, entriesAt}
+use Rattle.payload.specs.Answers.{textIn}
+use Rattle.payload.proofs.PayloadLaws.{text⇒Placed, entry⇒Entered}
+use Rattle.payload.proofs.ReadLaws.{entry⁻¹, payload⁻¹}
+use Rattle.block.specs.Block.{Block, blockIn}
+use Rattle.block.proofs.BlockLaws.{not-data-level, ordinary-level, block-index}
+use Rattle.query.specs.Query.{Query, given}
+use Rattle.query.specs.Opening.{mayMatch}
+use Rattle.search.specs.declared.opening.Named.{Named}
+use Rattle.search.specs.declared.child.Bound.{Bound}
+use Rattle.search.specs.declared.child.Child.{Child}
+use Rattle.search.specs.Search.{nextKey, childNamed}
+use Rattle.search.specs.Steps.{PartWithin, boundOf, admitted, entriesFrom, ChildWithin, IsChild}
 
--- ---- a block that was opened
+-- ---- the entries of an index block
 
--- so many blocks opened, and nothing found
-unfoldable pub opened : ℕ → Walked
-opened used = record { opened = replicate used 0; matches = [] }
+module _ (file : List ℕ) (f : Frame) where
+  abbrev entryIn : ℕ → Outcome (Step Entry)
+  entryIn = entryAt (f .start) (take (f .end) file)
 
-pub opened-many : (used : ℕ) → used ≡ length (opened used .opened)
-unfolding opened
-opened-many used = sym (length-replicate used 0)
+  -- one after another
+  abbrev Entries : ℕ → List Entry → Type 0
+  Entries at es = Row entryIn (f .end) at es
 
-module _ (file : List ℕ) (places from number place least most offset size : ℕ) where
-  -- what is known of a block with this frame, where `used` blocks were opened before
-  pub record IsOpened (used : ℕ) (f : Frame) : Type 0 where
-    pub block : Block
-    pub frame : block .frame ≡ f
-    pub fits : used < places
-    pub body : f .body < f .end
-    pub within : f .end ≤ length file
-    pub least-level : least ≤ f .level
-    pub most-level : f .level ≤ most
-    pub inside : blockIn file f ≡ answer block
-    pub again : (s : Walked) → used ≡ length (s .opened) → openBlock file places from number place least most offset size s ≡ answer block
+  forward : (at : ℕ) (x : Step Entry) → entryIn at ≡ answer x → at < x .next
+  forward at x e = entry⇒Entered (f .start) (take (f .end) file) at x e .forward
 
-  open-named : (s : Walked) → length (s .opened) < places → openBlock file places from number place least most offset size s ≡ namedBlock file from number place least most offset size
-  unfolding openBlock
-  open-named s h = kept (ltb (length (s .opened)) places) 26 0 _ (lt-ltb (length (s .opened)) places h)
+  in-row : (at : ℕ) (es : List Entry) → entriesFrom file f at ≡ answer es → Entries at es
+  unfolding entriesFrom
+  in-row at es e = items⇒row entryIn (f .end) forward (f .end - at) at es (omega arith) e
 
-  pub opened⇒IsOpened : (s : Walked) (b : Block) → openBlock file places from number place least most offset size s ≡ answer b → IsOpened (length (s .opened)) (b .frame)
-  unfolding openBlock namedBlock fittingBlock blockAt
-  opened⇒IsOpened s b e =
-      let room = kept⁻¹ (ltb (length (s .opened)) places) 26 0 _ b e in
-      let lies = kept⁻¹ (leb from offset && ltb offset (length file)) number place _ b (room .1) in
-      let framed = bind⁻¹ (soundFrameAt file offset) _ b (lies .1) in
-      let g = framed .0 in
-      let fit = kept⁻¹ (eqb (g .size) size && (leb least (g .level) && leb (g .level) most)) number place _ b (framed .2) in
-      let levels = both⁻¹ (leb least (g .level)) (leb (g .level) most) (both⁻¹ (eqb (g .size) size) _ (fit .0) .1) in
-      is g (ltb-true (length (s .opened)) places (room .0)) (framed .1) (leb-true least (g .level) (levels .0)) (leb-true (g .level) most (levels .1))
-      (block⇒BlockRead file offset b (bind-answer (soundFrameAt file offset) (blockIn file) g (framed .1) ∙ fit .1)) (room .1)
+  of-row : (at : ℕ) (es : List Entry) → Entries at es → entriesFrom file f at ≡ answer es
+  unfolding entriesFrom
+  of-row at es r = row⇒items entryIn (f .end) forward at es r (f .end - at) (omega arith)
+
+  -- none can be read: none is left
+  pub entries-none : (at number place : ℕ) → entryIn at ≡ refused number place → (es : List Entry) → entriesFrom file f at ≡ answer es → es ≡ []
+  entries-none at number place unread es e = go es (in-row at es e)
     where
-      is : (g : Frame) → length (s .opened) < places → soundFrameAt file offset ≡ answer g → least ≤ g .level → g .level ≤ most → BlockRead file offset b
-          → namedBlock file from number place least most offset size ≡ answer b → IsOpened (length (s .opened)) (b .frame)
-      is g fits sound low high read named =
-          let bounds = frame-bounds file offset (b .frame) (read .sound) in
-          let same : g ≡ b .frame = answer-injective g (b .frame) (sym sound ∙ read .sound) in
+      go : (l : List Entry) → Entries at l → l ≡ []
+      go l (row-end h) = refl
+      go l (row-more x more h read rest) = absurd (refused-not-answer x number place (sym unread ∙ read))
+
+  -- one was read: it is the first of those left
+  pub entries-next : (at : ℕ) (x : Step Entry) → at < f .end → entryIn at ≡ answer x → (es : List Entry) → entriesFrom file f at ≡ answer es
+      → (after : List Entry) × (es ≡ x .item ∷ after) × (entriesFrom file f (x .next) ≡ answer after)
+  entries-next at x before read es e = go es (in-row at es e)
+    where
+      go : (l : List Entry) → Entries at l → (after : List Entry) × (l ≡ x .item ∷ after) × (entriesFrom file f (x .next) ≡ answer after)
+      go l (row-end past) = absurd (omega arith)
+      go l (row-more y more h e r) =
+          let same = answer-injective y x (sym e ∙ read) in
+          (more, ap (λ (z : Step Entry). z .item ∷ more) same, subst (λ (z : Step Entry). entriesFrom file f (z .next) ≡ answer more) same (of-row (y .next) more r))
+
+  -- those of a block that passed its tests
+  module _ (b : Block) (e : blockIn file f ≡ answer b) (index : f .level ≡ 0 → ⊥) (ordinary : f .level ≤ 63) where
+    index-parts : (entriesAt (f .start) (take (f .end) file) (f .body + 1) ≡ answer (b .entries)) × (b .frame ≡ f)
+    index-parts =
+        let is = block-index file f (not-data-level (f .level) index) (ordinary-level (f .level) ordinary) in
+        let all = bind⁻¹ (entriesAt (f .start) (take (f .end) file) (f .body + 1)) _ b (sym is ∙ e) in
+        let same = answer-injective _ b (all .2) in
+        (all .1 ∙ ap (λ (c : Block). answer (c .entries)) same, sym (ap (λ (c : Block). c .frame) same))
+
+    pub block-frame : b .frame ≡ f
+    block-frame = index-parts .1
+
+    pub block-entries : f .end ≤ length file → entriesFrom file f (f .body + 1) ≡ answer (b .entries)
+    unfolding entriesAt entriesFrom
+    block-entries inside =
+        let s = take (f .end) file in
+        subst (λ (n : ℕ). itemsFrom entryIn n (n - (f .body + 1)) (f .body + 1) ≡ answer (b .entries)) (length-take-le (f .end) file inside)
+        (payload⁻¹ entryIn (λ x. x .key) 21 (f .start) (length s) (f .body + 1) (b .entries) (index-parts .0) .items)
+
+  -- ---- the key of the next entry
+
+  abbrev keyIn : ℕ → Outcome (Step Text)
+  keyIn = textAt (f .start) (take (f .end) file)
+
+  -- the byte string of a part
+  abbrev textOf : Part → Step Text
+  textOf p = record { item = textIn (take (f .end) file) (p .offset) (p .length); next = p .offset + p .length }
+
+  module _ (next : ℕ) (above : Bound) where
+    -- no entry is left: the upper bound of the index block
+    pub next-none : f .end ≤ next → (es : List Entry) → entriesFrom file f next ≡ answer es → boundOf file above ≡ nextKey es (boundOf file above)
+    unfolding entriesFrom nextKey
+    next-none h es e =
+        ap (λ (l : List Entry). nextKey l (boundOf file above)) (answer-injective [] es (sym (items-end entryIn (f .end) (f .end - next) next h) ∙ e))
+
+    -- its key can't be read: then there is none
+    pub next-refused : (number place : ℕ) → keyIn next ≡ refused number place
+        → (es : List Entry) → entriesFrom file f next ≡ answer es → boundOf file above ≡ nextKey es (boundOf file above)
+    unfolding nextKey
+    next-refused number place unread es e = go es (in-row next es e)
+      where
+        go : (l : List Entry) → Entries next l → boundOf file above ≡ nextKey l (boundOf file above)
+        go l (row-end past) = refl
+        go l (row-more x more before read rest) =
+            let r = entry⁻¹ (f .start) (take (f .end) file) next x read in
+            absurd (refused-not-answer (r .key) number place (sym unread ∙ r .key-read))
+
+    -- its key was read
+    module _ (key : Part) (inside : f .end ≤ length file) (read : keyIn next ≡ answer (textOf key)) where
+      key-ends : key .offset + key .length ≤ f .end
+      unfolding textIn
+      key-ends =
+          let within = text⇒Placed (f .start) (take (f .end) file) next _ read .within in
+          let long = length-take-le (f .end) file inside in
+          omega arith
+
+      pub next-within : PartWithin file key
+      unfolding PartWithin
+      next-within = let ends = key-ends in omega arith
+
+      pub next-found : next < f .end → (es : List Entry) → entriesFrom file f next ≡ answer es
+          → boundOf file (record { given = true; key = key }) ≡ nextKey es (boundOf file above)
+      unfolding nextKey boundOf given textIn
+      next-found before es e = go es (in-row next es e)
+        where
+          go : (l : List Entry) → Entries next l → boundOf file (record { given = true; key = key }) ≡ nextKey l (boundOf file above)
+          go l (row-end past) = absurd (omega arith)
+          go l (row-more x more h entered rest) =
+              let r = entry⁻¹ (f .start) (take (f .end) file) next x entered in
+              ap (given true)
+              (sym (part-take file (f .end) (key .offset) (key .length) key-ends)
+              ∙ ap (λ (k : Step Text). k .item .bytes) (answer-injective (textOf key) (r .key) (sym read ∙ r .key-read))
+              ∙ ap (λ (y : Step Entry). y .item .key .bytes) (r .entry-is))
+
+  -- ---- an entry that was read
+
+  module _ (at : ℕ) (above : Bound) (inside : f .end ≤ length file) (key : Part) (offset size next : ℕ)
+      (read : entryIn at ≡ answer (record { item = record { key = textIn (take (f .end) file) (key .offset) (key .length); offset = offset; size = size }; next = next }))
+      (keyed : key .offset + key .length ≤ length (take (f .end) file)) (upper : Bound) (named : Named) where
+    abbrev child : Child
+    child = record { key = key; upper = upper; named = named }
+
+    module _ (names : named ≡ childNamed (f .start) (f .level - 1) offset size) where
+      pub child-within : PartWithin file (upper .key) → ChildWithin file f at child next
+      unfolding PartWithin childNamed
+      child-within bounded =
+          let entered = entry⇒Entered (f .start) (take (f .end) file) at _ read in
+          let long = length-take-le (f .end) file inside in
+          let within = entered .within in
           record {
-            block = b;
-            frame = refl;
-            fits = fits;
-            body = bounds .0;
-            within = bounds .1;
-            least-level = subst (λ (h : Frame). least ≤ h .level) same low;
-            most-level = subst (λ (h : Frame). h .level ≤ most) same high;
-            inside = read .inside;
-            again = λ t many. open-named t (omega arith) ∙ named;
+            named = names ∙ ap (λ (n : Named). childNamed (f .start) (f .level - 1) (n .offset) (n .size)) (sym names);
+            key = omega arith;
+            upper = bounded;
+            forward = entered .forward;
+            before = omega arith;
           }
 
-  -- what an opening says
-  pub frame⇒IsOpened : (s : Walked) (f : Frame) → answer f ≡ frameOf (openBlock file places from number place least most offset size s) → IsOpened (length (s .opened)) f
-  unfolding frameOf
-  frame⇒IsOpened s f e =
-      let all = bind⁻¹ (openBlock file places from number place least most offset size s) (λ b. answer (b .frame)) f (sym e) in
-      subst (IsOpened (length (s .opened))) (answer-injective (all .0 .frame) f (all .2)) (opened⇒IsOpened s (all .0) (all .1))
+      pub is-child : ((after : List Entry) → entriesFrom file f next ≡ answer after → boundOf file upper ≡ nextKey after (boundOf file above))
+          → (es : List Entry) → entriesFrom file f at ≡ answer es → IsChild file f above child next es
+      unfolding textIn childNamed
+      is-child bounds es e =
+          let entered = entry⇒Entered (f .start) (take (f .end) file) at _ read in
+          let long = length-take-le (f .end) file inside in
+          let forward = entered .forward in
+          let within = entered .within in
+          let some = entries-next at _ (omega arith) read es e in
+          record {
+            entry = record { key = textIn (take (f .end) file) (key .offset) (key .length); offset = offset; size = size };
+            after = some .0;
+            split = some .1;
+            rest = some .2;
+            lower = sym (part-take file (f .end) (key .offset) (key .length) (omega arith));
+            upper = bounds (some .0) (some .2);
+            offset = ap (λ (n : Named). n .offset) names;
+            size = ap (λ (n : Named). n .size) names;
+          }
 
--- ---- a visit
+-- ---- the opening test
 
-some-injective : (f g : Frame) → _≡_ {A = Option Frame} (some f) (some g) → f ≡ g
-some-injective f g e = cc
-
-none-not-some : (f : Frame) → _≡_ {A = Option Frame} none (some f) → ⊥
-none-not-some f e = let z : _≡_ {A = ℕ} 0 1 = cc in omega arith
-
-module _ (file : List ℕ) (q : Query) (c : Child) (places from place level : ℕ) where
-  abbrev opening : Walked → Outcome Block
-  opening s = openBlock file places from 19 place level level (c .offset) (c .size) s
-
-  abbrev visited : Walked → Outcome (Option Frame)
-  visited s = opening s >>= λ b. answer (some (b .frame))
-
-  pub visit-passed⁻¹ : (s : Walked) → answer none ≡ visitOf file q c places from place level s → admitted file q c ≡ false
-  unfolding visitOf
-  visit-passed⁻¹ s e = go (admitted file q c) refl e
-    where
-      go : (b : Bool) → admitted file q c ≡ b → answer none ≡ cond b (visited s) (answer none) → admitted file q c ≡ false
-      go false p h = p
-      go true p h = absurd (let all = bind⁻¹ (opening s) (λ b. answer (some (b .frame))) none (sym h) in none-not-some (all .0 .frame) (answer-injective none (some (all .0 .frame)) (sym (all .2))))
-
-  pub visit-refused⁻¹ : (s : Walked) (n p : ℕ) → refused n p ≡ visitOf file q c places from place level s
-      → (admitted file q c ≡ true) × (openBlock file places from 19 place level level (c .offset) (c .size) s ≡ refused n p)
-  unfolding visitOf
-  visit-refused⁻¹ s n p e = go (admitted file q c) refl e
-    where
-      go : (b : Bool) → admitted file q c ≡ b → refused n p ≡ cond b (visited s) (answer none) → (admitted file q c ≡ true) × (openBlock file places from 19 place level level (c .offset) (c .size) s ≡ refused n p)
-      go true a h = (a, map-refused⁻¹ (opening s) (λ b. some (b .frame)) n p (sym h))
-      go false a h = absurd (refused-not-answer none n p h)
-
-  pub visit-opened⁻¹ : (s : Walked) (f : Frame) → answer (some f) ≡ visitOf file q c places from place level s
-      → (admitted file q c ≡ true) × IsOpened file places from 19 place level level (c .offset) (c .size) (length (s .opened)) f
-  unfolding visitOf
-  visit-opened⁻¹ s f e = go (admitted file q c) refl e
-    where
-      go : (b : Bool) → admitted file q c ≡ b → answer (some f) ≡ cond b (visited s) (answer none)
-          → (admitted file q c ≡ true) × IsOpened file places from 19 place level level (c .offset) (c .size) (length (s .opened)) f
-      go true a h =
-          let all = bind⁻¹ (opening s) (λ b. answer (some (b .frame))) (some f) (sym h) in
-          (a, subst (IsOpened file places from 19 place level level (c .offset) (c .size) (length (s .opened))) (some-injective (all .0 .frame) f (answer-injective _ _ (all .2))) (opened⇒IsOpened file places from 19 place level level (c .offset) (c .size) s (all .0) (all .1)))
-      go false a h = absurd (none-not-some f (answer-injective none (some f) (sym h)))
-
--- ---- the opened list behind it
-
-module _ (file : List ℕ) (q : Query) (c : Child) (list : List ℕ) (used : ℕ) where
-  pub length-visitedList : length (visitedList file q c list used) ≡ length list
-  unfolding visitedList
-  length-visitedList = go (admitted file q c)
-    where
-      go : (b : Bool) → length (cond b (withNumber list used (c .offset)) list) ≡ length list
-      go true = length-withNumber list used (c .offset)
-      go false = refl
-
-  pub visitedList-passed : admitted file q c ≡ false → visitedList file q c list used ≡ list
-  unfolding visitedList
-  visitedList-passed h = rw h
-
-  pub visitedList-admitted : admitted file q c ≡ true → visitedList file q c list used ≡ withNumber list used (c .offset)
-  unfolding visitedList
-  visitedList-admitted h = rw h
+-- on parts as code lends them
+pub admits-lent : (file : List ℕ) (q : Query) (c : Child) (r : Bool)
+    → r ≡ mayMatch (take (c .key .offset + c .key .length - c .key .offset) (drop (c .key .offset) file))
+    (given (c .upper .given) (take (c .upper .key .offset + c .upper .key .length - c .upper .key .offset) (drop (c .upper .key .offset) file))) q
+    → r ≡ admitted file q c
+unfolding admitted boundOf
+admits-lent file q c r e =
+    e
+    ∙ ap₂ (λ (lower bound : List ℕ). mayMatch lower (given (c .upper .given) bound) q)
+    (lent-part file (c .key .offset) (c .key .length)) (lent-part file (c .upper .key .offset) (c .upper .key .length))

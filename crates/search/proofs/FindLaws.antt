@@ -1,96 +1,119 @@
 -- Laws of putting the matching records of a data block on the result list.
 -- Assumes nothing.
-use mathlib.Core.Path.{_≡_, sym, ap, ap₂, _∙_}
-use mathlib.Core.Bool.{Bool, cond}
-use mathlib.Core.List.{List, [], _++_}
-use Prim.Native.Nat.{ℕ, _+_, _*_, _/_, _≤_, _<_}
+use mathlib.Core.Path.{_≡_, refl, sym, ap, ap₂, _∙_, subst}
+use mathlib.Core.Bool.{Bool, true, false}
+use mathlib.Core.List.{List, [], _∷_, _++_, append-nil}
+use Prim.Native.Nat.{ℕ, _+_, _≤_, _<_}
 use native.Mathlib.Omega.{arith}
+use lib.Dec.{leb}
 use lib.ListN.{length, take, length-append}
-use lib.Seq.{take-all}
+use lib.Seq.{append-snoc}
+use borrow.Author.Tests.{le-leb, leb-true}
 use Rattle.output_list.specs.OutputList.{padded}
-use Rattle.outcome.specs.Outcome.{answer}
+use Rattle.outcome.specs.Outcome.{answer, refused}
+use Rattle.outcome.proofs.OutcomeLaws.{kept, broken}
 use Rattle.framing.specs.declared.Frame.{Frame}
 use Rattle.payload.specs.Payload.{Text}
 use Rattle.block.specs.Block.{Block, blockIn}
-use Rattle.block.proofs.BlockLaws.{data-level}
 use Rattle.query.specs.Query.{Query}
-use Rattle.matching.specs.Matching.{matching}
-use Rattle.matching.specs.ResultList.{numbersOf}
-use Rattle.matching.specs.Collect.{Stored, putAll, recordsFrom, recordsInFrame}
-use Rattle.matching.proofs.StoreLaws.{holding, stored-behind, length-putAll}
+use Rattle.matching.specs.Matching.{matching, recordsFrom}
+use Rattle.matching.specs.ResultList.{roomFor, numbersOf, Stored, putAll}
+use Rattle.matching.proofs.ResultListLaws.{roomFor-mono, holding, stored-after, count-putAll, length-putAll}
 use Rattle.matching.proofs.FrameRecordsLaws.{inside⇒records}
 use Rattle.search.specs.declared.walk.Progress.{Progress}
 use Rattle.search.specs.declared.walk.WalkOutcome.the-variants.{Answer as Going, Refused as Stopped}
-use Rattle.search.specs.Search.{Walked, addMatches}
-use Rattle.search.specs.Steps.{HasRoom, StaysWithin, ListsHold, Reaches}
-use Rattle.search.proofs.AddLaws.{addMatches-all, addMatches-27}
+use Rattle.search.specs.Search.{Walked, withMatch, addMatches}
+use Rattle.search.specs.Steps.{StaysWithin, ListsHold, Reaches}
 
--- reading the payload of a data block again finds its records
-pub data-from : (file : List ℕ) (f : Frame) (b : Block) → blockIn file f ≡ answer b → f .level ≡ 0 → recordsFrom (f .start) (take (f .end) file) (f .body + 1) ≡ b .records
-unfolding recordsInFrame
-data-from file f b e level =
-    sym (ap (λ (d : Bool). cond d (recordsFrom (f .start) (take (f .end) file) (f .body + 1)) []) (data-level (f .level) level)) ∙ inside⇒records file f b e
+-- ---- adding matches to what was found
 
--- matches put on a list that holds what was found
-pub found-behind : (opened list : List ℕ) (p : Progress) (s : Walked) (ms : List Text) → 2 * p .found ≤ length list → ListsHold opened list p s
-    → putAll (record { count = p .found; list = list }) ms ≡ holding (length list) (s .matches ++ ms)
-found-behind opened list p s ms few h =
-    let matched = h .matched in
-    let all : take (length list / 2) (s .matches) ≡ s .matches = take-all (length list / 2) (s .matches) (omega arith) in
-    let held : record { count = p .found; list = list } ≡ holding (length list) (s .matches) =
-    ap₂ (λ (n : ℕ) (l : List ℕ). record { count = n; list = l }) matched (h .finds ∙ ap (λ (l : List Text). padded (length list) (numbersOf l)) (sym all)) in
-    ap (λ (t : Stored). putAll t ms) held ∙ stored-behind (length list) (s .matches) ms
+-- there is room for all: all are added
+pub addMatches-all : (room : ℕ) (ms : List Text) (s : Walked) → roomFor (length (s .matches) + length ms) ≤ room
+    → addMatches room ms s ≡ answer (record { opened = s .opened; matches = s .matches ++ ms })
+unfolding addMatches withMatch
+addMatches-all room [] s h = ap (λ (l : List Text). answer (record { opened = s .opened; matches = l })) (sym (append-nil (s .matches)))
+addMatches-all room (r ∷ rs) s h =
+    let more = length-append (s .matches) (r ∷ []) in
+    let one = roomFor-mono (length (s .matches) + 1) (length (s .matches) + length (r ∷ rs)) (omega arith) in
+    let rest = roomFor-mono (length (s .matches ++ (r ∷ [])) + length rs) (length (s .matches) + length (r ∷ rs)) (omega arith) in
+    kept (leb (roomFor (length (s .matches) + 1)) room) 27 0 _ (le-leb _ room (omega arith))
+    ∙ addMatches-all room rs (withMatch r s) (omega arith)
+    ∙ ap (λ (l : List Text). answer (record { opened = s .opened; matches = l })) (append-snoc (s .matches) r rs)
 
--- the code put the matching records of a payload behind what was found: `many` matches, and the list
-module _ (file : List ℕ) (f : Frame) (q : Query) (first : List ℕ) (p : Progress) (room : 2 * p .found ≤ length first) (many : ℕ) (list : List ℕ)
-    (is : (place : ℕ) → _≡_ {A = Stored} (record { count = many; list = list }) (putAll (record { count = p .found; list = first }) (matching q (recordsFrom place (take (f .end) file) (f .body + 1))))) where
+-- there is not: 27 at the first match that finds no room left
+pub addMatches-27 : (room : ℕ) (ms : List Text) (s : Walked) → roomFor (length (s .matches)) ≤ room → room < roomFor (length (s .matches) + length ms)
+    → addMatches room ms s ≡ refused 27 0
+unfolding addMatches withMatch
+addMatches-27 room [] s few many =
+    let same = roomFor-mono (length (s .matches) + 0) (length (s .matches)) (omega arith) in
+    absurd (omega arith)
+addMatches-27 room (r ∷ rs) s few many = go (leb (roomFor (length (s .matches) + 1)) room) refl (addMatches-27 room rs (withMatch r s))
+  where
+    go : (b : Bool) → leb (roomFor (length (s .matches) + 1)) room ≡ b
+        → (roomFor (length (withMatch r s .matches)) ≤ room → room < roomFor (length (withMatch r s .matches) + length rs) → addMatches room rs (withMatch r s) ≡ refused 27 0)
+        → addMatches room (r ∷ rs) s ≡ refused 27 0
+    go true e rest =
+        let fits = leb-true (roomFor (length (s .matches) + 1)) room e in
+        let more = length-append (s .matches) (r ∷ []) in
+        let one = roomFor-mono (length (s .matches ++ (r ∷ []))) (length (s .matches) + 1) (omega arith) in
+        let all = roomFor-mono (length (s .matches) + length (r ∷ rs)) (length (s .matches ++ (r ∷ [])) + length rs) (omega arith) in
+        kept (leb (roomFor (length (s .matches) + 1)) room) 27 0 _ e ∙ rest (omega arith) (omega arith)
+    go false e rest = broken (leb (roomFor (length (s .matches) + 1)) room) 27 0 _ e
+
+-- ---- the records of a data block
+
+-- the code put the matching records of a payload after what was found: `many` matches, and the list
+module _ (file : List ℕ) (f : Frame) (q : Query) (first : List ℕ) (p : Progress) (many : ℕ) (list : List ℕ)
+    (is : (place : ℕ) → _≡_ {A = Stored} (record { count = many; list = list })
+    (putAll (record { count = p .found; list = first }) (matching q (recordsFrom place (take (f .end) file) (f .body + 1))))) where
   -- the list is as long as before
-  pub find-length : length list ≡ length first
+  find-length : length list ≡ length first
   find-length = ap (λ (t : Stored). length (t .list)) (is 0) ∙ length-putAll (record { count = p .found; list = first }) _
 
-  pub find-within : many ≤ length list / 2 → (openedList : List ℕ) → p .used ≤ length openedList
+  pub find-within : roomFor many ≤ length list → (openedList : List ℕ) → p .used ≤ length openedList
       → StaysWithin (Going (record { used = p .used; found = many })) (length openedList) (length first)
-  unfolding StaysWithin HasRoom
-  find-within few openedList used = let long = find-length in (used, omega arith)
+  unfolding StaysWithin
+  find-within few openedList used = let long = find-length in record { opened = used; found = omega arith }
 
   -- the frame is that of a data block, and the lists hold what was opened and found
   module _ (openedList : List ℕ) (b : Block) (s : Walked) (inside : blockIn file f ≡ answer b) (level : f .level ≡ 0) (h : ListsHold openedList first p s) where
-    put-records : record { count = many; list = list } ≡ holding (length first) (s .matches ++ matching q (b .records))
+    abbrev found : List Text
+    found = matching q (b .records)
+
+    put-records : record { count = many; list = list } ≡ putAll (record { count = length (s .matches); list = first }) found
     put-records =
         is (f .start)
-        ∙ ap (λ (rs : List Text). putAll (record { count = p .found; list = first }) (matching q rs)) (data-from file f b inside level)
-        ∙ found-behind openedList first p s (matching q (b .records)) room h
+        ∙ ap₂ (λ (n : ℕ) (rs : List Text). putAll (record { count = n; list = first }) (matching q rs)) (h .matched) (inside⇒records file f b inside level)
 
-    found-many : many ≡ length (s .matches) + length (matching q (b .records))
-    found-many = ap (λ (t : Stored). t .count) put-records ∙ length-append (s .matches) (matching q (b .records))
+    found-many : many ≡ length (s .matches) + length found
+    found-many = ap (λ (t : Stored). t .count) put-records ∙ count-putAll _ found
 
-    -- more matches than the list has pairs of places
-    pub find-overflow : length list / 2 < many → Reaches (Stopped 27 0) openedList list (addMatches (length first) (matching q (b .records)) s)
+    -- there is no room for all
+    pub find-overflow : roomFor (p .found) ≤ length first → length list < roomFor many
+        → Reaches (Stopped (record { number = 27; place = 0 })) openedList list (addMatches (length first) found s)
     unfolding Reaches
-    find-overflow more =
+    find-overflow room more =
         let long = find-length in
-        let matched = h .matched in
-        let all = found-many in
-        addMatches-27 (length first) (matching q (b .records)) s (omega arith) (omega arith)
+        let few : roomFor (length (s .matches)) ≤ length first = subst (λ (n : ℕ). roomFor n ≤ length first) (h .matched) room in
+        let all : length list < roomFor (length (s .matches) + length found) = subst (λ (n : ℕ). length list < roomFor n) found-many more in
+        addMatches-27 (length first) found s few (omega arith)
 
-    -- every match has its pair
-    pub find-fit : many ≤ length list / 2 → Reaches (Going (record { used = p .used; found = many })) openedList list (addMatches (length first) (matching q (b .records)) s)
+    -- there is
+    pub find-fit : roomFor many ≤ length list → Reaches (Going (record { used = p .used; found = many })) openedList list (addMatches (length first) found s)
     unfolding Reaches
     find-fit few =
         let long = find-length in
-        let all = found-many in
-        let fits : 2 * (length (s .matches) + length (matching q (b .records))) ≤ length first = omega arith in
-        let joined = s .matches ++ matching q (b .records) in
-        let sum = length-append (s .matches) (matching q (b .records)) in
-        let whole : take (length first / 2) joined ≡ joined = take-all (length first / 2) joined (omega arith) in (
-          record { opened = s .opened; matches = joined },
-          addMatches-all (length first) (matching q (b .records)) s fits,
+        let fits : roomFor (length (s .matches) + length found) ≤ length first =
+        subst (λ (n : ℕ). roomFor (length (s .matches) + length found) ≤ n) long (subst (λ (n : ℕ). roomFor n ≤ length list) found-many few) in (
+          record { opened = s .opened; matches = s .matches ++ found },
+          addMatches-all (length first) found s fits,
           record {
             opens = h .opens;
             finds =
-                ap (λ (t : Stored). t .list) put-records
-                ∙ ap₂ (λ (n : ℕ) (l : List Text). padded n (numbersOf l)) (sym long) whole;
+                ap (λ (t : Stored). t .list)
+                (put-records ∙ ap (λ (l : List ℕ). putAll (record { count = length (s .matches); list = l }) found) (h .finds) ∙ stored-after (length first) (s .matches) found fits)
+                ∙ ap (λ (n : ℕ). padded n (numbersOf (s .matches ++ found))) (sym long);
             many = h .many;
-            matched = all ∙ sym sum;
+            matched = found-many ∙ sym (length-append (s .matches) found);
           },
         )

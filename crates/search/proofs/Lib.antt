@@ -1,11 +1,7 @@
--- Laws of the index search.
+-- Laws of the index search: opening a block, the block of an entry, the matches of a data block, the walk, the search.
 pub mod OpeningLaws
-pub mod BoundLaws
-pub mod VisitLaws
-pub mod AddLaws
-pub mod FindLaws
--- What the walk and the search rest on.
 pub mod ChildLaws
+pub mod FindLaws
 pub mod WalkLaws
 pub mod OnwardLaws
 pub mod SearchLaws

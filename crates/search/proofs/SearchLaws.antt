@@ -1,111 +1,124 @@
 -- Laws of the search: from the header to the root, from the root down, and what is answered.
 -- Assumes nothing.
 use mathlib.Core.Path.{_≡_, refl, sym, ap, _∙_, subst}
-use mathlib.Core.Bool.{false}
 use mathlib.Core.List.{List, [], _∷_, flatMap}
-use mathlib.Core.Option.{none}
-use Prim.Native.Nat.{ℕ, _^_, _≤_, _<_}
+use mathlib.Core.Option.{Option, none}
+use Prim.Native.Nat.{ℕ, _^_, _≤_}
 use native.Mathlib.Omega.{arith}
 use lib.ListN.{length}
 use Rattle.output_list.specs.OutputList.{padded, zeros, withNumber}
 use Rattle.output_list.proofs.OutputListLaws.{length-withNumber, length-zeros, withNumber-padded}
-use Rattle.outcome.specs.Outcome.{Outcome, answer, refused, numberOf, placeOf, countOf, listOf}
-use Rattle.outcome.proofs.OutcomeLaws.{bind-answer, bind-refused, map-refused⁻¹}
+use Rattle.outcome.specs.Outcome.{Outcome, answer, refused, _>>=_, numberOf, placeOf, countOf, listOf}
+use Rattle.outcome.specs.declared.Refusal.{Refusal}
+use Rattle.outcome.proofs.OutcomeLaws.{bind-answer, bind-refused}
 use Rattle.header.specs.declared.Header.{Header}
 use Rattle.header.specs.Header.{headerOf, blocksFrom}
 use Rattle.framing.specs.declared.Frame.{Frame}
 use Rattle.block.specs.Block.{Block, blockIn}
-use Rattle.query.specs.Query.{Query, given}
+use Rattle.query.specs.Query.{Query}
 use Rattle.matching.specs.ResultList.{numbersOf}
+use Rattle.matching.proofs.ResultListLaws.{roomFor-none}
 use Rattle.search.specs.declared.Found.{Found}
-use Rattle.search.specs.declared.bound.Bound.{Bound}
+use Rattle.search.specs.declared.opening.Named.{Named}
 use Rattle.search.specs.declared.opening.OpenOutcome.{OpenOutcome}
 use Rattle.search.specs.declared.opening.OpenOutcome.the-variants.{Answer as Sound, Refused as NoBlock}
+use Rattle.search.specs.declared.child.Bound.{Bound}
 use Rattle.search.specs.declared.walk.Progress.{Progress}
 use Rattle.search.specs.declared.walk.WalkOutcome.{WalkOutcome}
 use Rattle.search.specs.declared.walk.WalkOutcome.the-variants.{Answer as Going, Refused as Stopped}
-use Rattle.search.specs.Search.{Walked, nothing, withOpened, openBlock, walkOf, walkFrom, searchOf, searchAnswer, openedList, resultList}
-use Rattle.search.specs.Steps.{boundOf, BoundWithin, openingSaid, frameOf, HasRoom, ListsHold, Reaches}
-use Rattle.search.proofs.ChildLaws.{IsOpened, frame⇒IsOpened}
+use Rattle.search.specs.Search.{Walked, nothing, withOpened, rootNamed, openBlock, walkOf, walkFrom, searchOf, searchAnswer, openedList, resultList}
+use Rattle.search.specs.Steps.{openingSaid, frameOf, PartWithin, boundOf, WalkAsks, ListsHold, Reaches, ListsClear}
+use Rattle.search.proofs.OpeningLaws.{IsOpened, said⇒IsOpened, said⇒refused}
 
 -- ---- the root
 
--- no upper bound, and what is opened and found with the root
-abbrev pub unbounded : Bound
-unbounded = record { given = false; at = 0; size = 0 }
-
+-- what is opened and found with the root
 abbrev pub begun : Progress
 begun = record { used = 1; found = 0 }
 
-module _ (file : List ℕ) (q : Query) (places room from root rootsize : ℕ) (r : OpenOutcome)
-    (said : (s : Walked) → 0 ≡ length (s .opened) → openingSaid r ≡ frameOf (openBlock file places from 17 0 1 63 root rootsize s)) where
-  root-said : openingSaid r ≡ frameOf (openBlock file places from 17 0 1 63 root rootsize nothing)
-  unfolding nothing
-  root-said = said nothing refl
+module _ (file : List ℕ) (q : Query) (places room from root rootsize : ℕ) (n : Named) (names : n ≡ rootNamed root rootsize) (r : OpenOutcome)
+    (said : (s : Walked) → 0 ≡ length (s .opened) → openingSaid r ≡ frameOf (openBlock file places from n s)) where
+  -- the walk down from the root
+  abbrev Down : Block → Outcome Walked
+  Down b = walkOf file q places room from (b .frame .level) b none (withOpened root nothing)
 
-  pub root-refused : (number place : ℕ) → r ≡ NoBlock number place → (openedNow results : List ℕ) → Reaches (Stopped number place) openedNow results (walkFrom file q places room from root rootsize)
-  unfolding Reaches walkFrom frameOf openingSaid
-  root-refused number place told openedNow results =
-      bind-refused (openBlock file places from 17 0 1 63 root rootsize nothing) _ number place
-      (map-refused⁻¹ (openBlock file places from 17 0 1 63 root rootsize nothing) (λ b. b .frame) number place (sym root-said ∙ ap openingSaid told))
+  root-first : walkFrom file q places room from root rootsize ≡ (openBlock file places from n nothing >>= Down)
+  unfolding walkFrom
+  root-first = ap (λ (m : Named). openBlock file places from m nothing >>= Down) (sym names)
+
+  pub root-refused : (u : Refusal) → r ≡ NoBlock u → (openedNow results : List ℕ) → Reaches (Stopped u) openedNow results (walkFrom file q places room from root rootsize)
+  unfolding Reaches openingSaid nothing
+  root-refused u told openedNow results =
+      root-first
+      ∙ bind-refused (openBlock file places from n nothing) Down (u .number) (u .place)
+      (said⇒refused file places from n (u .number) (u .place) nothing (sym (ap openingSaid told) ∙ said nothing refl))
 
   module _ (f : Frame) (told : r ≡ Sound f) where
-    root-opened : IsOpened file places from 17 0 1 63 root rootsize 0 f
-    unfolding openingSaid nothing
-    root-opened = frame⇒IsOpened file places from 17 0 1 63 root rootsize nothing f (sym (ap openingSaid told) ∙ root-said)
+    root-opened : IsOpened file places from n 0 f
+    unfolding openingSaid
+    root-opened = said⇒IsOpened file places from n 0 f (λ s many. sym (ap openingSaid told) ∙ said s many)
 
-    -- the lists that are lent to the walk
-    module _ (openedFirst openedNow results : List ℕ) (long : length openedFirst ≡ places) (stored : openedNow ≡ withNumber openedFirst 0 root) where
+    -- the lists that are lent to the walk, and the upper bound
+    module _ (openedFirst openedNow results : List ℕ) (long : length openedFirst ≡ places) (stored : openedNow ≡ withNumber openedFirst 0 (n .offset)) (bound : Bound)
+        (unbounded : PartWithin file (bound .key) × (boundOf file bound ≡ none)) where
       now-long : length openedNow ≡ places
-      now-long = ap length stored ∙ length-withNumber openedFirst 0 root ∙ long
+      now-long = ap length stored ∙ length-withNumber openedFirst 0 (n .offset) ∙ long
 
       -- what the walk asks
-      pub root-asks : length file ≤ 2 ^ 30
-          → (length file ≤ 2 ^ 30) × (f .body < f .end) × (f .end ≤ length file) × (f .level ≤ 63) × BoundWithin file unbounded × HasRoom begun (length openedNow) (length results)
-      unfolding BoundWithin HasRoom
+      pub root-asks : length file ≤ 2 ^ 30 → WalkAsks file f bound begun (length openedNow) (length results)
+      unfolding rootNamed
       root-asks small =
-          let o = root-opened in
-          let fits = o .fits in
+          let fits = root-opened .fits in
           let same = now-long in
-          (small, o .body, o .within, o .most-level, omega arith, (omega arith, omega arith))
+          let none = roomFor-none in
+          record {
+            small = small;
+            frame = root-opened .within;
+            ordinary = subst (λ (m : Named). f .level ≤ m .most) names (root-opened .most-level);
+            bound = unbounded .0;
+            fits = record { opened = omega arith; found = omega arith };
+          }
 
-      root-holds : openedFirst ≡ zeros (length openedFirst) → results ≡ zeros (length results) → ListsHold openedNow results begun (withOpened root nothing)
-      unfolding withOpened nothing zeros numbersOf flatMap
-      root-holds clear clean =
+      root-holds : ListsClear openedFirst results → ListsHold openedNow results begun (withOpened root nothing)
+      unfolding withOpened nothing zeros numbersOf flatMap rootNamed
+      root-holds clear =
           let fits = root-opened .fits in
           record {
             opens =
                 stored
-                ∙ ap (λ (l : List ℕ). withNumber l 0 root) clear
+                ∙ ap (λ (m : Named). withNumber openedFirst 0 (m .offset)) names
+                ∙ ap (λ (l : List ℕ). withNumber l 0 root) (clear .opens)
                 ∙ withNumber-padded (length openedFirst) [] 0 root refl (omega arith)
                 ∙ ap (λ (k : ℕ). padded k (root ∷ [])) (long ∙ sym now-long);
-            finds = clean;
+            finds = clear .finds;
             many = refl;
             matched = refl;
           }
 
       -- what it gives
-      pub root-walked : openedFirst ≡ zeros (length openedFirst) → results ≡ zeros (length results) → length results ≡ room
+      pub root-walked : ListsClear openedFirst results → length results ≡ room
           → (w : WalkOutcome) (openedThen resultsThen : List ℕ)
-          → ((b : Block) (s : Walked) → blockIn file f ≡ answer b → f .level ≡ f .level → ListsHold openedNow results begun s
-          → Reaches w openedThen resultsThen (walkOf file q (length openedNow) (length results) from (f .level) b (boundOf file unbounded) s))
+          → ((b : Block) (s : Walked) → blockIn file f ≡ answer b → ListsHold openedNow results begun s
+          → Reaches w openedThen resultsThen (walkOf file q (length openedNow) (length results) from (f .level) b (boundOf file bound) s))
           → Reaches w openedThen resultsThen (walkFrom file q places room from root rootsize)
-      unfolding walkFrom boundOf given nothing
-      root-walked clear clean wide w openedThen resultsThen walked =
-          let o = root-opened in
+      unfolding nothing
+      root-walked clear wide w openedThen resultsThen walked =
+          let x = root-opened in
+          let s = withOpened root nothing in
           subst (Reaches w openedThen resultsThen)
-          (ap (λ (k : ℕ). walkOf file q k (length results) from (f .level) (o .block) none (withOpened root nothing)) now-long
-          ∙ ap (λ (k : ℕ). walkOf file q places k from (f .level) (o .block) none (withOpened root nothing)) wide
-          ∙ ap (λ (g : Frame). walkOf file q places room from (g .level) (o .block) none (withOpened root nothing)) (sym (o .frame))
-          ∙ sym (bind-answer (openBlock file places from 17 0 1 63 root rootsize nothing) _ (o .block) (o .again nothing refl)))
-          (walked (o .block) (withOpened root nothing) (o .inside) refl (root-holds clear clean))
+          (ap (λ (k : ℕ). walkOf file q k (length results) from (f .level) (x .block) (boundOf file bound) s) now-long
+          ∙ ap (λ (k : ℕ). walkOf file q places k from (f .level) (x .block) (boundOf file bound) s) wide
+          ∙ ap (λ (g : Frame). walkOf file q places room from (g .level) (x .block) (boundOf file bound) s) (sym (x .frame))
+          ∙ ap (λ (u : Option (List ℕ)). walkOf file q places room from (x .block .frame .level) (x .block) u s) (unbounded .1)
+          ∙ sym (root-first ∙ bind-answer (openBlock file places from n nothing) Down (x .block) (x .again nothing refl)))
+          (walked (x .block) s (x .inside) (root-holds clear))
 
 -- ---- the header
 
 module _ (file : List ℕ) (q : Query) (places room : ℕ) (openedNow results : List ℕ) where
-  pub header-refuses : (number place : ℕ) → headerOf file ≡ refused number place → Reaches (Stopped number place) openedNow results (searchOf file q places room)
+  pub header-refuses : (u : Refusal) → headerOf file ≡ refused (u .number) (u .place) → Reaches (Stopped u) openedNow results (searchOf file q places room)
   unfolding searchOf Reaches
-  header-refuses number place e = bind-refused (headerOf file) _ number place e
+  header-refuses u e = bind-refused (headerOf file) _ (u .number) (u .place) e
 
   pub header-accepts : (h : Header) → headerOf file ≡ answer h → (r : WalkOutcome) → Reaches r openedNow results (walkFrom file q places room (blocksFrom h) (h .root) (h .rootsize))
       → Reaches r openedNow results (searchOf file q places room)
@@ -143,10 +156,10 @@ module _ (opened₀ results₀ openedFirst resultsFirst : List ℕ) (clear : ope
   first-wide : length resultsFirst ≡ length results₀
   first-wide = ap length clean ∙ length-zeros (length results₀)
 
-  pub both-zeros : (openedFirst ≡ zeros (length openedFirst)) × (resultsFirst ≡ zeros (length resultsFirst))
-  both-zeros = (clear ∙ ap zeros (sym first-long), clean ∙ ap zeros (sym first-wide))
+  pub both-clear : ListsClear openedFirst resultsFirst
+  both-clear = record { opens = clear ∙ ap zeros (sym first-long); finds = clean ∙ ap zeros (sym first-wide) }
 
-  -- behind the walk they are as long as before
+  -- after the walk they are as long as before
   module _ (file : List ℕ) (q : Query) (r : WalkOutcome) (openedThen resultsThen : List ℕ) (long : length openedThen ≡ length openedFirst) (wide : length resultsThen ≡ length resultsFirst)
       (reached : Reaches r openedThen resultsThen (searchOf file q (length openedFirst) (length resultsFirst))) where
     searched : Reaches r openedThen resultsThen (searchOf file q (length opened₀) (length results₀))
@@ -163,10 +176,10 @@ module _ (opened₀ results₀ openedFirst resultsFirst : List ℕ) (clear : ope
             → Told (length opened₀) (length results₀) (searchOf file q (length opened₀) (length results₀)) (record { number = 0; place = 0; matches = p .found; opened = p .used }) openedThen resultsThen
         go (s, e, h) = told-found (length opened₀) (length results₀) _ s e p openedThen resultsThen (long ∙ first-long) (wide ∙ first-wide) h
 
-    pub search-stopped : (number place : ℕ) → r ≡ Stopped number place → (openedLast resultsLast : List ℕ) → openedLast ≡ zeros (length openedThen) → resultsLast ≡ zeros (length resultsThen)
-        → Told (length opened₀) (length results₀) (searchOf file q (length opened₀) (length results₀)) (record { number = number; place = place; matches = 0; opened = 0 }) openedLast resultsLast
+    pub search-stopped : (u : Refusal) → r ≡ Stopped u → (openedLast resultsLast : List ℕ) → openedLast ≡ zeros (length openedThen) → resultsLast ≡ zeros (length resultsThen)
+        → Told (length opened₀) (length results₀) (searchOf file q (length opened₀) (length results₀)) (record { number = u .number; place = u .place; matches = 0; opened = 0 }) openedLast resultsLast
     unfolding Reaches
-    search-stopped number place is openedLast resultsLast cleared cleaned =
-        told-refused (length opened₀) (length results₀) _ number place
+    search-stopped u is openedLast resultsLast cleared cleaned =
+        told-refused (length opened₀) (length results₀) _ (u .number) (u .place)
         (subst (λ (k : WalkOutcome). Reaches k openedThen resultsThen (searchOf file q (length opened₀) (length results₀))) is searched)
         openedLast resultsLast (cleared ∙ ap zeros (long ∙ first-long)) (cleaned ∙ ap zeros (wide ∙ first-wide))

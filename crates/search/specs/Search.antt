@@ -1,5 +1,5 @@
 -- The index search: the walk down from the root, on any bytes. The first fault met decides.
-use Prim.Native.Nat.{ℕ, zero, suc, _+_, _*_}
+use Prim.Native.Nat.{ℕ, zero, suc, _+_}
 use mathlib.Core.Bool.{_&&_, cond}
 use mathlib.Core.List.{List, [], _∷_, _++_}
 use mathlib.Core.Option.{Option, none, some}
@@ -15,8 +15,9 @@ use Rattle.block.specs.Block.{Block, blockIn}
 use Rattle.query.specs.Query.{Query}
 use Rattle.query.specs.Opening.{mayMatch}
 use Rattle.matching.specs.Matching.{matching}
-use Rattle.matching.specs.ResultList.{numbersOf}
+use Rattle.matching.specs.ResultList.{roomFor, numbersOf}
 use Rattle.search.specs.declared.Found.{Found}
+use Rattle.search.specs.declared.opening.Named.{Named}
 
 -- what the walk has opened and found so far: the offsets of the blocks, and the records, both in walk order
 pub record Walked : Type 0 where
@@ -38,29 +39,38 @@ unfoldable pub nextKey : List Entry → Option (List ℕ) → Option (List ℕ)
 nextKey [] above = above
 nextKey (next ∷ back) above = some (next .key .bytes)
 
--- the block of a sound frame: another full size, or a level not from `least` to `most`, is the refusal `number` at `place`; then the payload
-unfoldable pub fittingBlock : (file : List ℕ) (number place least most size : ℕ) → Frame → Outcome Block
-fittingBlock file number place least most size f =
-    must (eqb (f .size) size && (leb least (f .level) && leb (f .level) most)) number place >> blockIn file f
+-- A block as the header or an entry names it is a `Named`: its offset and full size, the least and the largest level that it may have,
+-- and the refusal for a wrong offset, size or level.
 
--- The block that an offset and a full size name, with every test of one block: the offset lies from `from`, where blocks begin, to
--- before the file's end; number, 13, 10, 14; size and level; payload, 16 or 21. `number` and `place` are the refusal for a wrong
--- offset, size or level.
-unfoldable pub namedBlock : (file : List ℕ) (from number place least most offset size : ℕ) → Outcome Block
-namedBlock file from number place least most offset size = do
-  must (leb from offset && ltb offset (length file)) number place
-  f ← soundFrameAt file offset
-  fittingBlock file number place least most size f
+-- the root is an index block, else 17
+unfoldable pub rootNamed : (root rootsize : ℕ) → Named
+rootNamed root rootsize = record { offset = root; size = rootsize; least = 1; most = 63; refusal = record { number = 17; place = 0 } }
+
+-- the block of an entry has this level, one less than the index block at `place`, else 19
+unfoldable pub childNamed : (place level offset size : ℕ) → Named
+childNamed place level offset size = record { offset = offset; size = size; least = level; most = level; refusal = record { number = 19; place = place } }
+
+-- the block of a sound frame: size and level, then the payload
+unfoldable pub fittingBlock : (file : List ℕ) → Named → Frame → Outcome Block
+fittingBlock file n f =
+    must (eqb (f .size) (n .size) && (leb (n .least) (f .level) && leb (f .level) (n .most))) (n .refusal .number) (n .refusal .place) >> blockIn file f
+
+-- The block that is named, with every test of one block: the offset lies from `from`, where blocks begin, to before the file's end;
+-- number, 13, 10, 14; size and level; payload, 16 or 21.
+unfoldable pub namedBlock : (file : List ℕ) (from : ℕ) → Named → Outcome Block
+namedBlock file from n = do
+  must (leb from (n .offset) && ltb (n .offset) (length file)) (n .refusal .number) (n .refusal .place)
+  f ← soundFrameAt file (n .offset)
+  fittingBlock file n f
 
 -- 26 if the opened list, of so many places, has none left for the block; then the block's tests
-unfoldable pub openBlock : (file : List ℕ) (places from number place least most offset size : ℕ) → Walked → Outcome Block
-openBlock file places from number place least most offset size s =
-    must (ltb (length (s .opened)) places) 26 0 >> namedBlock file from number place least most offset size
+unfoldable pub openBlock : (file : List ℕ) (places from : ℕ) → Named → Walked → Outcome Block
+openBlock file places from n s = must (ltb (length (s .opened)) places) 26 0 >> namedBlock file from n
 
--- the matches of a data block on a result list of so many places: 27 at a match that finds no two places left
+-- the matches of a data block on a result list of so many places: 27 at a match that finds no room left
 unfoldable pub addMatches : (room : ℕ) → List Text → Walked → Outcome Walked
 addMatches room [] s = answer s
-addMatches room (r ∷ rs) s = must (leb (2 * length (s .matches) + 2) room) 27 0 >> addMatches room rs (withMatch r s)
+addMatches room (r ∷ rs) s = must (leb (roomFor (length (s .matches) + 1)) room) 27 0 >> addMatches room rs (withMatch r s)
 
 -- the entries of an index block in order: the block of an entry is visited where its bounds admit a match; `above` is the index block's
 -- upper bound
@@ -76,12 +86,12 @@ module _ (file : List ℕ) (q : Query) (places room from : ℕ) where
   walkOf zero b upper s = addMatches room (matching q (b .records)) s
   walkOf (suc level) b upper s =
       walkOver q
-      (λ e bound t. openBlock file places from 19 (b .frame .start) level level (e .offset) (e .size) t >>= λ c. walkOf level c bound (withOpened (e .offset) t))
+      (λ e bound t. openBlock file places from (childNamed (b .frame .start) level (e .offset) (e .size)) t >>= λ c. walkOf level c bound (withOpened (e .offset) t))
       upper (b .entries) s
 
   -- down from the root, which has no upper bound
   unfoldable pub walkFrom : (root rootsize : ℕ) → Outcome Walked
-  walkFrom root rootsize = openBlock file places from 17 0 1 63 root rootsize nothing >>= λ b. walkOf (b .frame .level) b none (withOpened root nothing)
+  walkFrom root rootsize = openBlock file places from (rootNamed root rootsize) nothing >>= λ b. walkOf (b .frame .level) b none (withOpened root nothing)
 
 -- the search: refusals 1 to 9, then the walk from the root that the header names
 unfoldable pub searchOf : (file : List ℕ) (q : Query) (places room : ℕ) → Outcome Walked

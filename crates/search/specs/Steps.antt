@@ -1,86 +1,127 @@
 -- What the steps of the code say, in the terms of the definitions.
-use Prim.Native.Nat.{ℕ, _+_, _*_, _≤_}
+use Prim.Native.Nat.{ℕ, _+_, _-_, _^_, _≤_, _<_}
 use mathlib.Core.Path.{_≡_}
-use mathlib.Core.Bool.{cond}
-use mathlib.Core.List.{List}
-use mathlib.Core.Option.{Option, none, some}
-use lib.ListN.{length}
-use Rattle.output_list.specs.OutputList.{padded, withNumber}
+use mathlib.Core.Bool.{Bool}
+use mathlib.Core.List.{List, [], _∷_}
+use mathlib.Core.Option.{Option}
+use lib.ListN.{length, take}
+use Rattle.output_list.specs.OutputList.{padded, zeros}
 use Rattle.outcome.specs.Outcome.{Outcome, answer, refused, _>>=_}
+use Rattle.items.specs.Items.{itemsFrom}
+use Rattle.part.specs.declared.Part.{Part}
 use Rattle.part.specs.Part.{part}
 use Rattle.framing.specs.declared.Frame.{Frame}
+use Rattle.payload.specs.Payload.{Entry, entryAt}
 use Rattle.block.specs.Block.{Block}
 use Rattle.query.specs.Query.{Query, given}
 use Rattle.query.specs.Opening.{mayMatch}
-use Rattle.matching.specs.ResultList.{numbersOf}
-use Rattle.search.specs.declared.bound.Bound.{Bound}
+use Rattle.matching.specs.ResultList.{roomFor, numbersOf}
 use Rattle.search.specs.declared.opening.OpenOutcome.{OpenOutcome}
 use Rattle.search.specs.declared.opening.OpenOutcome.the-variants.{Answer as Sound, Refused as NoBlock}
-use Rattle.search.specs.declared.walk.Child.{Child}
-use Rattle.search.specs.declared.walk.VisitOutcome.{VisitOutcome}
-use Rattle.search.specs.declared.walk.VisitOutcome.the-variants.{Passed, Opened, Refused as NoVisit}
+use Rattle.search.specs.declared.child.Bound.{Bound}
+use Rattle.search.specs.declared.child.Child.{Child}
+use Rattle.search.specs.declared.child.ChildOutcome.{ChildOutcome}
+use Rattle.search.specs.declared.child.ChildOutcome.the-variants.{Answer as Next, None as NoEntry}
 use Rattle.search.specs.declared.walk.Progress.{Progress}
 use Rattle.search.specs.declared.walk.WalkOutcome.{WalkOutcome}
 use Rattle.search.specs.declared.walk.WalkOutcome.the-variants.{Answer as Going, Refused as Stopped}
-use Rattle.search.specs.Search.{Walked, openBlock}
-
--- ---- bounds
-
--- an upper bound that is a part of the file, or none
-unfoldable pub boundOf : List ℕ → Bound → Option (List ℕ)
-boundOf file b = given (b .given) (part file (b .at) (b .size))
-
--- its part lies within the file
-unfoldable pub BoundWithin : List ℕ → Bound → Type 0
-BoundWithin file b = b .at + b .size ≤ length file
+use Rattle.search.specs.Search.{Walked, nextKey, childNamed}
 
 -- ---- openings
 
 -- what an opening says: the frame of a block that passed every test, or the refusal
 unfoldable pub openingSaid : OpenOutcome → Outcome Frame
 openingSaid (Sound f) = answer f
-openingSaid (NoBlock number place) = refused number place
+openingSaid (NoBlock r) = refused (r .number) (r .place)
 
 unfoldable pub frameOf : Outcome Block → Outcome Frame
 frameOf o = o >>= λ b. answer (b .frame)
 
--- ---- visits
+-- a frame lies within the file
+pub record FrameWithin (file : List ℕ) (f : Frame) : Type 0 where
+  pub body : f .body < f .end
+  pub end : f .end ≤ length file
 
--- the key and the upper bound of an entry's block lie within the file
-unfoldable pub ChildWithin : List ℕ → Child → Type 0
-ChildWithin file c = (c .key + c .length ≤ length file) × BoundWithin file (c .upper)
+-- ---- the block of an entry
 
--- what a visit says: the frame of the opened block, nothing where the bounds admit no match, or the refusal
-unfoldable pub visitSaid : VisitOutcome → Outcome (Option Frame)
-visitSaid Passed = answer none
-visitSaid (Opened f) = answer (some f)
-visitSaid (NoVisit number place) = refused number place
+unfoldable pub PartWithin : List ℕ → Part → Type 0
+PartWithin file p = p .offset + p .length ≤ length file
 
-module _ (file : List ℕ) (q : Query) (c : Child) where
-  -- the bounds of an entry's block admit a match
-  unfoldable pub admitted : mathlib.Core.Bool.Bool
-  admitted = mayMatch (part file (c .key) (c .length)) (boundOf file (c .upper)) q
+-- an upper bound that is a part of the file, or none
+unfoldable pub boundOf : List ℕ → Bound → Option (List ℕ)
+boundOf file b = given (b .given) (part file (b .key .offset) (b .key .length))
 
-  -- the visit of an entry's block of this level, where the index block stands at `place`
-  unfoldable pub visitOf : (places from place level : ℕ) → Walked → Outcome (Option Frame)
-  visitOf places from place level s =
-      cond admitted (openBlock file places from 19 place level level (c .offset) (c .size) s >>= λ b. answer (some (b .frame))) (answer none)
+-- the bounds of an entry's block admit a match
+unfoldable pub admitted : List ℕ → Query → Child → Bool
+admitted file q c = mayMatch (part file (c .key .offset) (c .key .length)) (boundOf file (c .upper)) q
 
-  -- the opened list behind it
-  unfoldable pub visitedList : List ℕ → (used : ℕ) → List ℕ
-  visitedList list used = cond admitted (withNumber list used (c .offset)) list
+-- the entries of an index block with this frame from an offset on, or the first refusal
+unfoldable pub entriesFrom : List ℕ → Frame → (at : ℕ) → Outcome (List Entry)
+entriesFrom file f at = itemsFrom (entryAt (f .start) (take (f .end) file)) (f .end) (f .end - at) at
+
+-- an index block lies with its upper bound within the file
+pub record IndexWithin (file : List ℕ) (f : Frame) (above : Bound) : Type 0 where
+  pub index : 0 < f .level
+  pub end : f .end ≤ length file
+  pub bound : PartWithin file (above .key)
+
+module _ (file : List ℕ) (f : Frame) where
+  -- the block of an entry at an offset: it is named as a block of the next level, its bounds lie within the file, and the next entry
+  -- begins later
+  pub record ChildWithin (at : ℕ) (c : Child) (next : ℕ) : Type 0 where
+    pub named : c .named ≡ childNamed (f .start) (f .level - 1) (c .named .offset) (c .named .size)
+    pub key : PartWithin file (c .key)
+    pub upper : PartWithin file (c .upper .key)
+    pub forward : at < next
+    pub before : next ≤ f .end
+
+  unfoldable pub ChildStays : (at : ℕ) → ChildOutcome → Type 0
+  ChildStays at (Next c next) = ChildWithin at c next
+  ChildStays at NoEntry = Unit {0}
+
+  -- these entries are one and those that follow it, where `next` begins; its block is `c`
+  pub record IsChild (above : Bound) (c : Child) (next : ℕ) (es : List Entry) : Type 0 where
+    pub entry : Entry
+    pub after : List Entry
+    pub split : es ≡ entry ∷ after
+    pub rest : entriesFrom file f next ≡ answer after
+    pub lower : part file (c .key .offset) (c .key .length) ≡ entry .key .bytes
+    pub upper : boundOf file (c .upper) ≡ nextKey after (boundOf file above)
+    pub offset : c .named .offset ≡ entry .offset
+    pub size : c .named .size ≡ entry .size
+
+  -- what reading the next of these entries says
+  unfoldable pub ChildSaid : (above : Bound) → ChildOutcome → List Entry → Type 0
+  ChildSaid above (Next c next) es = IsChild above c next es
+  ChildSaid above NoEntry es = es ≡ []
 
 -- ---- the walk
 
 -- there is room for what was opened and found
-unfoldable pub HasRoom : Progress → (places room : ℕ) → Type 0
-HasRoom p places room = (p .used ≤ places) × (2 * p .found ≤ room)
+pub record HasRoom (p : Progress) (places room : ℕ) : Type 0 where
+  pub opened : p .used ≤ places
+  pub found : roomFor (p .found) ≤ room
 
 unfoldable pub StaysWithin : WalkOutcome → (places room : ℕ) → Type 0
 StaysWithin (Going p) places room = HasRoom p places room
-StaysWithin (Stopped number place) places room = Unit {0}
+StaysWithin (Stopped r) places room = Unit {0}
 
--- the lent lists hold what was opened and found, and zeros behind
+-- what the walk down from a block asks: the block is ordinary and lies with its upper bound within a file that is not too long, and there
+-- is room for what was opened and found
+pub record WalkAsks (file : List ℕ) (f : Frame) (above : Bound) (p : Progress) (places room : ℕ) : Type 0 where
+  pub small : length file ≤ 2 ^ 30
+  pub frame : FrameWithin file f
+  pub ordinary : f .level ≤ 63
+  pub bound : PartWithin file (above .key)
+  pub fits : HasRoom p places room
+
+-- what putting the matches of a data block asks
+pub record FindAsks (file : List ℕ) (f : Frame) (p : Progress) (room : ℕ) : Type 0 where
+  pub small : length file ≤ 2 ^ 30
+  pub frame : FrameWithin file f
+  pub fits : roomFor (p .found) ≤ room
+
+-- the lent lists hold what was opened and found, then zeros
 pub record ListsHold (openedList results : List ℕ) (p : Progress) (s : Walked) : Type 0 where
   pub opens : openedList ≡ padded (length openedList) (s .opened)
   pub finds : results ≡ padded (length results) (numbersOf (s .matches))
@@ -90,4 +131,15 @@ pub record ListsHold (openedList results : List ℕ) (p : Progress) (s : Walked)
 -- what a walk says: it goes on with what was opened and found, which the lists hold, or it stops with a refusal
 unfoldable pub Reaches : WalkOutcome → (openedList results : List ℕ) → Outcome Walked → Type 0
 Reaches (Going p) openedList results o = (s : Walked) × (o ≡ answer s) × ListsHold openedList results p s
-Reaches (Stopped number place) openedList results o = o ≡ refused number place
+Reaches (Stopped r) openedList results o = o ≡ refused (r .number) (r .place)
+
+-- both lists are all zeros
+pub record ListsClear (openedList results : List ℕ) : Type 0 where
+  pub opens : openedList ≡ zeros (length openedList)
+  pub finds : results ≡ zeros (length results)
+
+-- what the search after the header asks: blocks begin within a file that is not too long, and both lists are all zeros
+pub record TreeAsks (file : List ℕ) (from : ℕ) (openedList results : List ℕ) : Type 0 where
+  pub small : length file ≤ 2 ^ 30
+  pub within : from ≤ length file
+  pub clear : ListsClear openedList results

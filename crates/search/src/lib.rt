@@ -1,25 +1,25 @@
 // The index search: the walk down from the root, on any bytes.
-ghost use Prim.Native.Nat.{_^_, _≤_};
 ghost use mathlib.Core.Path.{_≡_};
 ghost use lib.ListN.{length};
-ghost use Rattle.output_list.specs.OutputList.{zeros};
 ghost use Rattle.header.specs.Header.{blocksFrom};
 ghost use Rattle.query.specs.Query.{queryOf};
 ghost use Rattle.search.specs.Search.{walkFrom, searchOf, searchAnswer, openedList, resultList};
-ghost use Rattle.search.specs.Steps.{Reaches, StaysWithin};
+ghost use Rattle.search.specs.Steps.{ListsClear, TreeAsks, Reaches};
 
-mod bound;
+mod child;
 mod opening;
 mod walk;
 
-use crate::bound::Bound;
+use crate::child::unbounded;
 use crate::opening::OpenOutcome;
-use crate::opening::open;
+use crate::opening::open_block;
+use crate::opening::root_named;
 use crate::walk::Progress;
 use crate::walk::WalkOutcome;
 use crate::walk::walk;
 use header::Header;
 use header::HeaderOutcome;
+use outcome::Refusal;
 
 // Number and place of a refusal, both 0 without one, how many records match, and how many blocks were opened.
 #[repr(C)]
@@ -31,7 +31,7 @@ pub struct Found {
 }
 
 // Searches the file through its index. The opened list holds the offset of each block opened, in walk order, root first; the result list
-// offset and length of each match; behind them zeros. After a refusal both hold zeros.
+// offset and length of each match; then zeros. After a refusal both hold zeros.
 pub fn search(
     file: &[u8],
     start: &[u8],
@@ -41,9 +41,15 @@ pub fn search(
     opened: &mut [u64],
     results: &mut [u64],
 ) -> Found
-    ensures { λ r. ⌜ r ≡ searchAnswer (searchOf (now (file .entry)) (queryOf (now (start .entry)) «stop_given» (now (stop .entry)) (now (prefix .entry))) (length (now (opened .entry))) (length (now (results .entry)))) ⌝ }
-    ensures { λ r. ⌜ now (opened .exit) ≡ openedList (length (now (opened .entry))) (searchOf (now (file .entry)) (queryOf (now (start .entry)) «stop_given» (now (stop .entry)) (now (prefix .entry))) (length (now (opened .entry))) (length (now (results .entry)))) ⌝ }
-    ensures { λ r. ⌜ now (results .exit) ≡ resultList (length (now (results .entry))) (searchOf (now (file .entry)) (queryOf (now (start .entry)) «stop_given» (now (stop .entry)) (now (prefix .entry))) (length (now (opened .entry))) (length (now (results .entry)))) ⌝ }
+    ensures { λ r. ⌜ r ≡ searchAnswer (searchOf (now (file .entry))
+        (queryOf (now (start .entry)) «stop_given» (now (stop .entry)) (now (prefix .entry)))
+        (length (now (opened .entry))) (length (now (results .entry)))) ⌝ }
+    ensures { λ r. ⌜ now (opened .exit) ≡ openedList (length (now (opened .entry))) (searchOf (now (file .entry))
+        (queryOf (now (start .entry)) «stop_given» (now (stop .entry)) (now (prefix .entry)))
+        (length (now (opened .entry))) (length (now (results .entry)))) ⌝ }
+    ensures { λ r. ⌜ now (results .exit) ≡ resultList (length (now (results .entry))) (searchOf (now (file .entry))
+        (queryOf (now (start .entry)) «stop_given» (now (stop .entry)) (now (prefix .entry)))
+        (length (now (opened .entry))) (length (now (results .entry)))) ⌝ }
 {
     output_list::clear(opened);
     output_list::clear(results);
@@ -55,12 +61,12 @@ pub fn search(
             matches: p.found as u64,
             opened: p.used as u64,
         },
-        WalkOutcome::Refused { number, place } => {
+        WalkOutcome::Refused(r) => {
             output_list::clear(opened);
             output_list::clear(results);
             Found {
-                number,
-                place,
+                number: r.number,
+                place: r.place,
                 matches: 0,
                 opened: 0,
             }
@@ -78,15 +84,14 @@ fn search_file(
     opened: &mut [u64],
     results: &mut [u64],
 ) -> WalkOutcome
-    requires { ⌜ (now opened ≡ zeros (length (now opened))) × (now results ≡ zeros (length (now results))) ⌝ }
-    ensures { λ r. ⌜ Reaches r (now (opened .exit)) (now (results .exit)) (searchOf (now (file .entry)) (queryOf (now (start .entry)) «stop_given» (now (stop .entry)) (now (prefix .entry))) (length (now (opened .entry))) (length (now (results .entry)))) ⌝ }
+    requires { ⌜ ListsClear (now opened) (now results) ⌝ }
+    ensures { λ r. ⌜ Reaches r (now (opened .exit)) (now (results .exit)) (searchOf (now (file .entry))
+        (queryOf (now (start .entry)) «stop_given» (now (stop .entry)) (now (prefix .entry)))
+        (length (now (opened .entry))) (length (now (results .entry)))) ⌝ }
 {
     let made = Header::read(file);
     match made {
-        HeaderOutcome::Refused(n) => WalkOutcome::Refused {
-            number: n,
-            place: 0,
-        },
+        HeaderOutcome::Refused(number) => WalkOutcome::Refused(Refusal { number, place: 0 }),
         HeaderOutcome::Answer(h) => search_tree(
             file,
             h,
@@ -100,7 +105,7 @@ fn search_file(
     }
 }
 
-// The search behind the header: opens the root and walks down from it.
+// The search after the header: opens the root and walks down from it.
 fn search_tree(
     file: &[u8],
     h: Header,
@@ -111,34 +116,27 @@ fn search_tree(
     opened: &mut [u64],
     results: &mut [u64],
 ) -> WalkOutcome
-    requires { ⌜ (length (now file) ≤ 2 ^ 30) × (blocksFrom h ≤ length (now file)) × (now opened ≡ zeros (length (now opened))) × (now results ≡ zeros (length (now results))) ⌝ }
-    ensures { λ r. ⌜ Reaches r (now (opened .exit)) (now (results .exit)) (walkFrom (now (file .entry)) (queryOf (now (start .entry)) «stop_given» (now (stop .entry)) (now (prefix .entry))) (length (now (opened .entry))) (length (now (results .entry))) (blocksFrom h) (h .root) (h .rootsize)) ⌝ }
+    requires { ⌜ TreeAsks (now file) (blocksFrom h) (now opened) (now results) ⌝ }
+    ensures { λ r. ⌜ Reaches r (now (opened .exit)) (now (results .exit)) (walkFrom (now (file .entry))
+        (queryOf (now (start .entry)) «stop_given» (now (stop .entry)) (now (prefix .entry)))
+        (length (now (opened .entry))) (length (now (results .entry))) (blocksFrom h) (h .root) (h .rootsize)) ⌝ }
 {
     let from = Header::AROUND + h.extent as usize;
-    let root = open(file, from, 17, 0, 1, 63, h.root, h.rootsize, opened, 0);
+    let root = open_block(file, from, root_named(h.root, h.rootsize), opened, 0);
     match root {
-        OpenOutcome::Refused { number, place } => WalkOutcome::Refused { number, place },
-        OpenOutcome::Answer(f) => {
-            let none = Bound {
-                given: false,
-                at: 0,
-                size: 0,
-            };
-            let begun = Progress { used: 1, found: 0 };
-            walk(
-                file,
-                from,
-                f,
-                f.level,
-                none,
-                start,
-                stop_given,
-                stop,
-                prefix,
-                opened,
-                results,
-                begun,
-            )
-        },
+        OpenOutcome::Refused(r) => WalkOutcome::Refused(r),
+        OpenOutcome::Answer(f) => walk(
+            file,
+            from,
+            f,
+            unbounded(),
+            start,
+            stop_given,
+            stop,
+            prefix,
+            opened,
+            results,
+            Progress { used: 1, found: 0 },
+        ),
     }
 }

@@ -1,9 +1,9 @@
 -- `search` meets its contract: over lists that were cleared, and that are cleared again after a refusal.
 -- Assumes nothing.
 use denote.Ref.{now}
-use borrow.Author.Needs.{needs}
 use Rattle.query.specs.Query.{queryOf}
-use Rattle.search.proofs.SearchLaws.{both-zeros, search-went, search-stopped}
+use Rattle.search.proofs.SearchLaws.{both-clear, search-went, search-stopped}
+use borrow.Author.Needs.{needs}
 use Rattle.search.proofs.search.Statement.{statement}
 use Rattle.search.proofs.search.Tie as tie
 
@@ -18,7 +18,7 @@ search-file-requires c κs =
     let args = c .before .before .before .before .before .before .before .before .before .before .before .before .before .before .before .before .args in
     let clear = c .before .before .before .before .before .before .before .before .clear in
     let clear2 = c .before .before .before .before .clear2 in
-    both-zeros (now (args .opened)) (now (args .results)) _ _ (clear .ensures) (clear2 .ensures)
+    both-clear (now (args .opened)) (now (args .results)) _ _ (clear .ensures) (clear2 .ensures)
 
 enum-known-reached : tie.Need-enum-known-reached
 enum-known-reached c = search needs
@@ -65,7 +65,7 @@ returns-2 c =
     let clear4 = c .before .before .clear4 in
     search-stopped (now (args .opened)) (now (args .results)) _ _ (clear .ensures) (clear2 .ensures) (now (args .file)) (queryOf (now
     (args .start)) (args .stop-given) (now (args .stop)) (now (args .prefix))) _ _ _ (search-file .kept .1 .1 .1 .1 .1 .0)
-    (search-file .kept .1 .1 .1 .1 .1 .1 .0) (search-file .ensures) _ _ (reached2 .given .1) _ _ (clear3 .ensures) (clear4 .ensures)
+    (search-file .kept .1 .1 .1 .1 .1 .1 .0) (search-file .ensures) _ (reached2 .given .1) _ _ (clear3 .ensures) (clear4 .ensures)
 
 pub search-spec : {M : Type 1} → statement M
 search-spec =

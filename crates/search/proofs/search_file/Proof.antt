@@ -1,13 +1,13 @@
 -- `search_file` meets its contract: the header, then the walk from the root that it names.
 -- Assumes nothing.
 use denote.Ref.{now}
-use borrow.Author.Needs.{needs}
 use mathlib.Core.Path.{sym, ap, _∙_}
 use lib.ListN.{length}
-use Rattle.query.specs.Query.{queryOf}
 use Rattle.header.specs.Header.{headerSaid}
 use Rattle.header.proofs.HeaderLaws.{is-header, blocks-within}
+use Rattle.query.specs.Query.{queryOf}
 use Rattle.search.proofs.SearchLaws.{header-refuses, header-accepts}
+use borrow.Author.Needs.{needs}
 use Rattle.search.proofs.search_file.Statement.{statement}
 use Rattle.search.proofs.search_file.Tie as tie
 
@@ -23,16 +23,15 @@ enum-known-made-2 c = search needs
 search-tree-requires : tie.Need-search-tree-requires
 unfolding headerSaid
 search-tree-requires c κs =
-    let args = c .before .before .before .before .before .before .before .before .before .before .before .before .args in
     let read = c .before .before .before .before .before .read in
     let made2 = c .before .before .before .made2 in
-    let pre = c .before .before .before .before .before .before .before .before .before .before .before .before .pre in (
-      is-header (now (args .file)) _ (sym (read .ensures) ∙ ap headerSaid (made2 .given .1)) .small,
-      blocks-within (now (args .file)) _ (sym
-          (read .ensures) ∙ ap headerSaid (made2 .given .1)),
-      pre .0,
-      pre .1,
-    )
+    let args = c .before .before .before .before .before .before .before .before .before .before .before .before .args in
+    let pre = c .before .before .before .before .before .before .before .before .before .before .before .before .pre in
+    let header = sym (read .ensures) ∙ ap headerSaid (made2 .given .1) in record {
+      small = is-header (now (args .file)) _ header .small;
+      within = blocks-within (now (args .file)) _ header;
+      clear = pre;
+    }
 
 returns : tie.Need-returns
 unfolding headerSaid
@@ -40,7 +39,7 @@ returns c =
     let args = c .before .before .before .before .before .before .before .before .before .before .args in
     let read = c .before .before .before .read in
     header-refuses (now (args .file)) (queryOf (now (args .start)) (args .stop-given) (now (args .stop)) (now (args .prefix))) (length (now
-    (args .opened))) (length (now (args .results))) _ _ _ _ (sym (read .ensures) ∙ ap headerSaid (c .before .made .given .1))
+    (args .opened))) (length (now (args .results))) _ _ _ (sym (read .ensures) ∙ ap headerSaid (c .before .made .given .1))
 
 same-length : tie.Need-same-length
 same-length c = search needs

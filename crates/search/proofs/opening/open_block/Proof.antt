@@ -1,12 +1,12 @@
--- `open` meets its contract: a place on the opened list, then the block's tests.
+-- `open_block` meets its contract: a place on the opened list, then the block's tests.
 -- Assumes nothing.
-use borrow.Author.Needs.{needs}
 use borrow.Author.Tests.{not-true, not-false}
 use denote.Ref.{now}
 use Rattle.search.specs.Steps.{openingSaid}
 use Rattle.search.proofs.OpeningLaws.{open-full, open-placed}
-use Rattle.search.proofs.opening.open.Statement.{statement}
-use Rattle.search.proofs.opening.open.Tie as tie
+use borrow.Author.Needs.{needs}
+use Rattle.search.proofs.opening.open_block.Statement.{statement}
+use Rattle.search.proofs.opening.open_block.Tie as tie
 
 put-requires : tie.Need-put-requires
 put-requires c κs = search needs
@@ -19,8 +19,8 @@ unfolding openingSaid
 returns c =
     let args = c .before .before .before .before .before .before .before .args in
     let put = c .before .before .before .put in (
-      open-full (now (args .file)) (now (args .opened)) (args .from) (args .number) (args .place) (args .least) (args .most) (args .offset)
-          (args .size) (args .used) _ (put .ensures .0) (not-true _ (c .if1 .taken)),
+      open-full (now (args .file)) (now (args .opened)) (args .from) (args .named) (args .used) _ (put .ensures .0) (not-true _
+          (c .if1 .taken)),
       put .ensures .1,
     )
 
@@ -34,12 +34,12 @@ returns-2 : tie.Need-returns-2
 returns-2 c =
     let args = c .before .before .before .before .before .before .before .before .args in
     let put = c .before .before .before .before .put in (
-      open-placed (now (args .file)) (now (args .opened)) (args .from) (args .number) (args .place) (args .least) (args .most) (args .offset)
-          (args .size) (args .used) _ (put .ensures .0) (not-false _ (c .before .if1 .left)) _ (c .named-block .ensures),
+      open-placed (now (args .file)) (now (args .opened)) (args .from) (args .named) (args .used) _ (put .ensures .0) (not-false _
+          (c .before .if1 .left)) _ (c .named-block .ensures),
       put .ensures .1,
     )
 
-pub open-spec : {M : Type 1} → statement M
-open-spec =
+pub open-block-spec : {M : Type 1} → statement M
+open-block-spec =
     tie.close
     (tie.spec put-requires same-length returns named-block-requires same-length-2 returns-2)
