@@ -3,30 +3,34 @@
 use mathlib.Core.Path.{_≡_, refl, sym, ap, _∙_, subst}
 use mathlib.Core.Bool.{Bool, true, false, cond}
 use mathlib.Core.List.{List, [], _∷_, _++_, flatMap, append-nil}
-use Prim.Native.Nat.{ℕ, _+_, _-_, _^_, _≤_, _<_}
+use Prim.Native.Nat.{ℕ, zero, suc, _+_, _-_, _^_, _≤_, _<_}
 use native.Mathlib.Omega.{arith}
+use lib.Dec.{leb}
 use lib.ListN.{length, drop, length-append, length-drop}
 use lib.Seq.{append-snoc}
+use borrow.Author.Tests.{le-leb, lt-leb, leb-true, leb-false}
 use Rattle.byte_string.specs.Order.{begins}
 use Rattle.byte_string.proofs.PrefixLaws.{length-begins}
 use Rattle.sha256.specs.declared.State.{State}
 use Rattle.sha256.specs.Sha256.{sha256}
 use Rattle.sha256.specs.State.{begun, absorbed, finished, Holds, none, more}
 use Rattle.sha256.proofs.StateLaws.{Holds⇒sha256, sha256-length}
-use Rattle.outcome.specs.Outcome.{answer, refused}
+use Rattle.outcome.specs.Outcome.{Outcome, answer, refused, must}
+use Rattle.outcome.proofs.OutcomeLaws.{kept, broken}
 use Rattle.part.specs.Part.{part}
-use Rattle.outcome.proofs.OutcomeLaws.{answer-injective, refused-not-answer}
 use Rattle.part.proofs.PartLaws.{length-part}
-use Rattle.items.proofs.ItemsLaws.{Row, row-end, row-more}
+use Rattle.items.specs.Items.{soundFrom}
+use Rattle.items.proofs.ItemsLaws.{sound-end, sound-step, sound-refused}
+use Rattle.items.proofs.GoingLaws.{Going, going-start, going-end, going-refused, going-more}
 use Rattle.lists.proofs.ListsLaws.{flatMap-append}
 use Rattle.framing.specs.declared.Frame.{Frame}
 use Rattle.framing.specs.Frame.{frameAt}
-use Rattle.block.specs.Block.{Block, isData, blocksAt, blockStep}
-use Rattle.framing.proofs.FrameLaws.{Framed}
-use Rattle.block.proofs.BlockLaws.{block⇒BlockRead}
-use Rattle.block.proofs.HeldLaws.{block-frame}
-use Rattle.block.proofs.TileLaws.{blocks⇒row, blockStep⁻¹}
-use Rattle.tree.specs.Stages.{payloads}
+use Rattle.framing.proofs.FrameLaws.{Framed, frame⇒Framed}
+use Rattle.block.specs.Block.{Block, isData, blocksAt}
+use Rattle.block.specs.Laid.{laidIn, laidAt, laidFrom}
+use Rattle.block.proofs.LaidLaws.{laid-found, laid-refused, blocks⇒laid}
+use Rattle.tree.specs.Stages.{payloads, hashRuleOf}
+use Rattle.check_hash.specs.Hash.{hashOf}
 
 -- ---- payloads
 
@@ -34,98 +38,122 @@ use Rattle.tree.specs.Stages.{payloads}
 abbrev pub payloadOf : List ℕ → Frame → List ℕ
 payloadOf file f = cond (isData (f .level)) (part file (f .body + 1) (f .end - (f .body + 1))) []
 
-pub payloads-snoc : (file : List ℕ) (bs : List Block) (b : Block) → payloads file (bs ++ (b ∷ [])) ≡ payloads file bs ++ payloadOf file (b .frame)
+-- the state after a block
+abbrev pub stateAfter : List ℕ → State → Frame → State
+stateAfter file s f = cond (isData (f .level)) (absorbed s (part file (f .body + 1) (f .end - (f .body + 1)))) s
+
+payloads-snoc : (file : List ℕ) (bs : List Block) (b : Block) → payloads file (bs ++ (b ∷ [])) ≡ payloads file bs ++ payloadOf file (b .frame)
 unfolding payloads flatMap
 payloads-snoc file bs b = flatMap-append _ bs (b ∷ []) ∙ ap (λ (l : List ℕ). payloads file bs ++ l) (append-nil (payloadOf file (b .frame)))
 
--- the state behind a block more
-pub holds-passed : (file : List ℕ) (m : List ℕ) (s : State) (f : Frame) → Holds m s
-    → Holds (m ++ payloadOf file f) (cond (isData (f .level)) (absorbed s (part file (f .body + 1) (f .end - (f .body + 1)))) s)
-holds-passed file m s f h = go (isData (f .level))
+holds-after : (file : List ℕ) (m : List ℕ) (s : State) (f : Frame) → Holds m s → Holds (m ++ payloadOf file f) (stateAfter file s f)
+holds-after file m s f h = go (isData (f .level))
   where
-    go : (b : Bool) → Holds (m ++ cond b (part file (f .body + 1) (f .end - (f .body + 1))) []) (cond b (absorbed s (part file (f .body + 1) (f .end - (f .body + 1)))) s)
+    go : (b : Bool)
+        → Holds (m ++ cond b (part file (f .body + 1) (f .end - (f .body + 1))) []) (cond b (absorbed s (part file (f .body + 1) (f .end - (f .body + 1)))) s)
     go true = more h (part file (f .body + 1) (f .end - (f .body + 1)))
     go false = subst (λ (l : List ℕ). Holds l s) (sym (append-nil m)) h
 
 -- ---- the pass
 
+-- blocks, and then these
+abbrev pub then-these : List Block → List Block → List Block
+then-these rest seen = seen ++ rest
+
 -- the blocks seen, which the state holds, and those to come
-pub record Passed (file : List ℕ) (bs : List Block) (at : ℕ) (s : State) : Type 0 where
+pub record Passed (file : List ℕ) (from at : ℕ) (s : State) : Type 0 where
   pub seen : List Block
-  pub coming : List Block
-  pub all : bs ≡ seen ++ coming
-  pub row : Row (blockStep file) (length file) at coming
+  pub going : Going then-these (laidAt file) (length file) (laidFrom file from) at seen
   pub holds : Holds (payloads file seen) s
 
-pub passed-start : (file : List ℕ) (from : ℕ) (bs : List Block) → blocksAt file from ≡ answer bs → Passed file bs from begun
-unfolding payloads flatMap
-passed-start file from bs e = record { seen = []; coming = bs; all = refl; row = blocks⇒row file from bs e; holds = none }
+pub passed-start : (file : List ℕ) (from : ℕ) → Passed file from from begun
+unfolding payloads flatMap laidFrom
+passed-start file from = record { seen = []; going = going-start _ _ _ _ from [] refl; holds = none }
 
-pub passed-end : (file : List ℕ) (bs : List Block) (at : ℕ) (s : State) → Passed file bs at s → length file ≤ at → Holds (payloads file bs) s
-passed-end file bs at s p h = go (p .coming) (p .all) (p .row)
+module _ (file : List ℕ) (from at : ℕ) (s : State) (p : Passed file from at s) where
+  all-seen : laidFrom file from ≡ p .seen ++ [] → Holds (payloads file (laidFrom file from)) s
+  all-seen e = subst (λ (l : List Block). Holds (payloads file l) s) (sym (e ∙ append-nil (p .seen))) (p .holds)
+
+  pub passed-end : length file ≤ at → Holds (payloads file (laidFrom file from)) s
+  passed-end h = all-seen (going-end _ _ _ _ at (p .seen) (p .going) h)
+
+  pub passed-refused : at < length file → (number place : ℕ) → frameAt file at ≡ refused number place → Holds (payloads file (laidFrom file from)) s
+  passed-refused h number place e = all-seen (going-refused _ _ _ _ at (p .seen) h (p .going) number place (laid-refused file at number place e))
+
+  pub passed-more : at < length file → (f : Frame) → frameAt file at ≡ answer f → (next : State) → next ≡ stateAfter file s f → Passed file from (at + f .size) next
+  unfolding laidIn
+  passed-more h f e next same =
+      let l = frame⇒Framed file at f e in
+      let number = l .number in
+      let some = l .some in
+      let sized = l .sized in
+      let b = laidIn file f in
+      record {
+        seen = p .seen ++ (b ∷ []);
+        going =
+            going-more _ _ _ _ at (p .seen) h (p .going) (record { item = b; next = at + f .size }) (laid-found file at f e) (omega arith)
+            (p .seen ++ (b ∷ [])) (λ rest. sym (append-snoc (p .seen) b rest));
+        holds =
+            subst (Holds (payloads file (p .seen ++ (b ∷ [])))) (sym same)
+            (subst (λ (m : List ℕ). Holds m (stateAfter file s f)) (sym (payloads-snoc file (p .seen) b)) (holds-after file (payloads file (p .seen)) s f (p .holds)));
+      }
+
+-- ---- the payloads are no longer than the file
+
+payload-short : (file : List ℕ) (at : ℕ) (f : Frame) → Framed file at f → length (payloadOf file f) ≤ f .size
+payload-short file at f l = go (isData (f .level))
   where
-    go : (coming : List Block) → bs ≡ p .seen ++ coming → Row (blockStep file) (length file) at coming → Holds (payloads file bs) s
-    go coming all (row-end e) = subst (λ (l : List Block). Holds (payloads file l) s) (sym (all ∙ append-nil (p .seen))) (p .holds)
-    go coming all (row-more x rest before e r) = absurd (omega arith)
-
--- a frame that cannot be read is no block
-pub passed-refused : (file : List ℕ) (bs : List Block) (at : ℕ) (s : State) → Passed file bs at s → at < length file → (number place : ℕ) → frameAt file at ≡ refused number place → ⊥
-passed-refused file bs at s p h number place q = go (p .coming) (p .row)
-  where
-    go : (coming : List Block) → Row (blockStep file) (length file) at coming → ⊥
-    go coming (row-end e) = omega arith
-    go coming (row-more x rest before e r) = refused-not-answer (x .item .frame) number place (sym q ∙ block-frame file at (x .item) (blockStep⁻¹ file at x e .read))
-
-pub passed-more : (file : List ℕ) (bs : List Block) (at : ℕ) (s : State) → Passed file bs at s → at < length file → (f : Frame) → frameAt file at ≡ answer f
-    → (next : State) → next ≡ cond (isData (f .level)) (absorbed s (part file (f .body + 1) (f .end - (f .body + 1)))) s → Passed file bs (at + f .size) next
-passed-more file bs at s p h f q next same = go (p .coming) (p .all) (p .row)
-  where
-    go : (coming : List Block) → bs ≡ p .seen ++ coming → Row (blockStep file) (length file) at coming → Passed file bs (at + f .size) next
-    go coming all (row-end e) = absurd (omega arith)
-    go coming all (row-more x rest before e r) =
-        let b = blockStep⁻¹ file at x e in
-        let found : x .item .frame ≡ f = answer-injective (x .item .frame) f (sym (block-frame file at (x .item) (b .read)) ∙ q) in
-        record {
-          seen = p .seen ++ (x .item ∷ []);
-          coming = rest;
-          all = all ∙ sym (append-snoc (p .seen) (x .item) rest);
-          row = subst (λ (n : ℕ). Row (blockStep file) (length file) n rest) (b .next-is ∙ ap (λ (g : Frame). at + g .size) found) r;
-          holds = subst (Holds (payloads file (p .seen ++ (x .item ∷ [])))) (sym same)
-              (subst (λ (l : List ℕ). Holds l (cond (isData (f .level)) (absorbed s (part file (f .body + 1) (f .end - (f .body + 1)))) s)) (sym (payloads-snoc file (p .seen) (x .item) ∙ ap (λ (g : Frame). payloads file (p .seen) ++ payloadOf file g) found))
-              (holds-passed file (payloads file (p .seen)) s f (p .holds)));
-        }
-
--- ---- the whole
-
-row-payloads : (file : List ℕ) (from : ℕ) (bs : List Block) → Row (blockStep file) (length file) from bs → length (payloads file bs) ≤ length file - from
-unfolding payloads flatMap
-row-payloads file from bs (row-end h) = omega arith
-row-payloads file from bs (row-more x rest h e r) =
-    let s = blockStep⁻¹ file from x e in
-    let l = block⇒BlockRead file from (x .item) (s .read) .framed in
-    let few = row-payloads file (x .next) rest r in
-    let own = go (isData (x .item .frame .level)) l in
-    let next = s .next-is in
-    let within = s .within in
-    let both = length-append (payloadOf file (x .item .frame)) (payloads file rest) in
-    omega arith
-  where
-    go : (b : Bool) → Framed file from (x .item .frame) → length (cond b (part file (x .item .frame .body + 1) (x .item .frame .end - (x .item .frame .body + 1))) []) ≤ x .item .frame .size
-    go true l =
+    go : (b : Bool) → length (cond b (part file (f .body + 1) (f .end - (f .body + 1))) []) ≤ f .size
+    go true =
         let number = l .number in
         let some = l .some in
         let sized = l .sized in
         let within = l .within in
-        let long = length-part file (x .item .frame .body + 1) (x .item .frame .end - (x .item .frame .body + 1)) (omega arith) in
+        let long = length-part file (f .body + 1) (f .end - (f .body + 1)) (omega arith) in
         omega arith
-    go false l = omega arith
+    go false = omega arith
 
-pub payloads-short : (file : List ℕ) (from : ℕ) (bs : List Block) → blocksAt file from ≡ answer bs → length (payloads file bs) ≤ length file
-payloads-short file from bs e = let few = row-payloads file from bs (blocks⇒row file from bs e) in omega arith
+laid-short : (file : List ℕ) (fuel at : ℕ) → length (payloads file (soundFrom (laidAt file) (length file) fuel at)) ≤ length file - at
+unfolding payloads flatMap soundFrom laidIn
+laid-short file zero at = omega arith
+laid-short file (suc fuel) at = by-end (leb (length file) at) refl (laid-short file fuel)
+  where
+    Short : List Block → Type 0
+    Short bs = length (payloads file bs) ≤ length file - at
 
-pub payloads-sha256 : (file : List ℕ) (from : ℕ) (bs : List Block) → blocksAt file from ≡ answer bs → length file ≤ 2 ^ 30 → (s : State) → Holds (payloads file bs) s
-    → finished s ≡ sha256 (payloads file bs)
-payloads-sha256 file from bs e short s h = let few = payloads-short file from bs e in Holds⇒sha256 (payloads file bs) s h (omega arith)
+    by-frame : at < length file → (o : Outcome Frame) → frameAt file at ≡ o
+        → ((next : ℕ) → length (payloads file (soundFrom (laidAt file) (length file) fuel next)) ≤ length file - next)
+        → Short (soundFrom (laidAt file) (length file) (suc fuel) at)
+    by-frame h (refused number place) e ih =
+        subst Short (sym (sound-refused (laidAt file) (length file) fuel at number place h (laid-refused file at number place e))) (omega arith)
+    by-frame h (answer f) e ih =
+        subst Short (sym (sound-step (laidAt file) (length file) fuel at (record { item = laidIn file f; next = at + f .size }) h (laid-found file at f e))) (both f (frame⇒Framed file at f e) (ih (at + f .size)))
+      where
+        both : (f : Frame) → Framed file at f → length (payloads file (soundFrom (laidAt file) (length file) fuel (at + f .size))) ≤ length file - (at + f .size)
+            → Short (laidIn file f ∷ soundFrom (laidAt file) (length file) fuel (at + f .size))
+        both f l rest =
+            let own = payload-short file at f l in
+            let within = l .within in
+            let tail : List Block = soundFrom (laidAt file) (length file) fuel (at + f .size) in
+            let sum : length (payloads file (laidIn file f ∷ tail)) ≡ length (payloadOf file f) + length (payloads file tail)
+            = length-append (payloadOf file f) (payloads file tail) in
+            omega arith
+
+    by-end : (b : Bool) → leb (length file) at ≡ b
+        → ((next : ℕ) → length (payloads file (soundFrom (laidAt file) (length file) fuel next)) ≤ length file - next)
+        → Short (soundFrom (laidAt file) (length file) (suc fuel) at)
+    by-end true p ih = subst Short (sym (sound-end (laidAt file) (length file) (suc fuel) at (leb-true _ _ p))) (omega arith)
+    by-end false p ih = by-frame (leb-false _ _ p) (frameAt file at) refl ih
+
+-- so the state gives their hash
+pub holds-hash : (file : List ℕ) (from : ℕ) → length file ≤ 2 ^ 30 → (s : State) → Holds (payloads file (laidFrom file from)) s
+    → finished s ≡ sha256 (payloads file (laidFrom file from))
+unfolding laidFrom
+holds-hash file from short s h =
+    let few = laid-short file (length file - from) from in
+    Holds⇒sha256 (payloads file (laidFrom file from)) s h (omega arith)
+
+-- ---- the rule
 
 -- a file that ends before the hash has no right one
 pub hash-missing : (file m : List ℕ) → length file < 40 → false ≡ begins (sha256 m) (drop 40 file)
@@ -138,3 +166,18 @@ hash-missing file m h = go (begins (sha256 m) (drop 40 file)) refl
         let digest = sha256-length m in
         let left = length-drop 40 file in
         absurd (omega arith)
+
+module _ (file : List ℕ) (from : ℕ) where
+  pub hash-long : 2 ^ 30 < length file → hashOf file from ≡ refused 1 0
+  unfolding hashOf
+  hash-long h = broken (leb (length file) (2 ^ 30)) 1 0 (hashRuleOf file (laidFrom file from)) (lt-leb _ _ h)
+
+  -- the test decides
+  pub hash-tested : length file ≤ 2 ^ 30 → (right : Bool) → right ≡ begins (sha256 (payloads file (laidFrom file from))) (drop 40 file) → hashOf file from ≡ must right 25 0
+  unfolding hashOf hashRuleOf
+  hash-tested short right e = kept (leb (length file) (2 ^ 30)) 1 0 _ (le-leb _ _ short) ∙ ap (λ (b : Bool). must b 25 0) (sym e)
+
+  -- of a file whose blocks are accepted the rule is judged
+  pub hash-accepted : length file ≤ 2 ^ 30 → (bs : List Block) → blocksAt file from ≡ answer bs → hashOf file from ≡ hashRuleOf file bs
+  unfolding hashOf
+  hash-accepted short bs e = kept (leb (length file) (2 ^ 30)) 1 0 _ (le-leb _ _ short) ∙ ap (hashRuleOf file) (blocks⇒laid file from bs e)

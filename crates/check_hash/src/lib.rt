@@ -2,36 +2,60 @@
 ghost use Prim.Native.Nat.{_+_, _-_, _≤_, _<_, _^_};
 ghost use mathlib.Core.Path.{_≡_};
 ghost use mathlib.Core.Bool.{cond};
-ghost use mathlib.Core.List.{List};
 ghost use lib.ListN.{length, drop};
 ghost use Rattle.byte_string.specs.Order.{begins};
 ghost use Rattle.sha256.specs.Sha256 as sha;
 ghost use Rattle.sha256.specs.State.{absorbed, Holds};
-ghost use Rattle.outcome.specs.Outcome.{answer};
+ghost use Rattle.outcome.specs.Refusal.{refusalOf};
 ghost use Rattle.part.specs.Part.{part};
-ghost use Rattle.block.specs.Block.{Block, isData, blocksAt};
+ghost use Rattle.block.specs.Block.{isData};
+ghost use Rattle.block.specs.Laid.{laidFrom};
 ghost use Rattle.tree.specs.Stages.{payloads};
+ghost use Rattle.check_hash.specs.Hash.{hashOf};
 use framing::Frame;
 use framing::FrameOutcome;
+use header::Header;
+use outcome::Refusal;
 use sha256::State;
 
-// The state behind a block: a data block's payload is absorbed, other blocks are passed over.
-fn passed(file: &[u8], state: State, f: Frame) -> State
-    requires { ⌜ (f .body < f .end) × (f .end ≤ length (now file)) ⌝ }
-    ensures { λ r. ⌜ r ≡ cond (isData (f .level)) (absorbed state (part (now (file .entry)) (f .body + 1) (f .end - (f .body + 1)))) state ⌝ }
+// Checks the hash of a file whose blocks begin at `from`: 25 where it is wrong. A file that is too long gets 1, since its hash is not taken.
+pub fn check_hash(file: &[u8], from: usize) -> Refusal
+    ensures { λ r. ⌜ refusalOf r ≡ hashOf (now (file .entry)) from ⌝ }
 {
-    let from = f.body + 1;
-    let end = f.end;
-    if f.level == 0 {
-        sha256::absorb(state, &file[from..end])
-    } else {
-        state
+    if Header::MAX_FILE < file.len() {
+        return Refusal {
+            number: 1,
+            place: 0,
+        };
+    }
+    if hash_right(file, from) {
+        return Refusal {
+            number: 0,
+            place: 0,
+        };
+    }
+    Refusal {
+        number: 25,
+        place: 0,
     }
 }
 
-// The state behind all blocks from an offset to the file's end.
+// Whether the header's hash is that of the blocks from an offset on.
+fn hash_right(file: &[u8], from: usize) -> bool
+    requires { ⌜ length (now file) ≤ 2 ^ 30 ⌝ }
+    ensures { λ r. ⌜ r ≡ begins (sha.sha256 (payloads (now (file .entry)) (laidFrom (now (file .entry)) from))) (drop 40 (now (file .entry))) ⌝ }
+{
+    if file.len() < Header::HASH_AT {
+        return false;
+    }
+    let state = hashed(file, from);
+    let digest = sha256::finish(state);
+    byte_string::begins_with(&digest, &file[Header::HASH_AT..])
+}
+
+// The state after all blocks from an offset on, up to the first place where no frame can be read.
 fn hashed(file: &[u8], from: usize) -> State
-    ensures { λ r. ⌜ ((bs : List Block) → blocksAt (now (file .entry)) from ≡ answer bs → Holds (payloads (now (file .entry)) bs) r) ⌝ }
+    ensures { λ r. ⌜ Holds (payloads (now (file .entry)) (laidFrom (now (file .entry)) from)) r ⌝ }
 {
     let mut state = sha256::begin();
     let mut at = from;
@@ -49,15 +73,16 @@ fn hashed(file: &[u8], from: usize) -> State
     state
 }
 
-// Whether the header's hash is right, in a file whose blocks from `from` on are sound.
-pub fn hash_right(file: &[u8], from: usize) -> bool
-    ensures { λ r. ⌜ ((bs : List Block) → blocksAt (now (file .entry)) from ≡ answer bs → length (now (file .entry)) ≤ 2 ^ 30
-        → r ≡ begins (sha.sha256 (payloads (now (file .entry)) bs)) (drop 40 (now (file .entry)))) ⌝ }
+// The state after a block: a data block's payload is absorbed, other blocks are passed over.
+fn passed(file: &[u8], state: State, f: Frame) -> State
+    requires { ⌜ (f .body < f .end) × (f .end ≤ length (now file)) ⌝ }
+    ensures { λ r. ⌜ r ≡ cond (isData (f .level)) (absorbed state (part (now (file .entry)) (f .body + 1) (f .end - (f .body + 1)))) state ⌝ }
 {
-    if file.len() < 40 {
-        return false;
+    let from = f.body + 1;
+    let end = f.end;
+    if f.level == 0 {
+        sha256::absorb(state, &file[from..end])
+    } else {
+        state
     }
-    let state = hashed(file, from);
-    let digest = sha256::finish(state);
-    byte_string::begins_with(&digest, &file[40..])
 }

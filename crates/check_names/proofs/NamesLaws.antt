@@ -1,126 +1,70 @@
--- Laws of one entry: whether it names a fitting block, as the search and the frame there tell.
+-- Laws of 18, 19 and 20 as a whole: their ways out, and what they say of an accepted file.
 -- Assumes nothing.
-use mathlib.Core.Path.{_≡_, refl, sym, ap, _∙_}
-use mathlib.Core.Bool.{Bool, true, false, _&&_, _||_}
-use mathlib.Core.List.{List, [], _∷_, _++_, List·Memᴰ, List·Memᴰ·head, List·Memᴰ·tail}
-use Prim.Native.Nat.{ℕ, _+_, _≤_, _<_}
-use native.Mathlib.Omega.{arith}
-use lib.Dec.{eqb}
-use lib.ListN.{getD}
-use borrow.Author.Tests.{eq-eqb, eqb-true}
-use Rattle.outcome.specs.Outcome.{answer, refused}
-use Rattle.lists.specs.Lists.{any, all}
-use Rattle.outcome.proofs.OutcomeLaws.{answer-injective, answer-not-refused}
-use Rattle.framing.specs.declared.Frame.{Frame}
-use Rattle.framing.specs.Frame.{frameAt}
-use Rattle.payload.specs.Payload.{Entry}
-use Rattle.block.specs.Block.{Block}
+use mathlib.Core.Path.{_≡_, sym, ap, _∙_}
+use mathlib.Core.Bool.{Bool, cond}
+use mathlib.Core.List.{List}
+use Prim.Native.Nat.{ℕ, _^_, _≤_, _<_}
+use lib.Dec.{leb}
+use lib.ListN.{length}
+use borrow.Author.Tests.{le-leb, lt-leb, eq-eqb, ne-eqb}
+use Rattle.outcome.specs.Outcome.{answer, refused, _>>_, must}
+use Rattle.outcome.specs.declared.Refusal.{Refusal}
+use Rattle.outcome.specs.Refusal.{refusalOf}
+use Rattle.outcome.proofs.OutcomeLaws.{kept, broken, after-answer, after-refused}
+use Rattle.block.specs.Block.{Block, blocksAt}
 use Rattle.block.specs.Survey.{ordinary}
-use Rattle.block.proofs.HeldLaws.{block-frame}
-use Rattle.tree.specs.Tree.{names}
-use Rattle.lists.proofs.ListsLaws.{member-any}
-use Rattle.check_names.specs.Starts.{startsOf, StartsRise, Located}
-use Rattle.check_names.specs.Names.{Kept, Named}
-use Rattle.check_names.proofs.StartsLaws.{AtIndex, index-of, length-starts, ordinary-read, ordinary-unique}
-use Rattle.check_names.proofs.WordLaws.{kept-block, kept-start-at, kept-rise}
+use Rattle.block.specs.Laid.{laidFrom}
+use Rattle.block.proofs.LaidLaws.{blocks⇒laid}
+use Rattle.tree.specs.Stages.{each, entriesFit, namedRightly, namingOf}
+use Rattle.check_names.specs.Names.{namesOf, entriesOf, Kept, AllSeen}
 
--- ---- lists
+module _ (file : List ℕ) (from root places : ℕ) where
+  abbrev bs : List Block
+  bs = laidFrom file from
 
-module _ {A : Type 0} (test : A → Bool) where
-  pub any-false : (xs : List A) → ((x : A) → List·Memᴰ x xs → test x ≡ false) → any test xs ≡ false
-  unfolding any
-  any-false [] h = refl
-  any-false (y ∷ xs) h = ap (λ (b : Bool). b || any test xs) (h y (List·Memᴰ·head refl)) ∙ any-false xs (λ x m. h x (List·Memᴰ·tail m))
+  -- a file that is too long: 1
+  pub names-long : 2 ^ 30 < length file → refusalOf (record { number = 1; place = 0 }) ≡ namesOf file from root places
+  unfolding namesOf refusalOf
+  names-long h = sym (broken (leb (length file) (2 ^ 30)) 1 0 _ (lt-leb (length file) (2 ^ 30) h))
 
-  pub all-append : (xs ys : List A) → all test (xs ++ ys) ≡ (all test xs && all test ys)
-  unfolding all
-  all-append [] ys = refl
-  all-append (x ∷ xs) ys = ap (λ (b : Bool). test x && b) (all-append xs ys) ∙ assoc (test x)
-    where
-      assoc : (b : Bool) → (b && (all test xs && all test ys)) ≡ ((b && all test xs) && all test ys)
-      assoc true = refl
-      assoc false = refl
+  module _ (short : length file ≤ 2 ^ 30) where
+    -- one that is not: 18, then 19 and 20
+    names-short : namesOf file from root places ≡ (must (leb (length (ordinary bs)) places) 18 0 >> namingOf bs root)
+    unfolding namesOf
+    names-short = kept (leb (length file) (2 ^ 30)) 1 0 _ (le-leb (length file) (2 ^ 30) short)
 
--- ---- the definition
+    -- of a file whose blocks are accepted
+    pub names-accepted : (all : List Block) → blocksAt file from ≡ answer all
+        → namesOf file from root places ≡ (must (leb (length (ordinary all)) places) 18 0 >> namingOf all root)
+    names-accepted all e =
+        names-short ∙ ap (λ (l : List Block). must (leb (length (ordinary l)) places) 18 0 >> namingOf l root) (blocks⇒laid file from all e)
 
-pub names-true : (bs : List Block) (level : ℕ) (e : Entry) (c : Block) → List·Memᴰ c (ordinary bs)
-    → c .frame .start ≡ e .offset → c .frame .size ≡ e .size → c .frame .level + 1 ≡ level → names bs level e ≡ true
-unfolding names
-names-true bs level e c m start size lower =
-    member-any _ (ordinary bs) c m (rw (eq-eqb (c .frame .start) (e .offset) start, eq-eqb (c .frame .size) (e .size) size, eq-eqb (c .frame .level + 1) level lower))
+    module _ (n : ℕ) (many : n ≡ length (ordinary bs)) where
+      -- no room: 18
+      pub names-full : places < n → refusalOf (record { number = 18; place = 0 }) ≡ namesOf file from root places
+      unfolding refusalOf
+      names-full few =
+          sym (names-short ∙ broken (leb (length (ordinary bs)) places) 18 0 _ (ap (λ (k : ℕ). leb k places) (sym many) ∙ lt-leb n places few))
 
-pub names-false : (bs : List Block) (level : ℕ) (e : Entry)
-    → ((c : Block) → List·Memᴰ c (ordinary bs) → c .frame .start ≡ e .offset → c .frame .size ≡ e .size → c .frame .level + 1 ≡ level → ⊥) → names bs level e ≡ false
-unfolding names
-names-false bs level e none =
-    any-false _ (ordinary bs)
-    (λ c m. not-all (eqb (c .frame .start) (e .offset)) (eqb (c .frame .size) (e .size)) (eqb (c .frame .level + 1) level)
-    (λ x y z. none c m (eqb-true (c .frame .start) (e .offset) x) (eqb-true (c .frame .size) (e .size) y) (eqb-true (c .frame .level + 1) level z)))
-  where
-    not-all : (x y z : Bool) → (x ≡ true → y ≡ true → z ≡ true → ⊥) → ((x && y) && z) ≡ false
-    not-all true true true h = absurd (h refl refl refl)
-    not-all true true false h = refl
-    not-all true false z h = refl
-    not-all false y z h = refl
+      -- room enough: 19, then 20
+      names-room : n ≤ places → namesOf file from root places ≡ namingOf bs root
+      names-room enough =
+          names-short ∙ kept (leb (length (ordinary bs)) places) 18 0 _ (ap (λ (k : ℕ). leb k places) (sym many) ∙ le-leb n places enough)
 
--- ---- the test of the code
+      module _ (enough : n ≤ places) (r : Refusal) (work : List ℕ) (s : AllSeen file from work n r) where
+        -- 19 decides
+        pub names-broken : (r .number ≡ 0 → ⊥) → refusalOf r ≡ namesOf file from root places
+        unfolding namingOf refusalOf
+        names-broken other =
+            let told = ap (λ (b : Bool). cond b (answer tt) (refused (r .number) (r .place))) (ne-eqb (r .number) 0 other) in
+            told ∙ sym (names-room enough ∙ after-refused (each (entriesFit bs) 19 (ordinary bs)) _ (r .number) (r .place) (sym (s .fault) ∙ told))
 
-module _ (file : List ℕ) (from : ℕ) (bs : List Block) (seen : List Entry) (work : List ℕ) (n : ℕ) (k : Kept file from bs seen work n) (e : Entry) (level i : ℕ)
-    (s : StartsRise work n → Located work n (e .offset) i) where
-  searched : Located work n (e .offset) i
-  searched = s (kept-rise file from bs seen work n k)
-
-  -- an offset that is not found is no block's
-  pub named-none : n ≤ i → Named bs level e n n
-  unfolding startsOf
-  named-none past = record { fits = λ h. absurd (omega arith); placed = λ h. absurd (omega arith); unfit = λ h. names-false bs level e none }
-    where
-      none : (c : Block) → List·Memᴰ c (ordinary bs) → c .frame .start ≡ e .offset → c .frame .size ≡ e .size → c .frame .level + 1 ≡ level → ⊥
-      none c m start size lower =
-          let at = index-of (ordinary bs) c m in
-          let many = k .many in
-          let long = length-starts bs in
-          let inside = at .1 in
-          let low : at .0 < n = omega arith in
-          searched .missing past (at .0) low (kept-start-at file from bs seen work n k (at .0) low ∙ at .2 ∙ start)
-
-  module _ (inside : i < n) where
-    found : AtIndex (ordinary bs) i
-    found = kept-block file from bs seen work n k i inside
-
-    place : getD (startsOf bs) i 0 ≡ e .offset
-    place = sym (kept-start-at file from bs seen work n k i inside) ∙ searched .found inside
-
-    found-start : found .block .frame .start ≡ e .offset
-    unfolding startsOf
-    found-start = sym (found .starts) ∙ place
-
-    found-frame : frameAt file (e .offset) ≡ answer (found .block .frame)
-    found-frame =
-        ap (frameAt file) (sym found-start)
-        ∙ block-frame file (found .block .frame .start) (found .block) (ordinary-read file from bs (k .read) (found .block) (found .member) .read)
-
-    pub named-framed : (number p : ℕ) → frameAt file (e .offset) ≡ refused number p → ⊥
-    named-framed number p r = answer-not-refused (found .block .frame) number p (sym found-frame ∙ r)
-
-    -- another full size, or another level
-    pub named-unfit : (f : Frame) → frameAt file (e .offset) ≡ answer f → (f .size ≡ e .size → f .level + 1 ≡ level → ⊥) → Named bs level e n n
-    named-unfit f r other = record { fits = λ h. absurd (omega arith); placed = λ h. absurd (omega arith); unfit = λ h. names-false bs level e none }
-      where
-        same : found .block .frame ≡ f
-        same = answer-injective (found .block .frame) f (sym found-frame ∙ r)
-
-        none : (c : Block) → List·Memᴰ c (ordinary bs) → c .frame .start ≡ e .offset → c .frame .size ≡ e .size → c .frame .level + 1 ≡ level → ⊥
-        none c m start size lower =
-            let one = ordinary-unique file from bs (k .read) c (found .block) m (found .member) (start ∙ sym found-start) in
-            let frame : c .frame ≡ f = ap (λ (b : Block). b .frame) one ∙ same in
-            other (ap (λ (g : Frame). g .size) (sym frame) ∙ size) (ap (λ (g : Frame). g .level + 1) (sym frame) ∙ lower)
-
-    pub named-fit : (f : Frame) → frameAt file (e .offset) ≡ answer f → f .size ≡ e .size → f .level + 1 ≡ level → Named bs level e n i
-    named-fit f r size lower =
-        let same = answer-injective (found .block .frame) f (sym found-frame ∙ r) in
-        record {
-          fits = λ h. names-true bs level e (found .block) (found .member) found-start (ap (λ (g : Frame). g .size) same ∙ size) (ap (λ (g : Frame). g .level + 1) same ∙ lower);
-          placed = λ h. place;
-          unfit = λ h. absurd (omega arith);
-        }
+        -- 20 decides
+        pub names-counted : r .number ≡ 0 → (q : Refusal)
+            → (Kept file from (entriesOf (ordinary bs)) work n → refusalOf q ≡ each (namedRightly bs root) 20 (ordinary bs))
+            → refusalOf q ≡ namesOf file from root places
+        unfolding namingOf refusalOf
+        names-counted none q counted =
+            let told = ap (λ (b : Bool). cond b (answer tt) (refused (r .number) (r .place))) (eq-eqb (r .number) 0 none) in
+            counted (s .kept none)
+            ∙ sym (names-room enough ∙ after-answer (each (entriesFit bs) 19 (ordinary bs)) _ tt (sym (s .fault) ∙ told))

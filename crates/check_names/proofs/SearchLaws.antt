@@ -9,7 +9,7 @@ use lib.Dec.{ltb}
 use borrow.Author.Tests.{ltb-true, ltb-false}
 use Rattle.check_names.specs.Starts.{startAt, StartsRise, Located}
 
--- what is below `low` is below the target, and what is at or behind `high` is above it
+-- what is below `low` is below the target, and what is at or after `high` is above it
 pub record Bracket (work : List ℕ) (n target low high : ℕ) : Type 0 where
   pub ordered : low ≤ high
   pub within : high ≤ n
@@ -41,7 +41,7 @@ module _ (work : List ℕ) (n target : ℕ) where
         go : StartsRise work n → (k : ℕ) → k < middle + 1 → (b : Bool) → ltb k middle ≡ b → startAt work k < target
         go rise k l true e = let before = ltb-true k middle e in let inside = p .within in let earlier = rise k middle before (omega arith) in omega arith
         go rise k l false e =
-            let behind = ltb-false k middle e in
+            let past = ltb-false k middle e in
             let same : middle ≡ k = omega arith in
             subst (λ (j : ℕ). startAt work j < target) same less
 
@@ -70,4 +70,4 @@ module _ (work : List ℕ) (n target : ℕ) where
       where
         go : (j : ℕ) → j < n → startAt work j ≡ target → (b : Bool) → ltb j low ≡ b → ⊥
         go j m same true e = let less = p .below rise j (ltb-true j low e) in omega arith
-        go j m same false e = let behind = ltb-false j low e in let more = p .above rise j (omega arith) m in omega arith
+        go j m same false e = let past = ltb-false j low e in let more = p .above rise j (omega arith) m in omega arith

@@ -1,26 +1,23 @@
 -- Laws of the starts of the ordinary blocks: they rise strictly, and which block stands at an index.
 -- Assumes nothing.
 use mathlib.Core.Path.{_≡_, refl, sym, ap, _∙_}
-use mathlib.Core.Bool.{Bool, true, false, cond}
+use mathlib.Core.Bool.{Bool, cond}
 use mathlib.Core.Logic.{_⊎_, inl, inr}
 use mathlib.Core.List.{List, [], _∷_, _++_, map, map-append, List·Memᴰ, List·Memᴰ·head, List·Memᴰ·tail, List·Memᴰ·not-nil, List·Memᴰ·cases-cons}
 use Prim.Native.Nat.{ℕ, zero, suc, _+_, _≤_, _<_}
 use native.Mathlib.Omega.{arith}
 use native.Mathlib.Numerals.{add-one}
-use lib.Dec.{leb}
 use lib.ListN.{length, getD, drop, take, length-map}
-use borrow.Author.Tests.{leb-true, leb-false}
-use Rattle.outcome.specs.Outcome.{answer}
+use borrow.Author.Tests.{leb-true}
 use Rattle.lists.specs.Lists.{keep}
-use Rattle.items.proofs.ItemsLaws.{Row, row-end, row-more}
-use Rattle.lists.proofs.ListsLaws.{keep-append, Ascending, ascending-unique}
-use Rattle.block.specs.Block.{Block, isOrdinary, blockStep, blocksAt}
-use Rattle.lists.proofs.ListsLaws.{keep-member}
+use Rattle.lists.proofs.ListsLaws.{keep-append, keep-member, Ascending, ascending-unique}
 use Rattle.lists.proofs.RisingLaws.{ascending-keep}
+use Rattle.block.specs.Block.{Block, isOrdinary}
 use Rattle.block.specs.Survey.{ordinary}
-use Rattle.block.proofs.BlockLaws.{ordinary-level, reserved-level, block⇒BlockRead}
-use Rattle.block.proofs.TileLaws.{tiles-all, blocks-tile, blocks⇒row, blocks-read, ReadBlock}
+use Rattle.block.specs.Laid.{laidFrom}
+use Rattle.block.proofs.BlockLaws.{ordinary-level, reserved-level}
 use Rattle.check_names.specs.Starts.{startsOf}
+use Rattle.check_names.proofs.LaidNamesLaws.{LaidBlock, laid-member, laid-ascend}
 
 -- ---- one block more
 
@@ -65,7 +62,8 @@ at-index (x ∷ xs) (suc i) h = more (at-index xs i (omega arith))
           member = List·Memᴰ·tail (p .member);
           starts = p .starts;
           rest = p .rest ∙ ap (λ (k : ℕ). p .block ∷ drop k xs) (add-one i) ∙ ap (λ (k : ℕ). p .block ∷ drop k (x ∷ xs)) (sym (add-one (suc i)));
-          front = ap (λ (k : ℕ). take k (x ∷ xs)) (add-one (suc i)) ∙ ap (λ (k : ℕ). x ∷ take k xs) (sym (add-one i)) ∙ ap (λ (l : List Block). x ∷ l) (p .front);
+          front =
+              ap (λ (k : ℕ). take k (x ∷ xs)) (add-one (suc i)) ∙ ap (λ (k : ℕ). x ∷ take k xs) (sym (add-one i)) ∙ ap (λ (l : List Block). x ∷ l) (p .front);
         }
 
 -- and the index of a block
@@ -82,45 +80,23 @@ pub length-starts : (bs : List Block) → length (startsOf bs) ≡ length (ordin
 unfolding startsOf
 length-starts bs = length-map (ordinary bs) (λ b. b .frame .start)
 
--- ---- the blocks of a file
+-- ---- the ordinary blocks of a file
 
-module _ (file : List ℕ) (from : ℕ) (bs : List Block) (e : blocksAt file from ≡ answer bs) where
-  blocks-ascend : Ascending (map (λ b. b .frame .start) bs)
-  unfolding Ascending
-  blocks-ascend = go (leb from (length file)) refl
-    where
-      none : (xs : List Block) → Row (blockStep file) (length file) from xs → length file < from → Ascending (map (λ b. b .frame .start) xs)
-      none xs (row-end h) past = tt
-      none xs (row-more s more h p r) past = absurd (omega arith)
-
-      go : (b : Bool) → leb from (length file) ≡ b → Ascending (map (λ b. b .frame .start) bs)
-      go true h = tiles-all from (length file) bs (blocks-tile file from bs e (leb-true from (length file) h))
-      go false h = none bs (blocks⇒row file from bs e) (leb-false from (length file) h)
-
-  pub starts-ascend : Ascending (startsOf bs)
+module _ (file : List ℕ) (from : ℕ) where
+  pub starts-ascend : Ascending (startsOf (laidFrom file from))
   unfolding startsOf ordinary
-  starts-ascend = ascending-keep (λ b. b .frame .start) (λ b. isOrdinary (b .frame .level)) bs blocks-ascend
+  starts-ascend = ascending-keep (λ b. b .frame .start) (λ b. isOrdinary (b .frame .level)) (laidFrom file from) (laid-ascend file from)
 
-  pub ordinary-read : (b : Block) → List·Memᴰ b (ordinary bs) → ReadBlock file from b
-  unfolding ordinary
-  ordinary-read b m = blocks-read file from bs e b (keep-member (λ c. isOrdinary (c .frame .level)) bs b m .0)
+  module _ (b : Block) (m : List·Memᴰ b (ordinary (laidFrom file from))) where
+    pub ordinary-laid : LaidBlock file b
+    unfolding ordinary
+    ordinary-laid = laid-member file from b (keep-member (λ c. isOrdinary (c .frame .level)) (laidFrom file from) b m .0)
 
-  pub ordinary-level-of : (b : Block) → List·Memᴰ b (ordinary bs) → b .frame .level ≤ 63
-  unfolding ordinary isOrdinary
-  ordinary-level-of b m = leb-true (b .frame .level) 63 (keep-member (λ c. isOrdinary (c .frame .level)) bs b m .1)
+    pub ordinary-level-of : b .frame .level ≤ 63
+    unfolding ordinary isOrdinary
+    ordinary-level-of = leb-true (b .frame .level) 63 (keep-member (λ c. isOrdinary (c .frame .level)) (laidFrom file from) b m .1)
 
-  -- ordinary blocks with the same start are the same
-  pub ordinary-unique : (b c : Block) → List·Memᴰ b (ordinary bs) → List·Memᴰ c (ordinary bs) → b .frame .start ≡ c .frame .start → b ≡ c
-  unfolding startsOf
-  ordinary-unique b c m n same = ascending-unique (λ d. d .frame .start) (ordinary bs) starts-ascend b c m n same
-
-  -- a start lies within the file
-  pub start-within : (b : Block) → List·Memᴰ b (ordinary bs) → b .frame .start < length file
-  start-within b m =
-      let q = ordinary-read b m in
-      let within = q .within in
-      let l = block⇒BlockRead file (b .frame .start) b (q .read) .framed in
-      let number = l .number in
-      let some = l .some in
-      let sized = l .sized in
-      omega arith
+    -- ordinary blocks with the same start are the same
+    pub ordinary-unique : (c : Block) → List·Memᴰ c (ordinary (laidFrom file from)) → b .frame .start ≡ c .frame .start → b ≡ c
+    unfolding startsOf
+    ordinary-unique c n same = ascending-unique (λ d. d .frame .start) (ordinary (laidFrom file from)) starts-ascend b c m n same

@@ -9,15 +9,14 @@ use lib.Dec.{ltb, eqb}
 use lib.ListN.{length, getD, set, length-append}
 use lib.Seq.{getD-set-same, getD-set-other, set-getD}
 use borrow.Author.Tests.{ltb-true, ltb-false, lt-ltb, le-ltb, eq-eqb, ne-eqb, eqb-true, eqb-false}
-use Rattle.outcome.specs.Outcome.{answer}
 use Rattle.lists.specs.Lists.{keep}
 use Rattle.lists.proofs.ListsLaws.{keep-append, ascending-at}
 use Rattle.payload.specs.Payload.{Entry}
-use Rattle.block.specs.Block.{Block, blocksAt}
 use Rattle.block.specs.Survey.{ordinary}
+use Rattle.block.specs.Laid.{laidFrom}
 use Rattle.check_names.specs.Starts.{startsOf, Begins, startAt, StartsRise}
 use Rattle.check_names.specs.Names.{timesNamed, upToTwo, wordOf, marked, Kept}
-use Rattle.check_names.proofs.StartsLaws.{AtIndex, at-index, length-starts, starts-ascend, start-within}
+use Rattle.check_names.proofs.StartsLaws.{AtIndex, at-index, length-starts, starts-ascend, ordinary-laid}
 
 -- ---- one word
 
@@ -77,66 +76,70 @@ word-unmarked seen e at other = ap (λ (n : ℕ). at + 2 ^ 30 * upToTwo n) (sym 
 
 -- ---- the words of a file
 
-module _ (file : List ℕ) (from : ℕ) (bs : List Block) where
+module _ (file : List ℕ) (from : ℕ) where
+  abbrev starts : List ℕ
+  starts = startsOf (laidFrom file from)
+
   -- at first no entry was seen
-  pub kept-start : (work : List ℕ) (n : ℕ) → length file ≤ 2 ^ 30 → blocksAt file from ≡ answer bs → length (ordinary bs) ≡ n → Begins work (startsOf bs) → Kept file from bs [] work n
+  pub kept-start : (work : List ℕ) (n : ℕ) → length file ≤ 2 ^ 30 → n ≡ length (ordinary (laidFrom file from)) → Begins work starts → Kept file from [] work n
   unfolding Begins wordOf timesNamed keep upToTwo
-  kept-start work n short read many begun =
-      let long : length (startsOf bs) ≡ n = length-starts bs ∙ many in
-      record { short = short; read = read; many = long; words = λ i h. begun i (omega arith) ∙ omega arith }
+  kept-start work n short many begun =
+      let long : length starts ≡ n = length-starts (laidFrom file from) ∙ sym many in
+      record { short = short; many = long; words = λ i h. begun i (omega arith) ∙ omega arith }
 
-  module _ (seen : List Entry) (work : List ℕ) (n : ℕ) (k : Kept file from bs seen work n) where
+  module _ (seen : List Entry) (work : List ℕ) (n : ℕ) (k : Kept file from seen work n) where
     -- the block at an index
-    pub kept-block : (i : ℕ) → i < n → AtIndex (ordinary bs) i
-    kept-block i h = let many = k .many in let long = length-starts bs in at-index (ordinary bs) i (omega arith)
+    pub kept-block : (i : ℕ) → i < n → AtIndex (ordinary (laidFrom file from)) i
+    kept-block i h = let many = k .many in let long = length-starts (laidFrom file from) in at-index (ordinary (laidFrom file from)) i (omega arith)
 
-    pub kept-small : (i : ℕ) → i < n → getD (startsOf bs) i 0 < 2 ^ 30
+    pub kept-small : (i : ℕ) → i < n → getD starts i 0 < 2 ^ 30
     unfolding startsOf
     kept-small i h =
         let b = kept-block i h in
-        let within = start-within file from bs (k .read) (b .block) (b .member) in
+        let within = ordinary-laid file from (b .block) (b .member) .within in
         let short = k .short in
-        let starts = b .starts in
+        let its = b .starts in
         omega arith
 
-    pub kept-start-at : (i : ℕ) → i < n → startAt work i ≡ getD (startsOf bs) i 0
+    pub kept-start-at : (i : ℕ) → i < n → startAt work i ≡ getD starts i 0
     unfolding startAt
-    kept-start-at i h = ap (λ (w : ℕ). w % 2 ^ 30) (k .words i h) ∙ word-start seen (getD (startsOf bs) i 0) (kept-small i h)
+    kept-start-at i h = ap (λ (w : ℕ). w % 2 ^ 30) (k .words i h) ∙ word-start seen (getD starts i 0) (kept-small i h)
 
-    pub kept-count : (i : ℕ) → i < n → getD work i 0 / 2 ^ 30 ≡ upToTwo (timesNamed seen (getD (startsOf bs) i 0))
-    kept-count i h = ap (λ (w : ℕ). w / 2 ^ 30) (k .words i h) ∙ word-count seen (getD (startsOf bs) i 0) (kept-small i h)
+    pub kept-count : (i : ℕ) → i < n → getD work i 0 / 2 ^ 30 ≡ upToTwo (timesNamed seen (getD starts i 0))
+    kept-count i h = ap (λ (w : ℕ). w / 2 ^ 30) (k .words i h) ∙ word-count seen (getD starts i 0) (kept-small i h)
+
+    starts-rise : (p q : ℕ) → p < q → q < n → getD starts p 0 < getD starts q 0
+    starts-rise p q less h = let many = k .many in ascending-at starts p q (starts-ascend file from) less (omega arith)
 
     pub kept-rise : StartsRise work n
     unfolding StartsRise
     kept-rise p q less h =
-        let many = k .many in
         let first = kept-start-at p (omega arith) in
         let second = kept-start-at q h in
-        let rising = ascending-at (startsOf bs) p q (starts-ascend file from bs (k .read)) less (omega arith) in
+        let rising = starts-rise p q less h in
         omega arith
 
-    -- one entry more: the word of the block it names is marked
-    pub kept-mark : n ≤ length work → (e : Entry) (i : ℕ) → i < n → getD (startsOf bs) i 0 ≡ e .offset
-        → (later : List ℕ) → later ≡ set work i (marked (getD work i 0)) → Kept file from bs (seen ++ (e ∷ [])) later n
-    kept-mark room e i h named later is =
-        subst (λ (l : List ℕ). Kept file from bs (seen ++ (e ∷ [])) l n) (sym is)
-        (record { short = k .short; read = k .read; many = k .many; words = λ j l. go j l (eqb j i) refl })
+    starts-apart : (i j : ℕ) → i < n → j < n → (j ≡ i → ⊥) → getD starts i 0 ≡ getD starts j 0 → ⊥
+    starts-apart i j h l different equal = by (ltb i j) refl
       where
-        go : (j : ℕ) → j < n → (b : Bool) → eqb j i ≡ b → getD (set work i (marked (getD work i 0))) j 0 ≡ wordOf (seen ++ (e ∷ [])) (getD (startsOf bs) j 0)
+        by : (b : Bool) → ltb i j ≡ b → ⊥
+        by true x = let less = ltb-true i j x in let r = starts-rise i j less l in omega arith
+        by false x = let more = ltb-false i j x in let r = starts-rise j i (omega arith) h in omega arith
+
+    -- one entry more: the word of the block it names is marked
+    pub kept-mark : n ≤ length work → (e : Entry) (i : ℕ) → i < n → getD starts i 0 ≡ e .offset
+        → (later : List ℕ) → later ≡ set work i (marked (getD work i 0)) → Kept file from (seen ++ (e ∷ [])) later n
+    kept-mark room e i h named later is =
+        subst (λ (l : List ℕ). Kept file from (seen ++ (e ∷ [])) l n) (sym is)
+        (record { short = k .short; many = k .many; words = λ j l. go j l (eqb j i) refl })
+      where
+        go : (j : ℕ) → j < n → (b : Bool) → eqb j i ≡ b → getD (set work i (marked (getD work i 0))) j 0 ≡ wordOf (seen ++ (e ∷ [])) (getD starts j 0)
         go j l true same =
-            subst (λ (m : ℕ). getD (set work i (marked (getD work i 0))) m 0 ≡ wordOf (seen ++ (e ∷ [])) (getD (startsOf bs) m 0)) (sym (eqb-true j i same))
-            (getD-set-same work i (marked (getD work i 0)) 0 (omega arith) ∙ ap marked (k .words i h) ∙ word-marked seen e (getD (startsOf bs) i 0) (kept-small i h) (sym named))
+            subst (λ (m : ℕ). getD (set work i (marked (getD work i 0))) m 0 ≡ wordOf (seen ++ (e ∷ [])) (getD starts m 0)) (sym (eqb-true j i same))
+            (getD-set-same work i (marked (getD work i 0)) 0 (omega arith)
+            ∙ ap marked (k .words i h)
+            ∙ word-marked seen e (getD starts i 0) (kept-small i h) (sym named))
         go j l false other =
             getD-set-other work i j (marked (getD work i 0)) 0 (eqb-false j i other)
             ∙ k .words j l
-            ∙ word-unmarked seen e (getD (startsOf bs) j 0) (λ same. apart j l (eqb-false j i other) (named ∙ same))
-          where
-            apart : (j : ℕ) → j < n → (j ≡ i → ⊥) → getD (startsOf bs) i 0 ≡ getD (startsOf bs) j 0 → ⊥
-            apart j l different equal = by (ltb i j) refl
-              where
-                rise : (p q : ℕ) → p < q → q < n → getD (startsOf bs) p 0 < getD (startsOf bs) q 0
-                rise p q less m = let many = k .many in ascending-at (startsOf bs) p q (starts-ascend file from bs (k .read)) less (omega arith)
-
-                by : (b : Bool) → ltb i j ≡ b → ⊥
-                by true x = let less = ltb-true i j x in let r = rise i j less l in omega arith
-                by false x = let more = ltb-false i j x in let r = rise j i (omega arith) h in omega arith
+            ∙ word-unmarked seen e (getD starts j 0) (λ same. starts-apart i j h l (eqb-false j i other) (named ∙ same))

@@ -1,26 +1,34 @@
--- Refusals 19 and 20 on the work list: which entries were seen, as counts in the words.
+-- Refusals 18, 19 and 20, and how the work list carries them: which entries were seen, as counts in the words.
 use Prim.Native.Nat.{ℕ, zero, suc, _+_, _*_, _/_, _^_, _≤_, _<_}
 use mathlib.Core.Path.{_≡_}
 use mathlib.Core.Bool.{Bool, true, false, cond}
 use mathlib.Core.List.{List, _++_, flatMap}
-use lib.Dec.{ltb, eqb}
+use lib.Dec.{leb, ltb, eqb}
 use lib.ListN.{length, getD}
-use Rattle.outcome.specs.Outcome.{Outcome, answer, _>>_}
-use Rattle.lists.specs.Lists.{keep, all}
-use Rattle.payload.specs.Payload.{Entry}
-use Rattle.block.specs.Block.{Block, blocksAt}
-use Rattle.block.specs.Survey.{ordinary}
+use Rattle.outcome.specs.Outcome.{Outcome, _>>_, must}
 use Rattle.outcome.specs.declared.Refusal.{Refusal}
 use Rattle.outcome.specs.Refusal.{refusalOf}
+use Rattle.lists.specs.Lists.{keep, all}
+use Rattle.payload.specs.Payload.{Entry}
+use Rattle.block.specs.Block.{Block}
+use Rattle.block.specs.Survey.{ordinary}
+use Rattle.block.specs.Laid.{laidFrom}
 use Rattle.tree.specs.Tree.{names}
-use Rattle.tree.specs.Stages.{each, entriesFit, namedRightly}
+use Rattle.tree.specs.Stages.{each, entriesFit, namingOf}
 use Rattle.check_names.specs.Starts.{startsOf}
 
--- 19, then 20
-unfoldable pub namingOf : List Block → (root : ℕ) → Outcome (Unit {0})
-namingOf bs root = each (entriesFit bs) 19 (ordinary bs) >> each (namedRightly bs root) 20 (ordinary bs)
+-- 18, 19 and 20 of the blocks as they lie in the file, with a work list of so many places; 1 for a file of more than 2 ^ 30 bytes, whose
+-- starts do not fit in a word
+unfoldable pub namesOf : (file : List ℕ) (from root places : ℕ) → Outcome (Unit {0})
+namesOf file from root places =
+    let bs = laidFrom file from in
+    must (leb (length file) (2 ^ 30)) 1 0 >> (must (leb (length (ordinary bs)) places) 18 0 >> namingOf bs root)
 
 -- ---- the words
+
+-- the entries of these blocks, joined
+unfoldable pub entriesOf : List Block → List Entry
+entriesOf bs = flatMap (λ b. b .entries) bs
 
 -- how many of these entries name the offset
 unfoldable pub timesNamed : List Entry → ℕ → ℕ
@@ -41,11 +49,10 @@ unfoldable pub marked : ℕ → ℕ
 marked word = cond (ltb (word / 2 ^ 30) 2) (word + 2 ^ 30) word
 
 -- the first n words are those of the file's ordinary blocks, where these entries were seen
-pub record Kept (file : List ℕ) (from : ℕ) (bs : List Block) (seen : List Entry) (work : List ℕ) (n : ℕ) : Type 0 where
+pub record Kept (file : List ℕ) (from : ℕ) (seen : List Entry) (work : List ℕ) (n : ℕ) : Type 0 where
   pub short : length file ≤ 2 ^ 30
-  pub read : blocksAt file from ≡ answer bs
-  pub many : length (startsOf bs) ≡ n
-  pub words : (i : ℕ) → i < n → getD work i 0 ≡ wordOf seen (getD (startsOf bs) i 0)
+  pub many : length (startsOf (laidFrom file from)) ≡ n
+  pub words : (i : ℕ) → i < n → getD work i 0 ≡ wordOf seen (getD (startsOf (laidFrom file from)) i 0)
 
 -- ---- what the passes answer
 
@@ -56,11 +63,11 @@ pub record Named (bs : List Block) (level : ℕ) (e : Entry) (n r : ℕ) : Type 
   pub unfit : n ≤ r → names bs level e ≡ false
 
 -- for some entries of a block of this level: whether all name a fitting block; if so, all are seen
-pub record EntriesSeen (file : List ℕ) (from : ℕ) (bs : List Block) (level : ℕ) (seen es : List Entry) (work : List ℕ) (n : ℕ) (r : Bool) : Type 0 where
-  pub fit : r ≡ all (names bs level) es
-  pub kept : r ≡ true → Kept file from bs (seen ++ es) work n
+pub record EntriesSeen (file : List ℕ) (from level : ℕ) (seen es : List Entry) (work : List ℕ) (n : ℕ) (r : Bool) : Type 0 where
+  pub fit : r ≡ all (names (laidFrom file from) level) es
+  pub kept : r ≡ true → Kept file from (seen ++ es) work n
 
 -- for all blocks: 19; if all fit, all entries are seen
-pub record AllSeen (file : List ℕ) (from : ℕ) (bs : List Block) (work : List ℕ) (n : ℕ) (r : Refusal) : Type 0 where
-  pub fault : refusalOf r ≡ each (entriesFit bs) 19 (ordinary bs)
-  pub kept : r .number ≡ 0 → Kept file from bs (flatMap (λ b. b .entries) (ordinary bs)) work n
+pub record AllSeen (file : List ℕ) (from : ℕ) (work : List ℕ) (n : ℕ) (r : Refusal) : Type 0 where
+  pub fault : refusalOf r ≡ each (entriesFit (laidFrom file from)) 19 (ordinary (laidFrom file from))
+  pub kept : r .number ≡ 0 → Kept file from (entriesOf (ordinary (laidFrom file from))) work n

@@ -1,10 +1,9 @@
--- The work list as starts: one word for each ordinary block in file order. A word is start + 2 ^ 30 * c, so the start is what 2 ^ 30 leaves.
+-- The work list as starts: one word for each ordinary block in file order. A word is start + 2 ^ 30 * c, so the start is the
+-- word modulo 2 ^ 30.
 use Prim.Native.Nat.{ℕ, _%_, _^_, _≤_, _<_}
 use mathlib.Core.Path.{_≡_}
-use mathlib.Core.Bool.{cond}
 use mathlib.Core.List.{List, map}
-use lib.Dec.{ltb}
-use lib.ListN.{length, getD, set}
+use lib.ListN.{length, getD}
 use Rattle.block.specs.Block.{Block}
 use Rattle.block.specs.Survey.{ordinary}
 
@@ -15,10 +14,6 @@ startsOf bs = map (λ b. b .frame .start) (ordinary bs)
 -- the first places of the list hold these numbers
 unfoldable pub Begins : (list numbers : List ℕ) → Type 0
 Begins list numbers = (i : ℕ) → i < length numbers → getD list i 0 ≡ getD numbers i 0
-
--- the list with a number stored at a place, where there is one, or as it is
-unfoldable pub stored : (list : List ℕ) (i value : ℕ) → List ℕ
-stored list i value = cond (ltb i (length list)) (set list i value) list
 
 -- the start in a word
 unfoldable pub startAt : (work : List ℕ) (i : ℕ) → ℕ

@@ -1,23 +1,24 @@
-// Refusals 19 and 20: every entry names a fitting block, and every block but the root is named once.
-ghost use Prim.Native.Nat.{ℕ, _-_, _^_, _≤_, _<_};
+// Refusals 18, 19 and 20 on the work list.
+ghost use Prim.Native.Nat.{ℕ, _-_, _≤_, _<_};
 ghost use mathlib.Core.Path.{_≡_};
 ghost use mathlib.Core.Bool.{cond};
-ghost use mathlib.Core.List.{List, [], flatMap, List·Memᴰ};
+ghost use mathlib.Core.List.{List, [], List·Memᴰ};
 ghost use lib.Dec.{eqb};
 ghost use lib.ListN.{length, getD, set, take};
-ghost use Rattle.outcome.specs.Outcome.{answer};
-ghost use Rattle.items.specs.Items.{itemsFrom};
-ghost use Rattle.payload.specs.Payload.{Text, Entry, entryAt};
-ghost use Rattle.block.specs.Block.{Block, blocksAt};
-ghost use Rattle.block.specs.Survey.{ordinary};
-ghost use Rattle.tree.specs.Stages.{each, namedRightly};
 ghost use Rattle.outcome.specs.Refusal.{refusalOf};
-ghost use Rattle.check_names.specs.Names.{namingOf, marked, Kept, Named, EntriesSeen, AllSeen};
+ghost use Rattle.items.specs.Items.{soundFrom};
+ghost use Rattle.payload.specs.Payload.{Text, Entry, entryAt};
+ghost use Rattle.block.specs.Block.{Block};
+ghost use Rattle.block.specs.Survey.{ordinary};
+ghost use Rattle.block.specs.Laid.{laidFrom};
+ghost use Rattle.tree.specs.Stages.{each, namedRightly};
+ghost use Rattle.check_names.specs.Names.{namesOf, entriesOf, marked, Kept, Named, EntriesSeen, AllSeen};
 use crate::starts::NAMED;
 use crate::starts::fill;
 use crate::starts::find;
 use framing::FrameOutcome;
 use framing::frame_at;
+use header::Header;
 use outcome::Refusal;
 use payload::EntryOutcome;
 use payload::entry_at;
@@ -36,7 +37,8 @@ fn mark(work: &mut [u64], i: usize)
 // The index of the word whose block an entry names, or n where it names no block that fits.
 fn named(file: &[u8], work: &[u64], n: usize, level: u8, offset: u64, size: u64) -> usize
     requires { ⌜ n ≤ length (now work) ⌝ }
-    ensures { λ r. ⌜ ((from : ℕ) (bs : List Block) (seen : List Entry) (key : Text) → Kept (now (file .entry)) from bs seen (now (work .entry)) n → Named bs level (record { key = key; offset = offset; size = size }) n r) ⌝ }
+    ensures { λ r. ⌜ ((from : ℕ) (seen : List Entry) (key : Text) → Kept (now (file .entry)) from seen (now (work .entry)) n
+        → Named (laidFrom (now (file .entry)) from) level (record { key = key; offset = offset; size = size }) n r) ⌝ }
 {
     let i = find(work, n, offset);
     if n <= i {
@@ -57,10 +59,12 @@ fn named(file: &[u8], work: &[u64], n: usize, level: u8, offset: u64, size: u64)
     }
 }
 
-// Whether all entries of a payload name fitting blocks; each is marked.
+// Whether all entries of a payload, up to the first fault, name fitting blocks; each is marked.
 fn name_entries(file: &[u8], level: u8, from: usize, end: usize, work: &mut [u64], n: usize) -> bool
     requires { ⌜ (n ≤ length (now work)) × (end ≤ length (now file)) ⌝ }
-    ensures { λ r. ⌜ ((first place : ℕ) (bs : List Block) (seen es : List Entry) → Kept (now (file .entry)) first bs seen (now (work .entry)) n → itemsFrom (entryAt place (take end (now (file .entry)))) end (end - from) from ≡ answer es → EntriesSeen (now (file .entry)) first bs level seen es (now (work .exit)) n r) ⌝ }
+    ensures { λ r. ⌜ ((first place : ℕ) (seen : List Entry) → Kept (now (file .entry)) first seen (now (work .entry)) n
+        → EntriesSeen (now (file .entry)) first level seen (soundFrom (entryAt place (take end (now (file .entry)))) end (end - from) from)
+        (now (work .exit)) n r) ⌝ }
 {
     let mut at = from;
     while at < end {
@@ -69,7 +73,6 @@ fn name_entries(file: &[u8], level: u8, from: usize, end: usize, work: &mut [u64
             EntryOutcome::Refused(_) => return true,
             EntryOutcome::Answer {
                 key: _,
-                length: _,
                 offset,
                 size,
                 next,
@@ -89,7 +92,9 @@ fn name_entries(file: &[u8], level: u8, from: usize, end: usize, work: &mut [u64
 // The same for the block at an offset, which has entries where it is an index block.
 fn name_block(file: &[u8], start: usize, work: &mut [u64], n: usize) -> bool
     requires { ⌜ n ≤ length (now work) ⌝ }
-    ensures { λ r. ⌜ ((first : ℕ) (bs : List Block) (seen : List Entry) (b : Block) → Kept (now (file .entry)) first bs seen (now (work .entry)) n → List·Memᴰ b (ordinary bs) → b .frame .start ≡ start → EntriesSeen (now (file .entry)) first bs (b .frame .level) seen (b .entries) (now (work .exit)) n r) ⌝ }
+    ensures { λ r. ⌜ ((first : ℕ) (seen : List Entry) (b : Block) → Kept (now (file .entry)) first seen (now (work .entry)) n
+        → List·Memᴰ b (ordinary (laidFrom (now (file .entry)) first)) → b .frame .start ≡ start
+        → EntriesSeen (now (file .entry)) first (b .frame .level) seen (b .entries) (now (work .exit)) n r) ⌝ }
 {
     let frame = frame_at(file, start);
     match frame {
@@ -108,7 +113,7 @@ fn name_block(file: &[u8], start: usize, work: &mut [u64], n: usize) -> bool
 // 19: the first block in file order with an entry that names no fitting block.
 fn name_blocks(file: &[u8], work: &mut [u64], n: usize) -> Refusal
     requires { ⌜ n ≤ length (now work) ⌝ }
-    ensures { λ r. ⌜ ((first : ℕ) (bs : List Block) → Kept (now (file .entry)) first bs [] (now (work .entry)) n → AllSeen (now (file .entry)) first bs (now (work .exit)) n r) ⌝ }
+    ensures { λ r. ⌜ ((first : ℕ) → Kept (now (file .entry)) first [] (now (work .entry)) n → AllSeen (now (file .entry)) first (now (work .exit)) n r) ⌝ }
 {
     let mut i = 0;
     while i < n {
@@ -138,7 +143,8 @@ fn wanted(start: u64, root: u64) -> u64
 // 20: the first block in file order that is not named so often.
 fn count_names(work: &[u64], n: usize, root: u64) -> Refusal
     requires { ⌜ n ≤ length (now work) ⌝ }
-    ensures { λ r. ⌜ ((file : List ℕ) (first : ℕ) (bs : List Block) → Kept file first bs (flatMap (λ b. b .entries) (ordinary bs)) (now (work .entry)) n → refusalOf r ≡ each (namedRightly bs root) 20 (ordinary bs)) ⌝ }
+    ensures { λ r. ⌜ ((file : List ℕ) (first : ℕ) → Kept file first (entriesOf (ordinary (laidFrom file first))) (now (work .entry)) n
+        → refusalOf r ≡ each (namedRightly (laidFrom file first) root) 20 (ordinary (laidFrom file first))) ⌝ }
 {
     let mut i = 0;
     while i < n {
@@ -157,17 +163,23 @@ fn count_names(work: &[u64], n: usize, root: u64) -> Refusal
     }
 }
 
-// 19, then 20, for a file whose blocks from an offset on were accepted and whose `blocks` ordinary blocks have room on the work list.
-pub fn naming_fault(file: &[u8], from: usize, root: u64, blocks: usize, work: &mut [u64]) -> Refusal
-    ensures { λ r. ⌜ ((bs : List Block) → length (now (file .entry)) ≤ 2 ^ 30 → blocksAt (now (file .entry)) from ≡ answer bs → length (ordinary bs) ≡ blocks → blocks ≤ length (now (work .entry)) → refusalOf r ≡ namingOf bs root) ⌝ }
+// 18, 19, then 20, with the work list left as it was used; 1 for a file whose starts do not fit in a word.
+pub fn naming_fault(file: &[u8], from: usize, root: u64, work: &mut [u64]) -> Refusal
+    ensures { λ r. ⌜ refusalOf r ≡ namesOf (now (file .entry)) from root (length (now (work .entry))) ⌝ }
 {
-    if work.len() < blocks {
+    if Header::MAX_FILE < file.len() {
         return Refusal {
-            number: 0,
+            number: 1,
             place: 0,
         };
     }
-    fill(file, from, work);
+    let blocks = fill(file, from, work);
+    if work.len() < blocks {
+        return Refusal {
+            number: 18,
+            place: 0,
+        };
+    }
     let fault = name_blocks(file, work, blocks);
     if fault.number != 0 {
         return fault;

@@ -13,16 +13,18 @@ use Rattle.outcome.specs.Outcome.{Outcome, answer, refused, _>>=_, _>>_, must}
 use Rattle.outcome.proofs.OutcomeLaws.{bind-answer, bind-refused, bind-same, kept, broken}
 use Rattle.payload.specs.Payload.{Entry, entryAt}
 use Rattle.block.specs.Block.{Block, blocksAt}
+use Rattle.framing.specs.Frame.{frameAt}
 use Rattle.framing.proofs.FrameLaws.{frame⇒Framed}
 use Rattle.block.proofs.HeldLaws.{block-frame}
-use Rattle.block.proofs.TileLaws.{blocks-tile, blocks-read, tiles-all}
-use Rattle.check_walk.specs.declared.lookup.Bounds.{Bounds}
+use Rattle.block.proofs.TileLaws.{blocks-read}
+use Rattle.part.specs.declared.Part.{Part}
 use Rattle.tree.specs.Tree.{blockEntries, leaves}
 use Rattle.tree.specs.Stages.{ascending}
-use Rattle.check_walk.specs.Lookup.{boundsAt, itemsIn, entriesIn}
+use Rattle.tree.proofs.TreeLaws.{Tree, entries-at, Child, child}
+use Rattle.check_walk.specs.Lookup.{payloadPart, entriesIn}
 use Rattle.check_walk.specs.Ascent.{ascentOver, leafOf, ascentOf}
-use Rattle.check_walk.proofs.GoingLaws.{Going, going-start}
-use Rattle.check_walk.proofs.LookupLaws.{entries-again, found-at}
+use Rattle.items.proofs.GoingLaws.{Going, going-start}
+use Rattle.check_walk.proofs.LookupLaws.{endOf, items-found, entries-again}
 
 -- ---- a data block
 
@@ -49,12 +51,12 @@ unfolding ascentOf
 ascent-index file zero at least h = absurd (h refl)
 ascent-index file (suc level) at least h = let one : level ≡ suc level - 1 = omega arith in ap (λ (l : ℕ). ascentOver (ascentOf file l) (entriesIn file at) least) one
 
-pub ascent-start : (file : List ℕ) (level at least : ℕ) → (level ≡ 0 → ⊥) → (b : Bounds) → b ≡ boundsAt file at
-    → Going (ascentOver (ascentOf file (level - 1))) (entryAt 0 (take (b .end) file)) (b .end) (ascentOf file level at least) (b .from) least
-unfolding entriesIn itemsIn
-ascent-start file level at least h b e =
-    going-start _ _ (b .end) _ (b .from) least
-    (ascent-index file level at least h ∙ ap (λ (p : Bounds). ascentOver (ascentOf file (level - 1)) (itemsIn (entryAt 0) file p) least) (sym e))
+pub ascent-start : (file : List ℕ) (level at least : ℕ) → (level ≡ 0 → ⊥) → (p : Part) → p ≡ payloadPart (frameAt file at)
+    → Going (ascentOver (ascentOf file (level - 1))) (entryAt at (take (endOf p) file)) (endOf p) (ascentOf file level at least) (p .offset) least
+unfolding entriesIn
+ascent-start file level at least h p e =
+    going-start _ _ (endOf p) _ (p .offset) least
+    (ascent-index file level at least h ∙ ap (λ (es : List Entry). ascentOver (ascentOf file (level - 1)) es least) (items-found file at entryAt p e))
 
 pub over-end : (child : ℕ → ℕ → Outcome ℕ) (least : ℕ) → ascentOver child [] least ≡ answer least
 unfolding ascentOver
@@ -114,19 +116,14 @@ over-leaves bs level child (e ∷ es) h least =
     (h e (List·Memᴰ·head refl) least) (λ n p. over-leaves bs level child es (λ x m. h x (List·Memᴰ·tail m)) n)
     ∙ sym (ascendingTo-append least (leaves bs level (e .offset)) (flatMap (λ x. leaves bs level (x .offset)) es))
 
--- every entry names a block of the list one level lower
-unfoldable pub Named : List Block → Type 0
-Named bs = (b : Block) → List·Memᴰ b bs → (e : Entry) → List·Memᴰ e (b .entries)
-    → (c : Block) × List·Memᴰ c bs × (c .frame .start ≡ e .offset) × (c .frame .level + 1 ≡ b .frame .level)
+module _ (file : List ℕ) (from : ℕ) (bs : List Block) (read : blocksAt file from ≡ answer bs) (root : ℕ) (t : Tree bs root) where
+  -- the entries that the walk reads are the tree's
+  pub walk-entries : (b : Block) → List·Memᴰ b bs → 1 ≤ b .frame .level → b .frame .level ≤ 63 → entriesIn file (b .frame .start) ≡ blockEntries bs (b .frame .start)
+  walk-entries b m some few = entries-again file (b .frame .start) b (blocks-read file from bs read b m .read) some few ∙ sym (entries-at bs root t b m)
 
-module _ (file : List ℕ) (from : ℕ) (bs : List Block) (read : blocksAt file from ≡ answer bs) (inside : from ≤ length file) (named : Named bs) where
-  pub entriesOf-block : (b : Block) → List·Memᴰ b bs → blockEntries bs (b .frame .start) ≡ b .entries
-  unfolding blockEntries
-  entriesOf-block b m = found-at (λ c. c .entries) bs (tiles-all from (length file) bs (blocks-tile file from bs read inside)) b m
-
-  pub ascentTo-leaves : (level : ℕ) (b : Block) → List·Memᴰ b bs → b .frame .level ≡ level → level ≤ 63 → (least : ℕ)
+  ascentTo-leaves : (level : ℕ) (b : Block) → List·Memᴰ b bs → b .frame .level ≡ level → level ≤ 63 → (least : ℕ)
       → ascentOf file level (b .frame .start) least ≡ ascendingTo least (leaves bs level (b .frame .start))
-  unfolding ascentOf leaves Named
+  unfolding ascentOf leaves
   ascentTo-leaves zero b m here low least =
       let r = blocks-read file from bs read b m in
       let f = frame⇒Framed file (b .frame .start) (b .frame) (block-frame file (b .frame .start) b (r .read)) in
@@ -136,16 +133,15 @@ module _ (file : List ℕ) (from : ℕ) (bs : List Block) (read : blocksAt file 
       let within = f .within in
       ascendingTo-one (length file) least (b .frame .start) (omega arith)
   ascentTo-leaves (suc level) b m here low least =
-      ap (λ (es : List Entry). ascentOver (ascentOf file level) es least) (entries-again file (b .frame .start) b (blocks-read file from bs read b m .read) (omega arith) (omega arith))
-      ∙ over-leaves bs level (ascentOf file level) (b .entries) (λ e n. below e (named b m e n) (ascentTo-leaves level)) least
-      ∙ ap (λ (es : List Entry). ascendingTo least (flatMap (λ e. leaves bs level (e .offset)) es)) (sym (entriesOf-block b m))
+      ap (λ (es : List Entry). ascentOver (ascentOf file level) es least) (walk-entries b m (omega arith) (omega arith))
+      ∙ over-leaves bs level (ascentOf file level) (blockEntries bs (b .frame .start)) (λ e i. below e (child bs root t b m level here e i) (ascentTo-leaves level)) least
     where
-      below : (e : Entry) → (c : Block) × List·Memᴰ c bs × (c .frame .start ≡ e .offset) × (c .frame .level + 1 ≡ b .frame .level)
+      below : (e : Entry) → Child bs root t level e
           → ((c : Block) → List·Memᴰ c bs → c .frame .level ≡ level → level ≤ 63 → (n : ℕ) → ascentOf file level (c .frame .start) n ≡ ascendingTo n (leaves bs level (c .frame .start)))
           → (n : ℕ) → ascentOf file level (e .offset) n ≡ ascendingTo n (leaves bs level (e .offset))
-      below e (c, inside-c, starts, lower) ih n = subst (λ (o : ℕ). ascentOf file level o n ≡ ascendingTo n (leaves bs level o)) starts (ih c inside-c (omega arith) (omega arith) n)
+      below e c ih n = subst (λ (o : ℕ). ascentOf file level o n ≡ ascendingTo n (leaves bs level o)) (c .starts) (ih (c .block) (c .member) (c .leveled) (omega arith) n)
 
-  -- 22 as the check states it
+  -- 22 as the rule states it
   pub ascent-leaves : (b : Block) → List·Memᴰ b bs → b .frame .level ≤ 63 → (least : ℕ)
       → (ascentOf file (b .frame .level) (b .frame .start) least >> answer tt) ≡ ascending least (leaves bs (b .frame .level) (b .frame .start))
   ascent-leaves b m low least =

@@ -18,8 +18,9 @@ use Rattle.block.specs.Block.{Block, isOrdinary}
 use Rattle.block.specs.Survey.{ordinary}
 use Rattle.tree.specs.Tree.{blockEntries, blockLevel, under, keyFits}
 use Rattle.tree.specs.Stages.{each, keysFit}
-use Rattle.check_walk.specs.Keys.{earlier, placeSaid}
-use Rattle.check_walk.proofs.NeighbourLaws.{said-none, said-place}
+use Rattle.check_walk.specs.Keys.{earlier}
+use Rattle.check_walk.specs.Walk.{placeSaid}
+use Rattle.check_walk.proofs.WalkedLaws.{said-none, said-place}
 use Rattle.check_walk.proofs.MisfitLaws.{leastOf, misfitOf, misfits}
 use Rattle.tree.proofs.TreeLaws.{Tree, entries-at}
 use Rattle.tree.proofs.TreeWays.{Way, at-root, by-entry, Met, way-block, met-entries, block-way}

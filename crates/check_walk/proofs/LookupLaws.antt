@@ -1,92 +1,94 @@
--- Laws of what can be read at an offset.
+-- Laws of what lies at an offset.
 -- Assumes nothing.
 use mathlib.Core.Path.{_≡_, refl, sym, ap, _∙_, subst}
-use mathlib.Core.Bool.{Bool, cond}
-use mathlib.Core.Logic.{_⊎_, inl, inr}
-use mathlib.Core.List.{List, [], _∷_, _++_, map, flatMap, append-nil, List·Memᴰ, List·Memᴰ·head, List·Memᴰ·tail, List·Memᴰ·not-nil, List·Memᴰ·cases-cons}
-use Prim.Native.Nat.{ℕ, _+_, _-_, _≤_, _<_}
+use mathlib.Core.List.{List}
+use Prim.Native.Nat.{ℕ, _+_, _-_, _≤_}
 use native.Mathlib.Omega.{arith}
-use lib.Dec.{eqb}
 use lib.ListN.{length, take}
-use lib.Seq.{length-take-le}
-use borrow.Author.Tests.{eq-eqb, ne-eqb}
 use Rattle.outcome.specs.Outcome.{Outcome, answer, refused}
-use Rattle.items.specs.Items.{Step, soundFrom}
-use Rattle.lists.proofs.ListsLaws.{Ascending, below-member}
+use Rattle.items.specs.Items.{Step, soundFrom, whereAnswered}
+use Rattle.items.proofs.ItemsLaws.{sound-end}
+use Rattle.part.specs.declared.Part.{Part}
 use Rattle.framing.specs.declared.Frame.{Frame}
 use Rattle.framing.specs.Frame.{frameAt}
+use Rattle.framing.proofs.FrameLaws.{frame⇒Framed}
 use Rattle.payload.specs.Payload.{textAt, entryAt}
 use Rattle.block.specs.Block.{Block, blockAt}
-use Rattle.framing.proofs.FrameLaws.{frame⇒Framed}
-use Rattle.block.proofs.HeldLaws.{block-frame, reread-records, reread-entries}
-use Rattle.check_walk.specs.Lookup.{boundsOf, boundsAt, itemsIn, entriesIn, recordsIn}
+use Rattle.block.specs.Laid.{laidItems, laidIn}
+use Rattle.block.proofs.BlockLaws.{block⇒BlockRead}
+use Rattle.block.proofs.HeldLaws.{block-frame}
+use Rattle.block.proofs.LaidLaws.{laid-data, laid-index, inside⇒laid}
+use Rattle.check_walk.specs.Lookup.{noPart, payloadPart, entriesIn, recordsIn}
 
--- ---- bounds
+-- where a part ends
+abbrev pub endOf : Part → ℕ
+endOf p = p .offset + p .length
 
-pub bounds-found : (file : List ℕ) (at : ℕ) (f : Frame) → frameAt file at ≡ answer f → boundsAt file at ≡ record { from = f .body + 1; end = f .end }
-unfolding boundsAt boundsOf
-bounds-found file at f e = ap boundsOf e
+-- ---- the payload at an offset
 
-pub bounds-none : (file : List ℕ) (at number place : ℕ) → frameAt file at ≡ refused number place → boundsAt file at ≡ record { from = 0; end = 0 }
-unfolding boundsAt boundsOf
-bounds-none file at number place e = ap boundsOf e
+module _ (file : List ℕ) (at : ℕ) where
+  pub payload-found : (f : Frame) → frameAt file at ≡ answer f → payloadPart (frameAt file at) ≡ record { offset = f .body + 1; length = f .end - (f .body + 1) }
+  unfolding payloadPart
+  payload-found f e = ap payloadPart e
+
+  pub payload-none : (number place : ℕ) → frameAt file at ≡ refused number place → payloadPart (frameAt file at) ≡ record { offset = 0; length = 0 }
+  unfolding payloadPart noPart
+  payload-none number place e = ap payloadPart e
+
+  pub payload-within : endOf (payloadPart (frameAt file at)) ≤ length file
+  payload-within = go (frameAt file at) refl
+    where
+      go : (o : Outcome Frame) → frameAt file at ≡ o → endOf (payloadPart (frameAt file at)) ≤ length file
+      go (answer f) e =
+          let l = frame⇒Framed file at f e in
+          let some = l .some in
+          let sized = l .sized in
+          let within = l .within in
+          subst (λ (p : Part). endOf p ≤ length file) (sym (payload-found f e)) (omega arith)
+      go (refused number place) e = subst (λ (p : Part). endOf p ≤ length file) (sym (payload-none number place e)) (omega arith)
+
+  -- its items are read from its start to its end
+  pub items-found : {A : Type 0} (step : ℕ → List ℕ → ℕ → Outcome (Step A)) (p : Part) → p ≡ payloadPart (frameAt file at)
+      → whereAnswered (frameAt file at) (laidItems file step) ≡ soundFrom (step at (take (endOf p) file)) (endOf p) (endOf p - p .offset) (p .offset)
+  unfolding whereAnswered laidItems
+  items-found {A} step p same = go (frameAt file at) refl
+    where
+      from-part : Part → List A
+      from-part q = soundFrom (step at (take (endOf q) file)) (endOf q) (endOf q - q .offset) (q .offset)
+
+      found : (f : Frame) → frameAt file at ≡ answer f → laidItems file step f ≡ from-part (record { offset = f .body + 1; length = f .end - (f .body + 1) })
+      found f e =
+          let l = frame⇒Framed file at f e in
+          let some = l .some in
+          let sum : f .end ≡ f .body + 1 + (f .end - (f .body + 1)) = omega arith in
+          ap (λ (s : ℕ). soundFrom (step s (take (f .end) file)) (f .end) (f .end - (f .body + 1)) (f .body + 1)) (l .starts)
+          ∙ ap (λ (n : ℕ). soundFrom (step at (take n file)) n (n - (f .body + 1)) (f .body + 1)) sum
+
+      go : (o : Outcome Frame) → frameAt file at ≡ o → whereAnswered (frameAt file at) (laidItems file step) ≡ from-part p
+      go (answer f) e = ap (λ o. whereAnswered o (laidItems file step)) e ∙ found f e ∙ ap from-part (sym (same ∙ payload-found f e))
+      go (refused number place) e =
+          ap (λ o. whereAnswered o (laidItems file step)) e ∙ sym (sound-end (step at (take 0 file)) 0 0 0 (omega arith)) ∙ ap from-part (sym (same ∙ payload-none number place e))
 
 -- ---- a block that was read is found again
 
 module _ (file : List ℕ) (at : ℕ) (b : Block) (read : blockAt file at ≡ answer b) where
-  block-ends : length (take (b .frame .end) file) ≡ b .frame .end
-  block-ends =
-      let f = frame⇒Framed file at (b .frame) (block-frame file at b read) in
-      let sized = f .sized in
-      let within = f .within in
-      length-take-le (b .frame .end) file (omega arith)
-
-  again : {A : Type 0} (step : List ℕ → ℕ → Outcome (Step A)) (xs : List A)
-      → soundFrom (step (take (b .frame .end) file)) (length (take (b .frame .end) file)) (length (take (b .frame .end) file) - (b .frame .body + 1)) (b .frame .body + 1) ≡ xs
-      → itemsIn step file (boundsAt file at) ≡ xs
-  unfolding itemsIn
-  again step xs e =
-      ap (itemsIn step file) (bounds-found file at (b .frame) (block-frame file at b read))
-      ∙ ap (λ (n : ℕ). soundFrom (step (take (b .frame .end) file)) n (n - (b .frame .body + 1)) (b .frame .body + 1)) (sym block-ends)
-      ∙ e
+  block-laid : laidIn file (b .frame) ≡ b
+  block-laid =
+      let r = block⇒BlockRead file at b read in
+      let sized = r .framed .sized in
+      let within = r .framed .within in
+      inside⇒laid file (b .frame) (omega arith) b (r .inside)
 
   pub entries-again : 1 ≤ b .frame .level → b .frame .level ≤ 63 → entriesIn file at ≡ b .entries
-  unfolding entriesIn
-  entries-again some level = again (entryAt 0) (b .entries) (reread-entries file at b read 0 some level)
+  unfolding entriesIn whereAnswered laidIn
+  entries-again some few =
+      ap (λ o. whereAnswered o (laidItems file entryAt)) (block-frame file at b read)
+      ∙ sym (laid-index file (b .frame) (λ z. omega arith) few .1)
+      ∙ ap (λ (c : Block). c .entries) block-laid
 
   pub records-again : b .frame .level ≡ 0 → recordsIn file at ≡ b .records
-  unfolding recordsIn
-  records-again level = again (textAt 0) (b .records) (reread-records file at b read 0 level)
-
--- ---- the block at an offset, among blocks whose starts ascend
-
-module _ {A : Type 0} (f : Block → List A) where
-  abbrev at-start : ℕ → Block → List A
-  at-start at c = cond (eqb (c .frame .start) at) (f c) []
-
-  nothing-below : (bs : List Block) (at : ℕ) → ((c : Block) → List·Memᴰ c bs → at < c .frame .start) → flatMap (at-start at) bs ≡ []
-  unfolding flatMap
-  nothing-below [] at h = refl
-  nothing-below (c ∷ bs) at h =
-      let later = h c (List·Memᴰ·head refl) in
-      ap (λ (t : Bool). cond t (f c) [] ++ flatMap (at-start at) bs) (ne-eqb (c .frame .start) at (λ e. omega arith))
-      ∙ nothing-below bs at (λ d m. h d (List·Memᴰ·tail m))
-
-  pub found-at : (bs : List Block) → Ascending (map (λ c. c .frame .start) bs) → (b : Block) → List·Memᴰ b bs → flatMap (at-start (b .frame .start)) bs ≡ f b
-  unfolding flatMap Ascending
-  found-at [] h b m = absurd (List·Memᴰ·not-nil m)
-  found-at (c ∷ bs) h b m = go (List·Memᴰ·cases-cons m) (λ (i : List·Memᴰ b bs). found-at bs (h .1) b i)
-    where
-      later : (d : Block) → List·Memᴰ d bs → c .frame .start < d .frame .start
-      later d n = below-member (λ x. x .frame .start) (c .frame .start) bs (h .0) d n
-
-      go : (b ≡ c) ⊎ List·Memᴰ b bs → (List·Memᴰ b bs → flatMap (at-start (b .frame .start)) bs ≡ f b) → flatMap (at-start (b .frame .start)) (c ∷ bs) ≡ f b
-      go (inl same) rest =
-          subst (λ (x : Block). flatMap (at-start (x .frame .start)) (c ∷ bs) ≡ f x) (sym same)
-          (ap (λ (t : Bool). cond t (f c) [] ++ flatMap (at-start (c .frame .start)) bs) (eq-eqb (c .frame .start) (c .frame .start) refl)
-          ∙ ap (λ (l : List A). f c ++ l) (nothing-below bs (c .frame .start) later)
-          ∙ append-nil (f c))
-      go (inr inside) rest =
-          let less = later b inside in
-          ap (λ (t : Bool). cond t (f c) [] ++ flatMap (at-start (b .frame .start)) bs) (ne-eqb (c .frame .start) (b .frame .start) (λ e. omega arith))
-          ∙ rest inside
+  unfolding recordsIn whereAnswered laidIn
+  records-again level =
+      ap (λ o. whereAnswered o (laidItems file textAt)) (block-frame file at b read)
+      ∙ sym (laid-data file (b .frame) level .0)
+      ∙ ap (λ (c : Block). c .records) block-laid

@@ -2,10 +2,9 @@
 -- Assumes nothing.
 use mathlib.Core.Path.{_≡_, refl, sym, ap, _∙_, subst}
 use mathlib.Core.Bool.{Bool, true, false, _&&_, cond}
-use mathlib.Core.List.{List, [], _∷_, _++_, map, flatMap, append-nil, List·Memᴰ, List·Memᴰ·head}
-use Prim.Native.Nat.{ℕ, zero, suc, _≤_, _<_}
+use mathlib.Core.List.{List, [], _∷_, _++_, map, flatMap, append-nil}
+use Prim.Native.Nat.{ℕ, zero, suc}
 use native.Mathlib.Omega.{arith}
-use lib.ListN.{length, length-append}
 use lib.Seq.{append-snoc}
 use Rattle.byte_string.specs.Order.{atMost}
 use Rattle.byte_string.proofs.OrderLaws.{nil-atMost, atMost-trans}
@@ -18,13 +17,14 @@ use Rattle.block.specs.Survey.{recordsOf}
 use Rattle.check_walk.specs.declared.keys.Span.{Span}
 use Rattle.check_walk.specs.declared.keys.Keys.{Keys}
 use Rattle.tree.specs.Tree.{blockEntries, blockRecords, blockLevel, leaves, under, keyFits}
-use Rattle.check_walk.specs.Lookup.{entriesIn}
-use Rattle.check_walk.specs.Keys.{bytesOf, earlier, fitsBetween, entryKeys, overKeys, keysEntering, keysOf, leafKeys}
+use Rattle.check_walk.specs.Lookup.{bytesIn, entriesIn}
+use Rattle.check_walk.specs.Keys.{earlier, fitsBetween, entryKeys, overKeys, keysEntering, keysOf, leafKeys}
+use Rattle.check_walk.proofs.AscentLaws.{walk-entries}
 use Rattle.check_walk.proofs.SpanLaws.{lastBytes, lastBytes-append, Spans}
-use Rattle.check_walk.proofs.WalkLaws.{recordsAll, Met, met-last, met-entry, met-opened, walk-met, walk-entries}
+use Rattle.check_walk.proofs.WalkLaws.{recordsAll, Met, met-last, met-entry, met-entering, walk-met}
 use Rattle.check_walk.proofs.NeighbourLaws.{same-tests, from-each, last-of}
-use Rattle.tree.proofs.TreeLaws.{Tree, entries-at, records-at, Child, child}
-use Rattle.tree.proofs.TreeWays.{Way, by-entry, leavesBefore, pre, records-cut, way-block}
+use Rattle.tree.proofs.TreeLaws.{Tree}
+use Rattle.tree.proofs.TreeWays.{Way, by-entry, leavesBefore, pre, records-cut, way-block, under-some}
 use Rattle.tree.proofs.TreeWays.{Met as MetBlock}
 use Rattle.tree.proofs.TreeKeys.{keyFits-way}
 
@@ -81,11 +81,11 @@ and-swap false false = refl
 
 -- the test that the walk makes is the key rule's
 test-same : (file key : List ℕ) (met own : Span) (before : List Text) (first : Text) (rest : List Text) → risingFrom [] (map (λ r. r .bytes) before) ≡ true
-    → bytesOf file (met .last) ≡ lastBytes [] before → (d : List ℕ) → Spans file d own (first ∷ rest)
+    → bytesIn file (met .last) ≡ lastBytes [] before → (d : List ℕ) → Spans file d own (first ∷ rest)
     → fitsBetween file key met own ≡ (atMost key (first .bytes) && all (λ r. atMost (r .bytes) key) before)
 unfolding fitsBetween Spans
 test-same file key met own before first rest rise last d spans =
-    ap (λ (l : List ℕ). atMost l key && atMost key (bytesOf file (own .first))) last
+    ap (λ (l : List ℕ). atMost l key && atMost key (bytesIn file (own .first))) last
     ∙ ap (λ (l : List ℕ). atMost (lastBytes [] before) key && atMost key l) (spans .1)
     ∙ ap (λ (b : Bool). b && atMost key (first .bytes)) (sym (all-last key [] before rise))
     ∙ and-swap (all (λ r. atMost (r .bytes) key) before) (atMost key (first .bytes))
@@ -95,60 +95,28 @@ unfolding leastOf
 least-cond true m at = refl
 least-cond false m at = refl
 
--- ---- what a block leads to
-
-module _ (bs : List Block) (root : ℕ) (t : Tree bs root) where
-  pub under-length : (level : ℕ) (b : Block) → List·Memᴰ b bs → b .frame .level ≡ level → level ≤ 63 → 0 < length (under bs level (b .frame .start))
-  unfolding under leaves flatMap
-  under-length zero b m here few =
-      subst (λ (rs : List Text). 0 < length rs) (sym (append-nil (blockRecords bs (b .frame .start)) ∙ records-at bs root t b m)) (t .data-records b m here)
-  under-length (suc level) b m here few =
-      go (blockEntries bs (b .frame .start)) (subst (λ (es : List Entry). 0 < length es) (sym (entries-at bs root t b m)) (t .index-entries b m (omega arith) (omega arith)))
-      (λ (e : Entry) (i : List·Memᴰ e (blockEntries bs (b .frame .start))). below e (child bs root t b m level here e i) (under-length level))
-    where
-      below : (e : Entry) → Child bs root t level e → ((c : Block) → List·Memᴰ c bs → c .frame .level ≡ level → level ≤ 63 → 0 < length (recordsAll bs (leaves bs level (c .frame .start)))) → 0 < length (recordsAll bs (leaves bs level (e .offset)))
-      below e c ih = subst (λ (o : ℕ). 0 < length (recordsAll bs (leaves bs level o))) (c .starts) (ih (c .block) (c .member) (c .leveled) (omega arith))
-
-      go : (es : List Entry) → 0 < length es → ((e : Entry) → List·Memᴰ e es → 0 < length (recordsAll bs (leaves bs level (e .offset)))) → 0 < length (recordsAll bs (flatMap (λ e. leaves bs level (e .offset)) es))
-      go [] some h = absurd (omega arith)
-      go (e ∷ es) some h =
-          let own = h e (List·Memᴰ·head refl) in
-          let rest : List ℕ = flatMap (λ x. leaves bs level (x .offset)) es in
-          let long = length-append (recordsAll bs (leaves bs level (e .offset))) (recordsAll bs rest) in
-          subst (λ (rs : List Text). 0 < length rs) (sym (flatMap-append (λ o. blockRecords bs o) (leaves bs level (e .offset)) rest)) (omega arith)
-
 -- ---- the walk
 
 module _ (file : List ℕ) (from : ℕ) (bs : List Block) (read : blocksAt file from ≡ answer bs) (root : ℕ) (t : Tree bs root)
     (walked : Ascending (leaves bs (blockLevel bs root) root)) (placed : Ascending (map (λ r. r .at) (recordsOf bs))) (rise : risingFrom [] (map (λ r. r .bytes) (recordsOf bs)) ≡ true) where
-  way-met : (level at : ℕ) → Way bs root level at → (before : Keys) → Met file bs (bytesOf file (before .span .last)) (before .unordered) (leaves bs level at) (keysOf file level at before)
+  way-met : (level at : ℕ) → Way bs root level at → (before : Keys) → Met file bs (bytesIn file (before .span .last)) (before .unordered) (leaves bs level at) (keysOf file level at before)
   way-met level at w before = go (way-block bs root t level at w)
     where
-      go : MetBlock bs root t level at → Met file bs (bytesOf file (before .span .last)) (before .unordered) (leaves bs level at) (keysOf file level at before)
-      go b = subst (λ (o : ℕ). Met file bs (bytesOf file (before .span .last)) (before .unordered) (leaves bs level o) (keysOf file level o before)) (b .starts)
+      go : MetBlock bs root t level at → Met file bs (bytesIn file (before .span .last)) (before .unordered) (leaves bs level at) (keysOf file level at before)
+      go b = subst (λ (o : ℕ). Met file bs (bytesIn file (before .span .last)) (before .unordered) (leaves bs level o) (keysOf file level o before)) (b .starts)
           (walk-met file from bs read root t level (b .block) (b .member) (b .leveled) (b .few) before)
 
-  way-under : (level at : ℕ) → Way bs root level at → (first : Text) × (rest : List Text) × (under bs level at ≡ first ∷ rest)
-  way-under level at w = go (way-block bs root t level at w)
-    where
-      begun : (rs : List Text) → under bs level at ≡ rs → 0 < length rs → (first : Text) × (rest : List Text) × (under bs level at ≡ first ∷ rest)
-      begun [] e some = absurd (omega arith)
-      begun (r ∷ rs) e some = (r, rs, e)
-
-      go : MetBlock bs root t level at → (first : Text) × (rest : List Text) × (under bs level at ≡ first ∷ rest)
-      go b = begun (under bs level at) refl (subst (λ (o : ℕ). 0 < length (under bs level o)) (b .starts) (under-length bs root t level (b .block) (b .member) (b .leveled) (b .few)))
-
   -- the test at an entry
-  way-test : (level at : ℕ) (w : Way bs root level at) (key : List ℕ) (met : Keys) → bytesOf file (met .span .last) ≡ lastBytes [] (pre bs root level at w)
+  way-test : (level at : ℕ) (w : Way bs root level at) (key : List ℕ) (met : Keys) → bytesIn file (met .span .last) ≡ lastBytes [] (pre bs root level at w)
       → fitsBetween file key (met .span) (keysOf file level at met .span) ≡ keyFits bs key (under bs level at)
   unfolding under
-  way-test level at w key met last = go (way-under level at w)
+  way-test level at w key met last = go (under-some bs root t level at w)
     where
       go : (first : Text) × (rest : List Text) × (under bs level at ≡ first ∷ rest) → fitsBetween file key (met .span) (keysOf file level at met .span) ≡ keyFits bs key (under bs level at)
       go (first, rest, own) =
           test-same file key (met .span) (keysOf file level at met .span) (pre bs root level at w) first rest
           (rising-left [] (pre bs root level at w) _ (subst (λ (rs : List Text). risingFrom [] (map (λ r. r .bytes) rs) ≡ true) (records-cut bs root t walked level at w) rise))
-          last (bytesOf file (met .span .last)) (subst (Spans file (bytesOf file (met .span .last)) (keysOf file level at met .span)) own (way-met level at w met .spans))
+          last (bytesIn file (met .span .last)) (subst (Spans file (bytesIn file (met .span .last)) (keysOf file level at met .span)) own (way-met level at w met .spans))
           ∙ sym (keyFits-way bs root t walked placed key level at w first rest own)
 
   -- the last record before an entry's block
@@ -162,7 +130,7 @@ module _ (file : List ℕ) (from : ℕ) (bs : List Block) (read : blocksAt file 
       ∙ ap (lastBytes []) (sym (flatMap-append (λ o. blockRecords bs o) (leavesBefore bs root (suc level) at w) (flatMap (λ y. leaves bs level (y .offset)) front)))
 
   over-misfit : (level at : ℕ) (w : Way bs root (suc level) at) (d : List ℕ) (m : ℕ) → d ≡ lastBytes [] (pre bs root (suc level) at w)
-      → ((o : ℕ) (v : Way bs root level o) (k : Keys) → bytesOf file (k .span .last) ≡ lastBytes [] (pre bs root level o v) → keysOf file level o k .misfit ≡ leastOf (k .misfit) (misfits bs level o))
+      → ((o : ℕ) (v : Way bs root level o) (k : Keys) → bytesIn file (k .span .last) ≡ lastBytes [] (pre bs root level o v) → keysOf file level o k .misfit ≡ leastOf (k .misfit) (misfits bs level o))
       → (front back : List Entry) → blockEntries bs at ≡ front ++ back → (met : Keys) → Met file bs d m (flatMap (λ x. leaves bs level (x .offset)) front) met
       → overKeys file at (keysOf file level) back met .misfit ≡ leastOf (met .misfit) (flatMap (λ e. misfits bs level (e .offset) ++ misfitOf bs level at e) back)
   unfolding overKeys flatMap leastOf entryKeys
@@ -191,8 +159,8 @@ module _ (file : List ℕ) (from : ℕ) (bs : List Block) (read : blocksAt file 
       more : done ++ leaves bs level (e .offset) ≡ flatMap (λ x. leaves bs level (x .offset)) (front ++ (e ∷ []))
       more = ap (λ (l : List ℕ). done ++ l) (sym (append-nil (leaves bs level (e .offset)))) ∙ sym (flatMap-append (λ x. leaves bs level (x .offset)) front (e ∷ []))
 
-      last : bytesOf file (met .span .last) ≡ lastBytes [] (pre bs root level (e .offset) v)
-      last = way-last level at w front e back p d (bytesOf file (met .span .last)) h (met-last file bs d m done met k)
+      last : bytesIn file (met .span .last) ≡ lastBytes [] (pre bs root level (e .offset) v)
+      last = way-last level at w front e back p d (bytesIn file (met .span .last)) h (met-last file bs d m done met k)
 
       step : next .misfit ≡ leastOf (met .misfit) (misfits bs level (e .offset) ++ misfitOf bs level at e)
       step =
@@ -202,18 +170,18 @@ module _ (file : List ℕ) (from : ℕ) (bs : List Block) (read : blocksAt file 
           ∙ sym (leastOf-append (met .misfit) (misfits bs level (e .offset)) (misfitOf bs level at e))
 
   -- the walk down from a block keeps the first of its misfits
-  pub walk-misfit : (level at : ℕ) (w : Way bs root level at) (before : Keys) → bytesOf file (before .span .last) ≡ lastBytes [] (pre bs root level at w)
+  pub walk-misfit : (level at : ℕ) (w : Way bs root level at) (before : Keys) → bytesIn file (before .span .last) ≡ lastBytes [] (pre bs root level at w)
       → keysOf file level at before .misfit ≡ leastOf (before .misfit) (misfits bs level at)
   unfolding keysOf leafKeys misfits leastOf flatMap keysEntering
   walk-misfit zero at w before h = refl
   walk-misfit (suc level) at w before h = go (way-block bs root t (suc level) at w) (walk-misfit level)
     where
       go : MetBlock bs root t (suc level) at
-          → ((o : ℕ) (v : Way bs root level o) (k : Keys) → bytesOf file (k .span .last) ≡ lastBytes [] (pre bs root level o v) → keysOf file level o k .misfit ≡ leastOf (k .misfit) (misfits bs level o))
+          → ((o : ℕ) (v : Way bs root level o) (k : Keys) → bytesIn file (k .span .last) ≡ lastBytes [] (pre bs root level o v) → keysOf file level o k .misfit ≡ leastOf (k .misfit) (misfits bs level o))
           → keysOf file (suc level) at before .misfit ≡ leastOf (before .misfit) (misfits bs (suc level) at)
       go b ih =
           let few = b .few in
           let high = b .leveled in
           let same = subst (λ (o : ℕ). entriesIn file o ≡ blockEntries bs o) (b .starts) (walk-entries file from bs read root t (b .block) (b .member) (omega arith) (omega arith)) in
           ap (λ (es : List Entry). overKeys file at (keysOf file level) es (keysEntering before) .misfit) same
-          ∙ over-misfit level at w (bytesOf file (before .span .last)) (before .unordered) h ih [] (blockEntries bs at) refl (keysEntering before) (met-opened file bs before)
+          ∙ over-misfit level at w (bytesIn file (before .span .last)) (before .unordered) h ih [] (blockEntries bs at) refl (keysEntering before) (met-entering file bs before)

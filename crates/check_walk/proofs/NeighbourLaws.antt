@@ -7,10 +7,10 @@ use mathlib.Core.List.{List, [], _∷_, _++_, map, flatMap, List·Memᴰ, List·
 use Prim.Native.Nat.{ℕ, _<_}
 use native.Mathlib.Omega.{arith}
 use lib.ListN.{length}
-use borrow.Author.Tests.{eq-eqb, ne-eqb}
+use borrow.Author.Tests.{ne-eqb}
 use Rattle.byte_string.specs.Order.{atMost}
 use Rattle.byte_string.proofs.OrderLaws.{atMost-refl, atMost-trans, nil-atMost}
-use Rattle.outcome.specs.Outcome.{answer, refused, _>>_, must}
+use Rattle.outcome.specs.Outcome.{_>>_, must}
 use Rattle.lists.specs.Lists.{all}
 use Rattle.outcome.proofs.OutcomeLaws.{kept, broken}
 use Rattle.lists.proofs.ListsLaws.{both⁻¹, all-member, member-all}
@@ -18,8 +18,9 @@ use Rattle.payload.specs.Payload.{Text, rising, risingFrom}
 use Rattle.block.specs.Block.{Block}
 use Rattle.tree.specs.Tree.{blockRecords}
 use Rattle.tree.specs.Stages.{allAtMost, neighboursOf, neighbours}
-use Rattle.check_walk.specs.Keys.{placeSaid}
+use Rattle.check_walk.specs.Walk.{placeSaid}
 use Rattle.check_walk.proofs.SpanLaws.{lastBytes}
+use Rattle.check_walk.proofs.WalkedLaws.{said-none, said-place}
 use Rattle.check_walk.proofs.WalkLaws.{firstFits, outOf, recordsAll}
 
 -- two tests that imply each other
@@ -108,15 +109,6 @@ outOf-kept bs d m [] h = refl
 outOf-kept bs d m (x ∷ xs) h =
     ap (λ (b : Bool). outOf bs (lastBytes d (blockRecords bs x)) (cond (b && not (firstFits d (blockRecords bs x))) x m) xs) (ne-eqb m 0 h)
     ∙ outOf-kept bs (lastBytes d (blockRecords bs x)) m xs h
-
--- the place that the walk has found, as an outcome
-pub said-none : (number m : ℕ) → m ≡ 0 → placeSaid number m ≡ answer tt
-unfolding placeSaid
-said-none number m h = rw (eq-eqb m 0 h)
-
-pub said-place : (number m : ℕ) → m ≢ 0 → placeSaid number m ≡ refused number m
-unfolding placeSaid
-said-place number m h = rw (ne-eqb m 0 h)
 
 last-any : (d : List ℕ) (rs : List Text) → 0 < length rs → lastBytes d rs ≡ lastBytes [] rs
 unfolding lastBytes

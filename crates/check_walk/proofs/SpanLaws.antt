@@ -14,8 +14,8 @@ use Rattle.block.specs.Block.{Block, blockAt}
 use Rattle.payload.proofs.ReadLaws.{Stands}
 use Rattle.block.proofs.HeldLaws.{record-in-block, data-some}
 use Rattle.check_walk.specs.declared.keys.Span.{Span}
-use Rattle.check_walk.specs.Lookup.{recordsIn}
-use Rattle.check_walk.specs.Keys.{nonePiece, noSpan, spanJoined, spanOne, spanOver, bytesOf}
+use Rattle.check_walk.specs.Lookup.{noPart, bytesIn, recordsIn}
+use Rattle.check_walk.specs.Keys.{noSpan, spanJoined, spanOne, spanOver}
 use Rattle.check_walk.proofs.LookupLaws.{records-again}
 use Rattle.check_walk.proofs.KeyLaws.{joined-none, joined-some}
 
@@ -31,10 +31,10 @@ lastBytes-append d (x ∷ xs) ys = lastBytes-append (x .bytes) xs ys
 
 -- the span of these records, where d is the last record before them
 unfoldable pub Spans : (file d : List ℕ) → Span → List Text → Type 0
-Spans file d s [] = (s .first .at ≡ 0) × (bytesOf file (s .last) ≡ d)
-Spans file d s (r ∷ rs) = (s .first .at ≢ 0) × (bytesOf file (s .first) ≡ r .bytes) × (bytesOf file (s .last) ≡ lastBytes d (r ∷ rs))
+Spans file d s [] = (s .first .offset ≡ 0) × (bytesIn file (s .last) ≡ d)
+Spans file d s (r ∷ rs) = (s .first .offset ≢ 0) × (bytesIn file (s .first) ≡ r .bytes) × (bytesIn file (s .last) ≡ lastBytes d (r ∷ rs))
 
-pub spans-last : (file d : List ℕ) (s : Span) (rs : List Text) → Spans file d s rs → bytesOf file (s .last) ≡ lastBytes d rs
+pub spans-last : (file d : List ℕ) (s : Span) (rs : List Text) → Spans file d s rs → bytesIn file (s .last) ≡ lastBytes d rs
 unfolding Spans lastBytes
 spans-last file d s [] h = h .1
 spans-last file d s (r ∷ rs) h = h .2
@@ -52,7 +52,7 @@ pub record Placed (file : List ℕ) (r : Text) : Type 0 where
   pub bytes-are : part file (r .at) (length (r .bytes)) ≡ r .bytes
 
 spans-one : (file d : List ℕ) (y : Text) → Placed file y → Spans file d (spanOne y) (y ∷ [])
-unfolding Spans lastBytes spanOne bytesOf
+unfolding Spans lastBytes spanOne bytesIn
 spans-one file d y p = (p .some, p .bytes-are, p .bytes-are)
 
 spans-over : (file d : List ℕ) (s : Span) (xs ys : List Text) → Spans file d s xs → ((y : Text) → List·Memᴰ y ys → Placed file y) → Spans file d (spanOver ys s) (xs ++ ys)
@@ -70,7 +70,7 @@ spans-any file c d s (r ∷ rs) some h = h
 
 -- the span of a data block
 pub block-spans : (file : List ℕ) (at : ℕ) (b : Block) → blockAt file at ≡ answer b → b .frame .level ≡ 0 → (d : List ℕ) → Spans file d (spanOver (recordsIn file at) noSpan) (b .records)
-unfolding Spans noSpan nonePiece bytesOf part
+unfolding Spans noSpan noPart bytesIn part
 block-spans file at b read level d =
     spans-any file [] d (spanOver (recordsIn file at) noSpan) (b .records) (data-some file at b read level)
     (subst (λ (rs : List Text). Spans file [] (spanOver rs noSpan) (b .records)) (sym (records-again file at b read level))

@@ -17,11 +17,11 @@ use Rattle.block.proofs.TileLaws.{blocks-read}
 use Rattle.check_walk.specs.declared.keys.Span.{Span}
 use Rattle.check_walk.specs.declared.keys.Keys.{Keys}
 use Rattle.tree.specs.Tree.{blockEntries, blockRecords, leaves}
-use Rattle.check_walk.specs.Lookup.{entriesIn, recordsIn}
-use Rattle.check_walk.specs.Keys.{nonePiece, noSpan, spanOver, spanJoined, bytesOf, leafKeys, entryKeys, overKeys, keysEntering, keysOf}
-use Rattle.check_walk.proofs.LookupLaws.{entries-again}
+use Rattle.check_walk.specs.Lookup.{noPart, bytesIn, recordsIn}
+use Rattle.check_walk.specs.Keys.{noSpan, spanOver, spanJoined, leafKeys, entryKeys, overKeys, keysEntering, keysOf}
+use Rattle.check_walk.proofs.AscentLaws.{walk-entries}
 use Rattle.check_walk.proofs.SpanLaws.{lastBytes, lastBytes-append, Spans, spans-last, spans-joined, block-spans}
-use Rattle.tree.proofs.TreeLaws.{Tree, entries-at, records-at, Child, child}
+use Rattle.tree.proofs.TreeLaws.{Tree, records-at, Child, child}
 
 -- ---- data blocks in walk order
 
@@ -30,7 +30,7 @@ unfoldable pub firstFits : List ℕ → List Text → Bool
 firstFits d [] = true
 firstFits d (r ∷ rs) = atMost d (r .bytes)
 
-pub spans-first : (file d : List ℕ) (own : Span) (rs : List Text) → 0 < length rs → Spans file d own rs → atMost d (bytesOf file (own .first)) ≡ firstFits d rs
+pub spans-first : (file d : List ℕ) (own : Span) (rs : List Text) → 0 < length rs → Spans file d own rs → atMost d (bytesIn file (own .first)) ≡ firstFits d rs
 unfolding Spans firstFits
 spans-first file d own [] some h = absurd (omega arith)
 spans-first file d own (r ∷ rs) some h = ap (atMost d) (h .1)
@@ -54,17 +54,17 @@ outOf-append bs d m (x ∷ xs) ys =
 
 -- ---- what is known of the walk at a place
 
--- behind the data blocks at these offsets, where the walk began with the last record d and the block m out of order
+-- after the data blocks at these offsets, where the walk began with the last record d and the block m out of order
 pub record Met (file : List ℕ) (bs : List Block) (d : List ℕ) (m : ℕ) (xs : List ℕ) (k : Keys) : Type 0 where
   pub spans : Spans file d (k .span) (recordsAll bs xs)
   pub ordered : k .unordered ≡ outOf bs d m xs
 
-pub met-last : (file : List ℕ) (bs : List Block) (d : List ℕ) (m : ℕ) (xs : List ℕ) (k : Keys) → Met file bs d m xs k → bytesOf file (k .span .last) ≡ lastBytes d (recordsAll bs xs)
+pub met-last : (file : List ℕ) (bs : List Block) (d : List ℕ) (m : ℕ) (xs : List ℕ) (k : Keys) → Met file bs d m xs k → bytesIn file (k .span .last) ≡ lastBytes d (recordsAll bs xs)
 met-last file bs d m xs k h = spans-last file d (k .span) (recordsAll bs xs) (h .spans)
 
 -- an entry more
 pub met-entry : (file : List ℕ) (bs : List Block) (d : List ℕ) (m : ℕ) (xs ys : List ℕ) (at : ℕ) (key : List ℕ) (met own : Keys) → Met file bs d m xs met
-    → Met file bs (bytesOf file (met .span .last)) (met .unordered) ys own → Met file bs d m (xs ++ ys) (entryKeys file at key met own)
+    → Met file bs (bytesIn file (met .span .last)) (met .unordered) ys own → Met file bs d m (xs ++ ys) (entryKeys file at key met own)
 unfolding entryKeys
 met-entry file bs d m xs ys at key met own h k =
     let last = met-last file bs d m xs met h in
@@ -75,7 +75,7 @@ met-entry file bs d m xs ys at key met own h k =
     }
 
 met-over : (file : List ℕ) (bs : List Block) (d : List ℕ) (m : ℕ) (level at : ℕ) (walk : ℕ → Keys → Keys) (es : List Entry)
-    → ((e : Entry) → List·Memᴰ e es → (k : Keys) → Met file bs (bytesOf file (k .span .last)) (k .unordered) (leaves bs level (e .offset)) (walk (e .offset) k))
+    → ((e : Entry) → List·Memᴰ e es → (k : Keys) → Met file bs (bytesIn file (k .span .last)) (k .unordered) (leaves bs level (e .offset)) (walk (e .offset) k))
     → (xs : List ℕ) (met : Keys) → Met file bs d m xs met → Met file bs d m (xs ++ flatMap (λ e. leaves bs level (e .offset)) es) (overKeys file at walk es met)
 unfolding overKeys flatMap
 met-over file bs d m level at walk [] h xs met k = subst (λ (l : List ℕ). Met file bs d m l met) (sym (append-nil xs)) k
@@ -85,19 +85,15 @@ met-over file bs d m level at walk (e ∷ es) h xs met k =
     subst (λ (l : List ℕ). Met file bs d m l (overKeys file at walk es next)) (append-assoc xs own (flatMap (λ x. leaves bs level (x .offset)) es))
     (met-over file bs d m level at walk es (λ x i. h x (List·Memᴰ·tail i)) (xs ++ own) next (met-entry file bs d m xs own at (e .key .bytes) met (walk (e .offset) met) k (h e (List·Memᴰ·head refl) met)))
 
-pub met-opened : (file : List ℕ) (bs : List Block) (before : Keys) → Met file bs (bytesOf file (before .span .last)) (before .unordered) [] (keysEntering before)
-unfolding keysEntering Spans nonePiece outOf flatMap
-met-opened file bs before = record { spans = (refl, refl); ordered = refl }
+pub met-entering : (file : List ℕ) (bs : List Block) (before : Keys) → Met file bs (bytesIn file (before .span .last)) (before .unordered) [] (keysEntering before)
+unfolding keysEntering Spans noPart outOf flatMap
+met-entering file bs before = record { spans = (refl, refl); ordered = refl }
 
 module _ (file : List ℕ) (from : ℕ) (bs : List Block) (read : blocksAt file from ≡ answer bs) (root : ℕ) (t : Tree bs root) where
-  -- the entries that the walk reads are the tree's
-  pub walk-entries : (b : Block) → List·Memᴰ b bs → 1 ≤ b .frame .level → b .frame .level ≤ 63 → entriesIn file (b .frame .start) ≡ blockEntries bs (b .frame .start)
-  walk-entries b m some few = entries-again file (b .frame .start) b (blocks-read file from bs read b m .read) some few ∙ sym (entries-at bs root t b m)
-
-  met-leaf : (b : Block) → List·Memᴰ b bs → b .frame .level ≡ 0 → (before : Keys) → Met file bs (bytesOf file (before .span .last)) (before .unordered) (b .frame .start ∷ []) (leafKeys file (b .frame .start) before)
+  met-leaf : (b : Block) → List·Memᴰ b bs → b .frame .level ≡ 0 → (before : Keys) → Met file bs (bytesIn file (before .span .last)) (before .unordered) (b .frame .start ∷ []) (leafKeys file (b .frame .start) before)
   unfolding leafKeys outOf flatMap
   met-leaf b m level before =
-      let d = bytesOf file (before .span .last) in
+      let d = bytesIn file (before .span .last) in
       let own = spanOver (recordsIn file (b .frame .start)) noSpan in
       let is = blocks-read file from bs read b m .read in
       let mine : recordsAll bs (b .frame .start ∷ []) ≡ b .records = append-nil (blockRecords bs (b .frame .start)) ∙ records-at bs root t b m in
@@ -109,18 +105,18 @@ module _ (file : List ℕ) (from : ℕ) (bs : List Block) (read : blocksAt file 
 
   -- the walk down from a block of the tree meets the tree's data blocks
   pub walk-met : (level : ℕ) (b : Block) → List·Memᴰ b bs → b .frame .level ≡ level → level ≤ 63 → (before : Keys)
-      → Met file bs (bytesOf file (before .span .last)) (before .unordered) (leaves bs level (b .frame .start)) (keysOf file level (b .frame .start) before)
+      → Met file bs (bytesIn file (before .span .last)) (before .unordered) (leaves bs level (b .frame .start)) (keysOf file level (b .frame .start) before)
   unfolding keysOf leaves
   walk-met zero b m here few before = met-leaf b m here before
   walk-met (suc level) b m here few before =
       let at = b .frame .start in
-      subst (λ (es : List Entry). Met file bs (bytesOf file (before .span .last)) (before .unordered) (flatMap (λ e. leaves bs level (e .offset)) (blockEntries bs at)) (overKeys file at (keysOf file level) es (keysEntering before)))
-      (sym (walk-entries b m (omega arith) (omega arith)))
-      (met-over file bs (bytesOf file (before .span .last)) (before .unordered) level at (keysOf file level) (blockEntries bs at)
-      (λ e i k. below e (child bs root t b m level here e i) k (walk-met level)) [] (keysEntering before) (met-opened file bs before))
+      subst (λ (es : List Entry). Met file bs (bytesIn file (before .span .last)) (before .unordered) (flatMap (λ e. leaves bs level (e .offset)) (blockEntries bs at)) (overKeys file at (keysOf file level) es (keysEntering before)))
+      (sym (walk-entries file from bs read root t b m (omega arith) (omega arith)))
+      (met-over file bs (bytesIn file (before .span .last)) (before .unordered) level at (keysOf file level) (blockEntries bs at)
+      (λ e i k. below e (child bs root t b m level here e i) k (walk-met level)) [] (keysEntering before) (met-entering file bs before))
     where
       below : (e : Entry) → Child bs root t level e → (k : Keys)
-          → ((c : Block) → List·Memᴰ c bs → c .frame .level ≡ level → level ≤ 63 → (q : Keys) → Met file bs (bytesOf file (q .span .last)) (q .unordered) (leaves bs level (c .frame .start)) (keysOf file level (c .frame .start) q))
-          → Met file bs (bytesOf file (k .span .last)) (k .unordered) (leaves bs level (e .offset)) (keysOf file level (e .offset) k)
+          → ((c : Block) → List·Memᴰ c bs → c .frame .level ≡ level → level ≤ 63 → (q : Keys) → Met file bs (bytesIn file (q .span .last)) (q .unordered) (leaves bs level (c .frame .start)) (keysOf file level (c .frame .start) q))
+          → Met file bs (bytesIn file (k .span .last)) (k .unordered) (leaves bs level (e .offset)) (keysOf file level (e .offset) k)
       below e c k ih =
-          subst (λ (o : ℕ). Met file bs (bytesOf file (k .span .last)) (k .unordered) (leaves bs level o) (keysOf file level o k)) (c .starts) (ih (c .block) (c .member) (c .leveled) (omega arith) k)
+          subst (λ (o : ℕ). Met file bs (bytesIn file (k .span .last)) (k .unordered) (leaves bs level o) (keysOf file level o k)) (c .starts) (ih (c .block) (c .member) (c .leveled) (omega arith) k)

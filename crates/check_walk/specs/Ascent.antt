@@ -20,10 +20,11 @@ unfoldable pub ascentOver : (child : ℕ → ℕ → Outcome ℕ) → List Entry
 ascentOver child [] least = answer least
 ascentOver child (e ∷ es) least = child (e .offset) least >>= ascentOver child es
 
--- a data block within the file, at or behind the least offset
+-- a data block within the file, at the least offset or after it
 unfoldable pub leafOf : (long at least : ℕ) → Outcome ℕ
 leafOf long at least = must (leb least at && ltb at long) 22 at >> answer (at + 1)
 
+-- the walk down from the block of this level at an offset
 unfoldable pub ascentOf : List ℕ → (level at least : ℕ) → Outcome ℕ
 ascentOf file zero at least = leafOf (length file) at least
 ascentOf file (suc level) at least = ascentOver (ascentOf file level) (entriesIn file at) least

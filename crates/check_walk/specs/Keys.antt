@@ -5,42 +5,34 @@ use mathlib.Core.List.{List, [], _∷_}
 use lib.Dec.{ltb, eqb}
 use lib.ListN.{length}
 use Rattle.byte_string.specs.Order.{atMost}
-use Rattle.outcome.specs.Outcome.{Outcome, answer, refused}
-use Rattle.part.specs.Part.{part}
+use Rattle.part.specs.declared.Part.{Part}
 use Rattle.payload.specs.Payload.{Text, Entry}
-use Rattle.check_walk.specs.declared.keys.Piece.{Piece}
 use Rattle.check_walk.specs.declared.keys.Span.{Span}
 use Rattle.check_walk.specs.declared.keys.Keys.{Keys}
-use Rattle.check_walk.specs.Lookup.{entriesIn, recordsIn}
-
--- no byte string
-unfoldable pub nonePiece : Piece
-nonePiece = record { at = 0; size = 0 }
+use Rattle.check_walk.specs.Lookup.{noPart, bytesIn, entriesIn, recordsIn}
 
 -- no record yet
 unfoldable pub noSpan : Span
-noSpan = record { first = nonePiece; last = nonePiece }
+noSpan = record { first = noPart; last = noPart }
 
 -- records, and then the records of another span
 unfoldable pub spanJoined : Span → Span → Span
-spanJoined a b = cond (eqb (a .first .at) 0) b (record { first = a .first; last = b .last })
+spanJoined a b = cond (eqb (a .first .offset) 0) b (record { first = a .first; last = b .last })
 
 -- one record
 unfoldable pub spanOne : Text → Span
-spanOne t = record { first = record { at = t .at; size = length (t .bytes) }; last = record { at = t .at; size = length (t .bytes) } }
+spanOne t =
+    let p : Part = record { offset = t .at; length = length (t .bytes) } in
+    record { first = p; last = p }
 
 -- records, and then these records
 unfoldable pub spanOver : List Text → Span → Span
 spanOver [] s = s
 spanOver (t ∷ ts) s = spanOver ts (spanJoined s (spanOne t))
 
--- the bytes that stand there
-unfoldable pub bytesOf : List ℕ → Piece → List ℕ
-bytesOf file p = part file (p .at) (p .size)
-
 -- both lie within the file
 unfoldable pub Within : List ℕ → Span → Type 0
-Within file s = (s .first .at + s .first .size ≤ length file) × (s .last .at + s .last .size ≤ length file)
+Within file s = (s .first .offset + s .first .length ≤ length file) × (s .last .offset + s .last .length ≤ length file)
 
 -- the first place of two, where 0 is none
 unfoldable pub earlier : ℕ → ℕ → ℕ
@@ -52,13 +44,13 @@ leafKeys file at before =
     let own = spanOver (recordsIn file at) noSpan in
     record {
       span = own;
-      unordered = cond (eqb (before .unordered) 0 && not (atMost (bytesOf file (before .span .last)) (bytesOf file (own .first)))) at (before .unordered);
+      unordered = cond (eqb (before .unordered) 0 && not (atMost (bytesIn file (before .span .last)) (bytesIn file (own .first)))) at (before .unordered);
       misfit = before .misfit;
     }
 
 -- the key of an entry lies between the last record before and the first record of what its block leads to
 unfoldable pub fitsBetween : List ℕ → (key : List ℕ) (before child : Span) → Bool
-fitsBetween file key before child = atMost (bytesOf file (before .last)) key && atMost key (bytesOf file (child .first))
+fitsBetween file key before child = atMost (bytesIn file (before .last)) key && atMost key (bytesIn file (child .first))
 
 -- an entry of the index block at `at`, with what the walk of its block hands back
 unfoldable pub entryKeys : List ℕ → (at : ℕ) (key : List ℕ) (before child : Keys) → Keys
@@ -76,12 +68,13 @@ overKeys file at child (e ∷ es) before = overKeys file at child es (entryKeys 
 
 -- at the start of an index block: nothing of what it leads to is met yet, the last record before stays
 unfoldable pub keysEntering : Keys → Keys
-keysEntering before = record { span = record { first = nonePiece; last = before .span .last }; unordered = before .unordered; misfit = before .misfit }
+keysEntering before = record { span = record { first = noPart; last = before .span .last }; unordered = before .unordered; misfit = before .misfit }
 
+-- before the walk: no record, no fault
+unfoldable pub noKeys : Keys
+noKeys = record { span = noSpan; unordered = 0; misfit = 0 }
+
+-- the walk down from the block of this level at an offset
 unfoldable pub keysOf : List ℕ → (level at : ℕ) → Keys → Keys
 keysOf file zero at before = leafKeys file at before
 keysOf file (suc level) at before = overKeys file at (keysOf file level) (entriesIn file at) (keysEntering before)
-
--- a place that was found, as an outcome: 0 is none
-unfoldable pub placeSaid : (number place : ℕ) → Outcome (Unit {0})
-placeSaid number place = cond (eqb place 0) (answer tt) (refused number place)

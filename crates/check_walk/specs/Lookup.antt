@@ -1,30 +1,35 @@
--- What can be read at an offset of a file, whatever stands there: the entries or the records in front of the first refusal, none
--- where there is no frame. Later walks read blocks by this, without their tests.
+-- What lies at an offset of a file, read without tests: the level, the payload, and its entries or records up to the first fault. Where
+-- there is no frame, the level is 0, the payload is empty and there are no items. The walks read blocks by this.
 use Prim.Native.Nat.{ℕ, _+_, _-_}
 use mathlib.Core.List.{List}
-use lib.ListN.{take}
 use Rattle.outcome.specs.Outcome.{Outcome, answer, refused}
-use Rattle.items.specs.Items.{Step, soundFrom}
+use Rattle.items.specs.Items.{whereAnswered}
+use Rattle.part.specs.Part.{part}
+use Rattle.part.specs.declared.Part.{Part}
 use Rattle.framing.specs.declared.Frame.{Frame}
 use Rattle.framing.specs.Frame.{frameAt}
 use Rattle.payload.specs.Payload.{Text, Entry, textAt, entryAt}
-use Rattle.check_walk.specs.declared.lookup.Bounds.{Bounds}
+use Rattle.block.specs.Laid.{laidItems}
 
--- the payload goes from behind the level byte to the end of the L bytes; nothing where there is no frame
-unfoldable pub boundsOf : Outcome Frame → Bounds
-boundsOf (answer f) = record { from = f .body + 1; end = f .end }
-boundsOf (refused number place) = record { from = 0; end = 0 }
+-- no bytes: the empty part at 0
+unfoldable pub noPart : Part
+noPart = record { offset = 0; length = 0 }
 
-unfoldable pub boundsAt : List ℕ → ℕ → Bounds
-boundsAt file at = boundsOf (frameAt file at)
+-- the bytes of a part
+unfoldable pub bytesIn : List ℕ → Part → List ℕ
+bytesIn file p = part file (p .offset) (p .length)
 
--- the items of one kind from `from` to `end`, in front of the first refusal
-unfoldable pub itemsIn : {A : Type 0} → (List ℕ → ℕ → Outcome (Step A)) → List ℕ → Bounds → List A
-itemsIn step file p = soundFrom (step (take (p .end) file)) (p .end) (p .end - p .from) (p .from)
+unfoldable pub levelOf : Outcome Frame → ℕ
+levelOf (answer f) = f .level
+levelOf (refused number place) = 0
 
--- the entries and the records that can be read in the frame at an offset
+-- the payload goes from after the level byte to the end of the L bytes
+unfoldable pub payloadPart : Outcome Frame → Part
+payloadPart (answer f) = record { offset = f .body + 1; length = f .end - (f .body + 1) }
+payloadPart (refused number place) = noPart
+
 unfoldable pub entriesIn : List ℕ → ℕ → List Entry
-entriesIn file at = itemsIn (entryAt 0) file (boundsAt file at)
+entriesIn file at = whereAnswered (frameAt file at) (laidItems file entryAt)
 
 unfoldable pub recordsIn : List ℕ → ℕ → List Text
-recordsIn file at = itemsIn (textAt 0) file (boundsAt file at)
+recordsIn file at = whereAnswered (frameAt file at) (laidItems file textAt)

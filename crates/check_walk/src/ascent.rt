@@ -34,9 +34,9 @@ pub fn ascend(file: &[u8], at: usize, level: u8, least: usize) -> AscentOutcome
     if level == 0 {
         return leaf(file.len(), at, least);
     }
-    let bounds = payload_at(file, at);
-    let end = bounds.end;
-    let mut place = bounds.from;
+    let payload = payload_at(file, at);
+    let end = payload.offset + payload.length;
+    let mut place = payload.offset;
     let mut low = least;
     while place < end {
         let step = entry_at(&file[..end], place);
@@ -44,7 +44,6 @@ pub fn ascend(file: &[u8], at: usize, level: u8, least: usize) -> AscentOutcome
             EntryOutcome::Refused(_) => return AscentOutcome::Answer(low),
             EntryOutcome::Answer {
                 key: _,
-                length: _,
                 offset,
                 size: _,
                 next,

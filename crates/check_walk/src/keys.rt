@@ -3,24 +3,19 @@ ghost use Prim.Native.Nat.{_+_, _≤_};
 ghost use mathlib.Core.Path.{_≡_};
 ghost use lib.ListN.{length};
 ghost use Rattle.byte_string.specs.Order.{atMost};
-ghost use Rattle.check_walk.specs.Lookup.{recordsIn};
+ghost use Rattle.check_walk.specs.Lookup.{bytesIn, recordsIn};
 ghost use Rattle.check_walk.specs.Keys as defs;
 use crate::lookup::payload_at;
+use part::Part;
 use payload::EntryOutcome;
 use payload::TextOutcome;
 use payload::entry_at;
 use payload::text_at;
 
-// A byte string of the file: its offset and its length. The offset 0 stands for none.
-pub struct Piece {
-    pub at: usize,
-    pub size: usize,
-}
-
-// The first and the last of some records.
+// The first and the last of some records; no record begins at 0, which stands for none.
 pub struct Span {
-    pub first: Piece,
-    pub last: Piece,
+    pub first: Part,
+    pub last: Part,
 }
 
 // What the walk hands on: the records of the block that it leaves, or the last one before the block that it enters; the first data
@@ -37,7 +32,7 @@ fn joined(a: Span, b: Span) -> Span
 {
     let first = a.first;
     let last = b.last;
-    if first.at == 0 {
+    if first.offset == 0 {
         return b;
     }
     Span { first, last }
@@ -47,10 +42,13 @@ fn joined(a: Span, b: Span) -> Span
 fn span_at(file: &[u8], at: usize) -> Span
     ensures { λ r. ⌜ r ≡ defs.spanOver (recordsIn (now (file .entry)) at) defs.noSpan ⌝ }
 {
-    let bounds = payload_at(file, at);
-    let end = bounds.end;
-    let mut place = bounds.from;
-    let none = Piece { at: 0, size: 0 };
+    let payload = payload_at(file, at);
+    let end = payload.offset + payload.length;
+    let mut place = payload.offset;
+    let none = Part {
+        offset: 0,
+        length: 0,
+    };
     let mut span = Span {
         first: none,
         last: none,
@@ -59,15 +57,14 @@ fn span_at(file: &[u8], at: usize) -> Span
         let step = text_at(&file[..end], place);
         match step {
             TextOutcome::Refused(_) => return span,
-            TextOutcome::Answer { at, length } => {
-                let piece = Piece { at, size: length };
+            TextOutcome::Answer(text) => {
                 let one = Span {
-                    first: piece,
-                    last: piece,
+                    first: text,
+                    last: text,
                 };
                 let next = joined(span, one);
                 span = next;
-                place = at + length;
+                place = text.offset + text.length;
             },
         }
     }
@@ -75,14 +72,14 @@ fn span_at(file: &[u8], at: usize) -> Span
 }
 
 // Whether a byte string of the file is at most another.
-fn at_most(file: &[u8], x: Piece, y: Piece) -> bool
-    requires { ⌜ (x .at + x .size ≤ length (now file)) × (y .at + y .size ≤ length (now file)) ⌝ }
-    ensures { λ r. ⌜ r ≡ atMost (defs.bytesOf (now (file .entry)) x) (defs.bytesOf (now (file .entry)) y) ⌝ }
+fn at_most(file: &[u8], x: Part, y: Part) -> bool
+    requires { ⌜ (x .offset + x .length ≤ length (now file)) × (y .offset + y .length ≤ length (now file)) ⌝ }
+    ensures { λ r. ⌜ r ≡ atMost (bytesIn (now (file .entry)) x) (bytesIn (now (file .entry)) y) ⌝ }
 {
-    let a = x.at;
-    let b = a + x.size;
-    let c = y.at;
-    let d = c + y.size;
+    let a = x.offset;
+    let b = a + x.length;
+    let c = y.offset;
+    let d = c + y.length;
     byte_string::at_most(&file[a..b], &file[c..d])
 }
 
@@ -118,9 +115,9 @@ fn leaf_keys(file: &[u8], at: usize, before: Keys) -> Keys
 }
 
 // Whether a key lies between the last record before and the first record of what its block leads to.
-fn fits_between(file: &[u8], key: Piece, before: Span, child: Span) -> bool
-    requires { ⌜ (key .at + key .size ≤ length (now file)) × defs.Within (now file) before × defs.Within (now file) child ⌝ }
-    ensures { λ r. ⌜ r ≡ defs.fitsBetween (now (file .entry)) (defs.bytesOf (now (file .entry)) key) before child ⌝ }
+fn fits_between(file: &[u8], key: Part, before: Span, child: Span) -> bool
+    requires { ⌜ (key .offset + key .length ≤ length (now file)) × defs.Within (now file) before × defs.Within (now file) child ⌝ }
+    ensures { λ r. ⌜ r ≡ defs.fitsBetween (now (file .entry)) (bytesIn (now (file .entry)) key) before child ⌝ }
 {
     let last = before.last;
     let first = child.first;
@@ -144,9 +141,9 @@ fn earlier(m: usize, at: usize) -> usize
 }
 
 // An entry of the index block at `at`, with what the walk of its block hands back.
-fn entry_keys(file: &[u8], at: usize, key: Piece, before: Keys, child: Keys) -> Keys
-    requires { ⌜ (key .at + key .size ≤ length (now file)) × defs.Within (now file) (before .span) × defs.Within (now file) (child .span) ⌝ }
-    ensures { λ r. ⌜ r ≡ defs.entryKeys (now (file .entry)) at (defs.bytesOf (now (file .entry)) key) before child ⌝ }
+fn entry_keys(file: &[u8], at: usize, key: Part, before: Keys, child: Keys) -> Keys
+    requires { ⌜ (key .offset + key .length ≤ length (now file)) × defs.Within (now file) (before .span) × defs.Within (now file) (child .span) ⌝ }
+    ensures { λ r. ⌜ r ≡ defs.entryKeys (now (file .entry)) at (bytesIn (now (file .entry)) key) before child ⌝ }
 {
     let met = before.span;
     let own = child.span;
@@ -167,10 +164,13 @@ fn entry_keys(file: &[u8], at: usize, key: Piece, before: Keys, child: Keys) -> 
 }
 
 // At the start of an index block: nothing of what it leads to is met yet.
-fn opened(before: Keys) -> Keys
+fn entering(before: Keys) -> Keys
     ensures { λ r. ⌜ r ≡ defs.keysEntering before ⌝ }
 {
-    let none = Piece { at: 0, size: 0 };
+    let none = Part {
+        offset: 0,
+        length: 0,
+    };
     let met = before.span;
     let last = met.last;
     let span = Span { first: none, last };
@@ -189,27 +189,22 @@ pub fn keys_under(file: &[u8], at: usize, level: u8, before: Keys) -> Keys
     if level == 0 {
         return leaf_keys(file, at, before);
     }
-    let bounds = payload_at(file, at);
-    let end = bounds.end;
-    let mut place = bounds.from;
-    let mut met = opened(before);
+    let payload = payload_at(file, at);
+    let end = payload.offset + payload.length;
+    let mut place = payload.offset;
+    let mut met = entering(before);
     while place < end {
         let step = entry_at(&file[..end], place);
         match step {
             EntryOutcome::Refused(_) => return met,
             EntryOutcome::Answer {
                 key,
-                length,
                 offset,
                 size: _,
                 next,
             } => {
                 let child = keys_under(file, offset as usize, level - 1, met);
-                let piece = Piece {
-                    at: key,
-                    size: length,
-                };
-                let more = entry_keys(file, at, piece, met, child);
+                let more = entry_keys(file, at, key, met, child);
                 met = more;
                 place = next;
             },

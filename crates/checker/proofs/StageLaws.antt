@@ -1,33 +1,35 @@
--- 19 to 25 as two steps of the code: 19 and 20, then 22 to 25 over what those leave.
+-- 18 to 25 as the code judges them: where the blocks are accepted and have a root, the names, the walks and the hash of the blocks as they lie
+-- give what the rules state.
 -- Assumes nothing.
-use mathlib.Core.Path.{_≡_, sym, _∙_}
+use mathlib.Core.Path.{_≡_, refl, sym, ap, _∙_}
 use mathlib.Core.Logic.{_≢_}
-use mathlib.Core.Bool.{true, _&&_}
+use mathlib.Core.Bool.{true}
 use mathlib.Core.List.{List}
-use Prim.Native.Nat.{ℕ}
+use Prim.Native.Nat.{ℕ, _^_, _≤_}
 use native.Mathlib.Omega.{arith}
-use lib.Dec.{leb, eqb}
-use borrow.Author.Tests.{eqb-true, leb-true, eq-eqb, ne-eqb}
-use Rattle.outcome.specs.Outcome.{answer, refused, _>>_}
+use lib.Dec.{leb}
+use lib.ListN.{length}
+use borrow.Author.Tests.{eq-eqb, ne-eqb}
+use Rattle.outcome.specs.Outcome.{Outcome, answer, refused, _>>_, must}
+use Rattle.outcome.specs.declared.Refusal.{Refusal}
+use Rattle.outcome.specs.Refusal.{refusalOf}
 use Rattle.outcome.proofs.OutcomeLaws.{after-answer, after-refused, after-assoc, passed⁻¹}
-use Rattle.lists.proofs.ListsLaws.{any-member, both⁻¹}
 use Rattle.header.specs.declared.Header.{Header}
 use Rattle.header.specs.Header.{headerOf, blocksFrom}
-use Rattle.header.proofs.HeaderLaws.{is-header}
-use Rattle.block.specs.Block.{Block, isOrdinary, blocksAt}
-use Rattle.block.specs.Survey.{ordinary, isRoot}
-use Rattle.outcome.specs.declared.Refusal.{Refusal}
-use Rattle.tree.specs.Stages.{each, entriesFit, namedRightly, treeOf, hasRoot}
-use Rattle.outcome.specs.Refusal.{refusalOf}
-use Rattle.check_names.specs.Names.{namingOf}
-use Rattle.check_walk.specs.Walk.{walkRulesOf, Ready}
+use Rattle.header.proofs.HeaderLaws.{is-header, blocks-from}
+use Rattle.block.specs.Block.{Block, blocksAt}
+use Rattle.block.specs.Survey.{ordinary}
+use Rattle.tree.specs.Stages.{namingOf, walkRulesOf, hashRuleOf, treeOf, hasRoot}
+use Rattle.tree.proofs.StageLaws.{root⁻¹}
+use Rattle.check_names.specs.Names.{namesOf}
+use Rattle.check_names.proofs.NamesLaws.{names-accepted}
+use Rattle.check_walk.specs.Walk.{walkedOf}
+use Rattle.check_walk.proofs.ReadyLaws.{Ready, walked-rules}
+use Rattle.check_hash.specs.Hash.{hashOf}
+use Rattle.check_hash.proofs.HashLaws.{hash-accepted}
+use Rattle.checker.specs.Check.{laidTreeOf}
 
--- 19 and 20, then 22 to 25
-pub naming-then-walk : (file : List ℕ) (h : Header) (bs : List Block) → treeOf file h bs ≡ (namingOf bs (h .root) >> walkRulesOf file (h .root) bs)
-unfolding treeOf namingOf walkRulesOf
-naming-then-walk file h bs = after-assoc (each (entriesFit bs) 19 (ordinary bs)) (each (namedRightly bs (h .root)) 20 (ordinary bs)) (walkRulesOf file (h .root) bs)
-
--- ---- what a fault says
+-- ---- what a refusal says
 
 pub fault-none : (f : Refusal) → f .number ≡ 0 → refusalOf f ≡ answer tt
 unfolding refusalOf
@@ -37,41 +39,61 @@ pub fault-some : (f : Refusal) → f .number ≢ 0 → refusalOf f ≡ refused (
 unfolding refusalOf
 fault-some f h = rw (ne-eqb (f .number) 0 h)
 
--- ---- the two steps
+-- ---- one after the other
+
+module _ (file : List ℕ) (from root places : ℕ) (names : Refusal) (is : refusalOf names ≡ namesOf file from root places) where
+  -- 18, 19 or 20 decides
+  pub tree-names : names .number ≢ 0 → refusalOf names ≡ laidTreeOf file from root places
+  unfolding laidTreeOf
+  tree-names some =
+      let said = fault-some names some in
+      said ∙ sym (after-refused (namesOf file from root places) _ (names .number) (names .place) (sym is ∙ said))
+
+  module _ (none : names .number ≡ 0) (walk : Refusal) (walked : refusalOf walk ≡ walkedOf file root) where
+    named : laidTreeOf file from root places ≡ (walkedOf file root >> hashOf file from)
+    unfolding laidTreeOf
+    named = after-answer (namesOf file from root places) _ tt (sym is ∙ fault-none names none)
+
+    -- 22, 23 or 24 decides
+    pub tree-walk : walk .number ≢ 0 → refusalOf walk ≡ laidTreeOf file from root places
+    tree-walk some =
+        let said = fault-some walk some in
+        said ∙ sym (named ∙ after-refused (walkedOf file root) _ (walk .number) (walk .place) (sym walked ∙ said))
+
+    -- 25 decides
+    pub tree-hash : walk .number ≡ 0 → laidTreeOf file from root places ≡ hashOf file from
+    tree-hash z = named ∙ after-answer (walkedOf file root) _ tt (sym walked ∙ fault-none walk z)
+
+-- ---- of an accepted file
+
+after-same : {B : Type 0} (o : Outcome (Unit {0})) (p q : Outcome B) → (o ≡ answer tt → p ≡ q) → (o >> p) ≡ (o >> q)
+unfolding _>>_
+after-same (answer u) p q h = h refl
+after-same (refused number place) p q h = refl
 
 -- a header was read, and its blocks have passed 17
 module _ (file : List ℕ) (h : Header) (bs : List Block) (header : headerOf file ≡ answer h) (read : blocksAt file (blocksFrom h) ≡ answer bs) (root : hasRoot h bs ≡ true) where
-  -- where 19 and 20 pass too, the walk is ready
-  pub ready : namingOf bs (h .root) ≡ answer tt → Ready file (blocksFrom h) (h .root) bs
-  unfolding namingOf hasRoot isRoot isOrdinary blocksFrom
-  ready e =
-      let named = passed⁻¹ (each (entriesFit bs) 19 (ordinary bs)) _ tt e in
-      let top = any-member (λ b. isRoot (h .root) (h .rootsize) (b .frame)) bs root in
-      let f = top .0 .frame in
-      let parts = both⁻¹ (eqb (f .start) (h .root) && eqb (f .size) (h .rootsize)) (leb 1 (f .level) && leb (f .level) 63) (top .2) in
-      let levels = both⁻¹ (leb 1 (f .level)) (leb (f .level) 63) (parts .1) in
-      record {
-        short = is-header file h header .small;
-        behind = omega arith;
-        read = read;
-        top = top .0;
-        top-member = top .1;
-        top-start = eqb-true (f .start) (h .root) (both⁻¹ (eqb (f .start) (h .root)) (eqb (f .size) (h .rootsize)) (parts .0) .0);
-        top-index = leb-true 1 (f .level) (levels .0);
-        top-few = leb-true (f .level) 63 (levels .1);
-        fit = named .0;
-        rightly = named .1;
-      }
+  -- where 19 and 20 pass too, the walks can be made
+  ready : namingOf bs (h .root) ≡ answer tt → Ready file (blocksFrom h) (h .root) bs
+  ready named =
+      let top = root⁻¹ h bs root in
+      let from = blocks-from file h header in
+      record { later = omega arith; read = read; rooted = (top .0, top .1, top .2, top .4, top .5); named = named }
 
-  -- 19 or 20 refuses
-  pub misnamed : (f : Refusal) → refusalOf f ≡ namingOf bs (h .root) → f .number ≢ 0 → refusalOf f ≡ treeOf file h bs
-  misnamed f is some =
-      let said = fault-some f some in
-      said ∙ sym (after-refused (namingOf bs (h .root)) (walkRulesOf file (h .root) bs) (f .number) (f .place) (sym is ∙ said)) ∙ sym (naming-then-walk file h bs)
+  pub tree-accepted : (places : ℕ) → laidTreeOf file (blocksFrom h) (h .root) places ≡ (must (leb (length (ordinary bs)) places) 18 0 >> treeOf file h bs)
+  unfolding laidTreeOf treeOf
+  tree-accepted places =
+      ap (λ (o : Outcome (Unit {0})). o >> (walkedOf file (h .root) >> hashOf file (blocksFrom h))) (names-accepted file (blocksFrom h) (h .root) places short bs read)
+      ∙ after-same (room >> namingOf bs (h .root)) _ _ later
+      ∙ sym (after-assoc room (namingOf bs (h .root)) (walkRulesOf bs (h .root) >> hashRuleOf file bs))
+    where
+      short : length file ≤ 2 ^ 30
+      short = is-header file h header .small
 
-  -- both pass, and the walk decides
-  pub walked : (f : Refusal) → refusalOf f ≡ namingOf bs (h .root) → f .number ≡ 0
-      → (g : Refusal) → ((cs : List Block) → Ready file (blocksFrom h) (h .root) cs → refusalOf g ≡ walkRulesOf file (h .root) cs) → refusalOf g ≡ treeOf file h bs
-  walked f is none g walk =
-      let passed = sym is ∙ fault-none f none in
-      walk bs (ready passed) ∙ sym (after-answer (namingOf bs (h .root)) (walkRulesOf file (h .root) bs) tt passed) ∙ sym (naming-then-walk file h bs)
+      room : Outcome (Unit {0})
+      room = must (leb (length (ordinary bs)) places) 18 0
+
+      later : (room >> namingOf bs (h .root)) ≡ answer tt → (walkedOf file (h .root) >> hashOf file (blocksFrom h)) ≡ (walkRulesOf bs (h .root) >> hashRuleOf file bs)
+      later e =
+          ap (λ (o : Outcome (Unit {0})). o >> hashOf file (blocksFrom h)) (walked-rules file (blocksFrom h) (h .root) bs (ready (passed⁻¹ room (namingOf bs (h .root)) tt e .1)))
+          ∙ ap (λ (o : Outcome (Unit {0})). walkRulesOf bs (h .root) >> o) (hash-accepted file (blocksFrom h) short bs read)

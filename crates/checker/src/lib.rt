@@ -1,22 +1,17 @@
-// The check: refusals 1 to 25 in the checking order. The header, the block stage, then 17 and 18 here, 19 and 20 (crate `naming`), and 22
-// to 25 (crate `walking`). The work list is cleared at the end.
-ghost use Prim.Native.Nat.{_≤_};
+// The check: refusals 1 to 25 in the checking order. The header, the block stage and 17 here, 18 to 20 (crate `check_names`), 22 to 24
+// (crate `check_walk`) and 25 (crate `check_hash`). The work list is cleared at the end.
 ghost use mathlib.Core.Path.{_≡_};
-ghost use mathlib.Core.Bool.{true};
-ghost use mathlib.Core.List.{List};
 ghost use lib.ListN.{length};
 ghost use Rattle.output_list.specs.OutputList.{zeros};
 ghost use Rattle.outcome.specs.Outcome.{answer};
-ghost use Rattle.header.specs.Header.{headerOf, blocksFrom};
-ghost use Rattle.block.specs.Block.{Block, blocksAt};
-ghost use Rattle.block.specs.Survey.{ordinary};
-ghost use Rattle.tree.specs.Stages.{treeOf, hasRoot};
-ghost use Rattle.checker.specs.Check.{checkOf, checkAnswer};
 ghost use Rattle.outcome.specs.Refusal.{refusalOf};
+ghost use Rattle.header.specs.Header.{headerOf};
+ghost use Rattle.checker.specs.Check.{checkOf, checkAnswer, laidTreeOf};
 use block::pass::SurveyOutcome;
 use block::pass::survey;
-use check_names::names::naming_fault;
-use check_walk::walk::walk_fault;
+use check_hash::check_hash;
+use check_names::check_names;
+use check_walk::check_walk;
 use header::Header;
 use header::HeaderOutcome;
 use outcome::Refusal;
@@ -51,7 +46,7 @@ pub fn check(file: &[u8], work: &mut [u64]) -> Checked
     found
 }
 
-// The same, with the work list left as it was used.
+// The same, with the work list as it is left.
 fn check_file(file: &[u8], work: &mut [u64]) -> Checked
     ensures { λ r. ⌜ r ≡ checkAnswer (checkOf (now (file .entry)) (length (now (work .entry)))) ⌝ }
 {
@@ -72,36 +67,34 @@ fn check_blocks(file: &[u8], h: Header, work: &mut [u64]) -> Checked
     match stage {
         SurveyOutcome::Refused { number, place } => refusal(number, place as u64),
         SurveyOutcome::Answer(s) => {
-            let blocks = s.blocks;
             if !s.root {
                 return refusal(17, 0);
             }
-            if work.len() < blocks {
-                return refusal(18, 0);
-            }
-            let fault = tree_fault(file, h, blocks, work);
+            let fault = check_tree(file, from, h.root, work);
             if fault.number != 0 {
                 return refusal(fault.number, fault.place);
             }
             Checked {
                 number: 0,
                 place: 0,
-                blocks: blocks as u64,
+                blocks: s.blocks as u64,
                 records: s.records as u64,
             }
         },
     }
 }
 
-// 19 to 25, for a file that has this header and this many ordinary blocks, and has passed 17 and 18.
-fn tree_fault(file: &[u8], h: Header, blocks: usize, work: &mut [u64]) -> Refusal
-    requires { ⌜ headerOf (now file) ≡ answer h ⌝ }
-    ensures { λ r. ⌜ ((bs : List Block) → blocksAt (now (file .entry)) (blocksFrom h) ≡ answer bs → hasRoot h bs ≡ true → length (ordinary bs) ≡ blocks → blocks ≤ length (now (work .entry)) → refusalOf r ≡ treeOf (now (file .entry)) h bs) ⌝ }
+// 18 to 25, of the blocks from an offset on as they lie in the file.
+fn check_tree(file: &[u8], from: usize, root: u64, work: &mut [u64]) -> Refusal
+    ensures { λ r. ⌜ refusalOf r ≡ laidTreeOf (now (file .entry)) from root (length (now (work .entry))) ⌝ }
 {
-    let from = Header::AROUND + h.extent as usize;
-    let fault = naming_fault(file, from, h.root, blocks, work);
-    if fault.number != 0 {
-        return fault;
+    let names = check_names(file, from, root, work);
+    if names.number != 0 {
+        return names;
     }
-    walk_fault(file, from, h.root as usize)
+    let walk = check_walk(file, root);
+    if walk.number != 0 {
+        return walk;
+    }
+    check_hash(file, from)
 }

@@ -1,4 +1,5 @@
--- The tree of a file's blocks: ways down from the root, and that walk order is file order.
+-- The tree of a file's blocks: what its rules say, ways down from the root, and that walk order is file order.
+pub mod StageLaws
 pub mod TreeLaws
 pub mod TreeWays
 pub mod TreeKeys

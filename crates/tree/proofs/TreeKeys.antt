@@ -18,7 +18,7 @@ use Rattle.tree.specs.Tree.{blockLevel, leaves, under, recordsBefore, ke
 use Rattle.tree.proofs.TreeLaws.{Tree}
 use Rattle.tree.proofs.TreeWays.{Way, pre, post, records-cut}
 
--- of records at ascending offsets, those before one of them are the ones in front of it
+-- of records at ascending offsets, those before one of them are the ones that stand before it
 front-kept : (front : List Text) (first : Text) (back : List Text) → Ascending (map (λ r. r .at) (front ++ (first ∷ back))) → keep (λ r. ltb (r .at) (first .at)) (front ++ (first ∷ back)) ≡ front
 front-kept front first back rise =
     keep-append before front (first ∷ back)

@@ -10,8 +10,7 @@ use lib.Dec.{eqb, leb}
 use lib.ListN.{length}
 use borrow.Author.Tests.{eqb-true, eq-eqb, ne-eqb, leb-true, leb-false}
 use Rattle.lists.specs.Lists.{keep}
-use Rattle.lists.proofs.ListsLaws.{Ascending, ascending-unique, below-member, flatMap-member, member-flatMap}
-use Rattle.lists.proofs.ListsLaws.{keep-member, member-keep}
+use Rattle.lists.proofs.ListsLaws.{Ascending, ascending-unique, below-member, flatMap-member, member-flatMap, keep-member, member-keep}
 use Rattle.lists.proofs.RisingLaws.{some-member, member-some, choose-one}
 use Rattle.payload.specs.Payload.{Entry}
 use Rattle.block.specs.Block.{Block}

@@ -2,20 +2,19 @@
 -- Assumes nothing.
 use mathlib.Core.Path.{_≡_, refl, sym, ap, _∙_, subst}
 use mathlib.Core.Bool.{Bool, true, false}
-use mathlib.Core.List.{List, [], _∷_, _++_, flatMap, map, append-nil, append-assoc, List·Memᴰ, List·Memᴰ·head, Memᴰ·append-left, Memᴰ·append-right, Memᴰ·cast, Memᴰ·map, Memᴰ·of-map}
+use mathlib.Core.List.{List, [], _∷_, _++_, flatMap, map, append-nil, append-assoc, List·Memᴰ, List·Memᴰ·head, List·Memᴰ·not-nil, Memᴰ·append-left, Memᴰ·append-right, Memᴰ·cast, Memᴰ·map, Memᴰ·of-map}
 use Prim.Native.Nat.{ℕ, zero, suc, _-_, _≤_}
 use native.Mathlib.Omega.{arith}
 use lib.Dec.{eqb}
 use borrow.Author.Tests.{eqb-true, eqb-false, eq-eqb}
 use Rattle.lists.specs.Lists.{keep}
-use Rattle.lists.proofs.ListsLaws.{Ascending, flatMap-append}
-use Rattle.lists.proofs.ListsLaws.{keep-member, member-keep}
-use Rattle.lists.proofs.RisingLaws.{member-split, split-member, flatMap-same, flatMap-map, flatMap-keep, flatMap-split, ascending-keep, ascending-same, ascending-left, ascending-right}
+use Rattle.lists.proofs.ListsLaws.{Ascending, flatMap-append, member-flatMap, keep-member, member-keep}
+use Rattle.lists.proofs.RisingLaws.{some-member, member-split, split-member, flatMap-same, flatMap-map, flatMap-keep, flatMap-split, ascending-keep, ascending-same, ascending-left, ascending-right}
 use Rattle.payload.specs.Payload.{Text, Entry}
 use Rattle.block.specs.Block.{Block, isData}
 use Rattle.block.specs.Survey.{recordsOf}
 use Rattle.tree.specs.Tree.{blockEntries, blockRecords, blockLevel, leaves, under}
-use Rattle.tree.proofs.TreeLaws.{Tree, entries-at, records-at, level-at, child, Parent, parent, leaves-data}
+use Rattle.tree.proofs.TreeLaws.{Tree, entries-at, records-at, level-at, child, Parent, parent, leaves-data, leaves-some}
 
 regroup : (a f l b z : List ℕ) → a ++ ((f ++ (l ++ b)) ++ z) ≡ (a ++ f) ++ (l ++ (b ++ z))
 regroup a f l b z = simp append-assoc
@@ -29,7 +28,7 @@ pub data Way (bs : List Block) (root : ℕ) : (level at : ℕ) → Type 0 where
   by-entry : {level at : ℕ} (upper : ℕ) (front : List Entry) (e : Entry) (back : List Entry) → Way bs root (suc level) upper
       → blockEntries bs upper ≡ front ++ (e ∷ back) → at ≡ e .offset → Way bs root level at
 
--- a turn of a way: the entry that is taken, and those in front of it and behind it
+-- a turn of a way: the entry that is taken, and those before it and after it
 pub record Turn : Type 0 where
   pub front : List Entry
   pub entry : Entry
@@ -41,44 +40,44 @@ module _ (bs : List Block) (root : ℕ) where
   turnsOf level at (at-root p q) = []
   turnsOf level at (by-entry upper front e back w p q) = record { front = front; entry = e; back = back } ∷ turnsOf (suc level) upper w
 
-  -- the data blocks that the walk meets before the block at the end of the way, and behind it
+  -- the data blocks that the walk meets before the block at the end of the way, and after it
   unfoldable pub leavesBefore : (level at : ℕ) → Way bs root level at → List ℕ
   leavesBefore level at (at-root p q) = []
   leavesBefore level at (by-entry upper front e back w p q) = leavesBefore (suc level) upper w ++ flatMap (λ x. leaves bs level (x .offset)) front
 
-  unfoldable pub leavesBehind : (level at : ℕ) → Way bs root level at → List ℕ
-  leavesBehind level at (at-root p q) = []
-  leavesBehind level at (by-entry upper front e back w p q) = flatMap (λ x. leaves bs level (x .offset)) back ++ leavesBehind (suc level) upper w
+  unfoldable pub leavesAfter : (level at : ℕ) → Way bs root level at → List ℕ
+  leavesAfter level at (at-root p q) = []
+  leavesAfter level at (by-entry upper front e back w p q) = flatMap (λ x. leaves bs level (x .offset)) back ++ leavesAfter (suc level) upper w
 
-  -- the whole walk is what it meets before the block, under it and behind it
-  pub leaves-cut : (level at : ℕ) (w : Way bs root level at) → leaves bs (blockLevel bs root) root ≡ leavesBefore level at w ++ (leaves bs level at ++ leavesBehind level at w)
-  unfolding leaves leavesBefore leavesBehind
+  -- the whole walk is what it meets before the block, under it and after it
+  pub leaves-cut : (level at : ℕ) (w : Way bs root level at) → leaves bs (blockLevel bs root) root ≡ leavesBefore level at w ++ (leaves bs level at ++ leavesAfter level at w)
+  unfolding leaves leavesBefore leavesAfter
   leaves-cut level at (at-root p q) = sym (append-nil (leaves bs level at) ∙ ap (λ (n : ℕ). leaves bs n at) p ∙ ap (leaves bs (blockLevel bs root)) q)
   leaves-cut level at (by-entry upper front e back w p q) =
       let step : ℕ → List Entry → List ℕ = λ n. flatMap (λ x. leaves bs n (x .offset)) in
       leaves-cut (suc level) upper w
-      ∙ ap (λ (l : List ℕ). leavesBefore (suc level) upper w ++ (l ++ leavesBehind (suc level) upper w)) (flatMap-split (λ x. leaves bs level (x .offset)) (blockEntries bs upper) front e back p)
-      ∙ regroup (leavesBefore (suc level) upper w) (step level front) (leaves bs level (e .offset)) (step level back) (leavesBehind (suc level) upper w)
-      ∙ ap (λ (n : ℕ). (leavesBefore (suc level) upper w ++ step level front) ++ (leaves bs level n ++ (step level back ++ leavesBehind (suc level) upper w))) (sym q)
+      ∙ ap (λ (l : List ℕ). leavesBefore (suc level) upper w ++ (l ++ leavesAfter (suc level) upper w)) (flatMap-split (λ x. leaves bs level (x .offset)) (blockEntries bs upper) front e back p)
+      ∙ regroup (leavesBefore (suc level) upper w) (step level front) (leaves bs level (e .offset)) (step level back) (leavesAfter (suc level) upper w)
+      ∙ ap (λ (n : ℕ). (leavesBefore (suc level) upper w ++ step level front) ++ (leaves bs level n ++ (step level back ++ leavesAfter (suc level) upper w))) (sym q)
 
-  -- the records before the block at the end of the way, and behind it
+  -- the records before the block at the end of the way, and after it
   unfoldable pub pre : (level at : ℕ) → Way bs root level at → List Text
   pre level at w = flatMap (λ o. blockRecords bs o) (leavesBefore level at w)
 
   unfoldable pub post : (level at : ℕ) → Way bs root level at → List Text
-  post level at w = flatMap (λ o. blockRecords bs o) (leavesBehind level at w)
+  post level at w = flatMap (λ o. blockRecords bs o) (leavesAfter level at w)
 
   pub under-cut : (level at : ℕ) (w : Way bs root level at) → under bs (blockLevel bs root) root ≡ pre level at w ++ (under bs level at ++ post level at w)
   unfolding under pre post
   under-cut level at w =
       let records : List ℕ → List Text = flatMap (λ o. blockRecords bs o) in
       ap records (leaves-cut level at w)
-      ∙ flatMap-append (λ o. blockRecords bs o) (leavesBefore level at w) (leaves bs level at ++ leavesBehind level at w)
-      ∙ ap (λ (l : List Text). records (leavesBefore level at w) ++ l) (flatMap-append (λ o. blockRecords bs o) (leaves bs level at) (leavesBehind level at w))
+      ∙ flatMap-append (λ o. blockRecords bs o) (leavesBefore level at w) (leaves bs level at ++ leavesAfter level at w)
+      ∙ ap (λ (l : List Text). records (leavesBefore level at w) ++ l) (flatMap-append (λ o. blockRecords bs o) (leaves bs level at) (leavesAfter level at w))
 
   -- what the walk meets under the block it meets under the root
   pub leaves-within : (level at : ℕ) → Way bs root level at → (o : ℕ) → List·Memᴰ o (leaves bs level at) → List·Memᴰ o (leaves bs (blockLevel bs root) root)
-  leaves-within level at w o m = subst (List·Memᴰ o) (sym (leaves-cut level at w)) (Memᴰ·append-right (leavesBefore level at w) (Memᴰ·append-left (leavesBehind level at w) m))
+  leaves-within level at w o m = subst (List·Memᴰ o) (sym (leaves-cut level at w)) (Memᴰ·append-right (leavesBefore level at w) (Memᴰ·append-left (leavesAfter level at w) m))
 
 module _ (bs : List Block) (root : ℕ) (t : Tree bs root) where
   -- ---- ways lead to ordinary blocks, and to all of them
@@ -138,6 +137,34 @@ module _ (bs : List Block) (root : ℕ) (t : Tree bs root) where
   pub block-way : (c : Block) → List·Memᴰ c bs → c .frame .level ≤ 63 → Way bs root (c .frame .level) (c .frame .start)
   block-way c m few = climb 63 c m few (omega arith)
 
+  -- ---- a block on a way leads to a record
+
+  pub under-some : (level at : ℕ) → Way bs root level at → (first : Text) × (rest : List Text) × (under bs level at ≡ first ∷ rest)
+  unfolding under
+  under-some level at w = begun (under bs level at) refl (member-flatMap (λ o. blockRecords bs o) (leaves bs level at) (leaf .0) (own .0) in-leaves in-records)
+    where
+      met : Met level at
+      met = way-block level at w
+
+      leaf : (o : ℕ) × List·Memᴰ o (leaves bs level (met .block .frame .start))
+      leaf = leaves-some bs root t level (met .block) (met .member) (met .leveled) (met .few)
+
+      in-leaves : List·Memᴰ (leaf .0) (leaves bs level at)
+      in-leaves = subst (λ (n : ℕ). List·Memᴰ (leaf .0) (leaves bs level n)) (met .starts) (leaf .1)
+
+      block : (d : Block) × List·Memᴰ d bs × (d .frame .start ≡ leaf .0) × (d .frame .level ≡ 0)
+      block = leaves-data bs root t level (met .block) (met .member) (met .leveled) (leaf .0) (leaf .1)
+
+      own : (r : Text) × List·Memᴰ r (block .0 .records)
+      own = some-member (block .0 .records) (t .data-records (block .0) (block .1) (block .3))
+
+      in-records : List·Memᴰ (own .0) (blockRecords bs (leaf .0))
+      in-records = subst (List·Memᴰ (own .0)) (sym (records-at bs root t (block .0) (block .1)) ∙ ap (blockRecords bs) (block .2)) (own .1)
+
+      begun : (rs : List Text) → under bs level at ≡ rs → {r : Text} → List·Memᴰ r rs → (first : Text) × (rest : List Text) × (under bs level at ≡ first ∷ rest)
+      begun [] p m = absurd (List·Memᴰ·not-nil m)
+      begun (r ∷ rs) p m = (r, rs, p)
+
   -- ---- the walk meets the data blocks in file order
 
   -- every data block is met
@@ -186,12 +213,12 @@ module _ (bs : List Block) (root : ℕ) (t : Tree bs root) where
         none : (b : Block) → List·Memᴰ b bs → isData (b .frame .level) ≡ false → b .records ≡ []
         none b m p = let other = eqb-false (b .frame .level) 0 p in t .no-records b m (omega arith)
 
-    -- the cuts: the records of the file are those before the block at the end of a way, those under it and those behind it
+    -- the cuts: the records of the file are those before the block at the end of a way, those under it and those after it
     pub records-cut : (level at : ℕ) (w : Way bs root level at) → recordsOf bs ≡ pre bs root level at w ++ (under bs level at ++ post bs root level at w)
     records-cut level at w = sym root-records ∙ under-cut bs root level at w
 
     -- the data blocks under a block rise
     pub leaves-rise : (level at : ℕ) → Way bs root level at → Ascending (leaves bs level at)
     leaves-rise level at w =
-        ascending-left (leaves bs level at) (leavesBehind bs root level at w)
-        (ascending-right (leavesBefore bs root level at w) (leaves bs level at ++ leavesBehind bs root level at w) (subst Ascending (leaves-cut bs root level at w) walked))
+        ascending-left (leaves bs level at) (leavesAfter bs root level at w)
+        (ascending-right (leavesBefore bs root level at w) (leaves bs level at ++ leavesAfter bs root level at w) (subst Ascending (leaves-cut bs root level at w) walked))

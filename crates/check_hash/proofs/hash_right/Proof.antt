@@ -8,15 +8,16 @@ use lib.ListN.{length, take, drop}
 use Rattle.byte_string.specs.Order.{begins}
 use Rattle.sha256.specs.Sha256.{sha256}
 use Rattle.framing.proofs.FrameLaws.{rest}
+use Rattle.block.specs.Laid.{laidFrom}
 use Rattle.tree.specs.Stages.{payloads}
-use Rattle.check_hash.proofs.HashLaws.{payloads-sha256, hash-missing}
+use Rattle.check_hash.proofs.HashLaws.{holds-hash, hash-missing}
 use Rattle.check_hash.proofs.hash_right.Statement.{statement}
 use Rattle.check_hash.proofs.hash_right.Tie as tie
 
 returns : tie.Need-returns
 returns c =
     let args = c .before .before .args in
-    λ bs e short. hash-missing (now (args .file)) (payloads (now (args .file)) bs) (c .if1 .taken)
+    hash-missing (now (args .file)) (payloads (now (args .file)) (laidFrom (now (args .file)) (args .from))) (c .if1 .taken)
 
 hashed-requires : tie.Need-hashed-requires
 hashed-requires c κs = search needs
@@ -43,10 +44,11 @@ returns-2 : tie.Need-returns-2
 returns-2 c =
     let args = c .before .before .before .before .before .before .before .args in
     let finish = c .before .before .before .finish in
+    let pre = c .before .before .before .before .before .before .before .pre in
     let hashed = c .before .before .before .before .hashed in
-    λ bs e short. c .begins-with .ensures ∙ ap (λ (d : List _). begins d (take (length (now (args .file)) - 40) (drop 40 (now
-    (args .file))))) (finish .ensures ∙ payloads-sha256 (now (args .file)) (args .from) bs e short _ (hashed .ensures bs e)) ∙ ap (begins
-    (sha256 (payloads (now (args .file)) bs))) (rest (now (args .file)) 40)
+    c .begins-with .ensures ∙ ap (λ (d : List _). begins d (take (length (now (args .file)) - 40) (drop 40 (now (args .file)))))
+    (finish .ensures ∙ holds-hash (now (args .file)) (args .from) pre _ (hashed .ensures)) ∙ ap (begins (sha256 (payloads (now (args .file))
+    (laidFrom (now (args .file)) (args .from))))) (rest (now (args .file)) 40)
 
 pub hash-right-spec : {M : Type 1} → statement M
 hash-right-spec =

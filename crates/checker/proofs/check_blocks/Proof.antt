@@ -8,7 +8,7 @@ use lib.ListN.{length}
 use Rattle.header.specs.Header.{blocksFrom}
 use Rattle.header.proofs.HeaderLaws.{blocks-within}
 use Rattle.block.specs.Answers.{surveySaid}
-use Rattle.checker.proofs.CheckLaws.{told-unsound, told-17, told-18, told-fault, told-sound}
+use Rattle.checker.proofs.CheckLaws.{told-unsound, told-17, told-fault, told-sound}
 use Rattle.checker.proofs.check_blocks.Statement.{statement}
 use Rattle.checker.proofs.check_blocks.Tie as tie
 
@@ -40,73 +40,56 @@ unfolding surveySaid blocksFrom
 returns c =
     let args = c .before .before .before .before .before .before .before .before .before .args in
     let pre = c .before .before .before .before .before .before .before .before .before .pre in
-    let the-survey = c .before .before .before .before .before .before .survey in
+    let survey = c .before .before .before .before .before .before .survey in
     let stage2 = c .before .before .before .before .stage2 in
-    told-17 (now (args .file)) (length (now (args .work))) (args .h) (pre) _ (sym (the-survey .ensures) ∙ ap surveySaid (stage2 .given .1))
+    told-17 (now (args .file)) (length (now (args .work))) (args .h) (pre) _ (sym (survey .ensures) ∙ ap surveySaid (stage2 .given .1))
     (not-true _ (c .before .if1 .taken)) _ (c .refusal2 .ensures)
+
+check-tree-requires : tie.Need-check-tree-requires
+check-tree-requires c κs = search needs
 
 refusal-requires-3 : tie.Need-refusal-requires-3
 refusal-requires-3 c κs = search needs
 
+same-length : tie.Need-same-length
+same-length c = search needs
+
 returns-2 : tie.Need-returns-2
 unfolding surveySaid blocksFrom
 returns-2 c =
-    let args = c .before .before .before .before .before .before .before .before .before .before .args in
-    let pre = c .before .before .before .before .before .before .before .before .before .before .pre in
-    let the-survey = c .before .before .before .before .before .before .before .survey in
-    let stage2 = c .before .before .before .before .before .stage2 in
-    let if1 = c .before .before .if1 in
-    told-18 (now (args .file)) (length (now (args .work))) (args .h) (pre) _ (sym (the-survey .ensures) ∙ ap surveySaid (stage2 .given .1))
-    (not-false _ (if1 .left)) (c .before .if2 .taken) _ (c .refusal3 .ensures)
-
-tree-fault-requires : tie.Need-tree-fault-requires
-tree-fault-requires c κs = search needs
-
-refusal-requires-4 : tie.Need-refusal-requires-4
-refusal-requires-4 c κs = search needs
-
-same-length : tie.Need-same-length
-same-length c = search needs
+    let args = c .before .before .before .before .before .before .before .before .before .before .before .before .before .before .before .args in
+    let pre = c .before .before .before .before .before .before .before .before .before .before .before .before .before .before .before .pre in
+    let survey = c .before .before .before .before .before .before .before .before .before .before .before .before .survey in
+    let stage2 = c .before .before .before .before .before .before .before .before .before .before .stage2 in
+    let if1 = c .before .before .before .before .before .before .before .if1 in
+    let check-tree = c .before .before .before .before .before .check-tree in
+    told-fault (now (args .file)) (length (now (args .work))) (args .h) (pre) _ (sym (survey .ensures) ∙ ap surveySaid (stage2 .given .1))
+    (not-false _ (if1 .left)) _ (check-tree .ensures) (c .before .if2 .taken) _ (c .refusal3 .ensures)
 
 returns-3 : tie.Need-returns-3
 unfolding surveySaid blocksFrom
 returns-3 c =
-    let args = c .before .before .before .before .before .before .before .before .before .before .before .before .before .before .before .before .args in
-    let pre = c .before .before .before .before .before .before .before .before .before .before .before .before .before .before .before .before .pre in
-    let the-survey = c .before .before .before .before .before .before .before .before .before .before .before .before .before .survey in
-    let stage2 = c .before .before .before .before .before .before .before .before .before .before .before .stage2 in
-    let if1 = c .before .before .before .before .before .before .before .before .if1 in
-    let if2 = c .before .before .before .before .before .before .before .if2 in
-    let tree-fault = c .before .before .before .before .before .tree-fault in
-    told-fault (now (args .file)) (length (now (args .work))) (args .h) (pre) _ (sym (the-survey .ensures) ∙ ap surveySaid (stage2 .given .1))
-    (not-false _ (if1 .left)) (if2 .left) _ (λ bs read root many. tree-fault .ensures bs read root many (if2 .left)) (c .before .if3 .taken)
-    _ (c .refusal4 .ensures)
-
-returns-4 : tie.Need-returns-4
-unfolding surveySaid blocksFrom
-returns-4 c =
     let args = c .before .before .before .before .before .before .before .args in
     let pre = c .before .before .before .before .before .before .before .pre in
-    let the-survey = c .before .before .before .before .survey in
+    let survey = c .before .before .before .before .survey in
     let stage = c .before .before .stage in
-    told-unsound (now (args .file)) (length (now (args .work))) (args .h) (pre) _ _ (sym (the-survey .ensures) ∙ ap surveySaid
+    told-unsound (now (args .file)) (length (now (args .work))) (args .h) (pre) _ _ (sym (survey .ensures) ∙ ap surveySaid
     (stage .given .1)) _ (c .refusal .ensures)
 
 same-length-2 : tie.Need-same-length-2
 same-length-2 c = search needs
 
-returns-5 : tie.Need-returns-5
+returns-4 : tie.Need-returns-4
 unfolding surveySaid blocksFrom
-returns-5 c =
-    let args = c .before .before .before .before .before .before .before .before .before .before .before .before .before .before .before .args in
-    let pre = c .before .before .before .before .before .before .before .before .before .before .before .before .before .before .before .pre in
-    let the-survey = c .before .before .before .before .before .before .before .before .before .before .before .before .survey in
-    let stage2 = c .before .before .before .before .before .before .before .before .before .before .stage2 in
-    let if1 = c .before .before .before .before .before .before .before .if1 in
-    let if2 = c .before .before .before .before .before .before .if2 in
-    let tree-fault = c .before .before .before .before .tree-fault in
-    told-sound (now (args .file)) (length (now (args .work))) (args .h) (pre) _ (sym (the-survey .ensures) ∙ ap surveySaid (stage2 .given .1))
-    (not-false _ (if1 .left)) (if2 .left) _ (λ bs read root many. tree-fault .ensures bs read root many (if2 .left)) (c .if3 .left)
+returns-4 c =
+    let args = c .before .before .before .before .before .before .before .before .before .before .before .before .before .before .args in
+    let pre = c .before .before .before .before .before .before .before .before .before .before .before .before .before .before .pre in
+    let survey = c .before .before .before .before .before .before .before .before .before .before .before .survey in
+    let stage2 = c .before .before .before .before .before .before .before .before .before .stage2 in
+    let if1 = c .before .before .before .before .before .before .if1 in
+    let check-tree = c .before .before .before .before .check-tree in
+    told-sound (now (args .file)) (length (now (args .work))) (args .h) (pre) _ (sym (survey .ensures) ∙ ap surveySaid (stage2 .given .1))
+    (not-false _ (if1 .left)) _ (check-tree .ensures) (c .if2 .left)
 
 pub check-blocks-spec : {M : Type 1} → statement M
 check-blocks-spec =
@@ -119,12 +102,10 @@ check-blocks-spec =
     enum-known-stage-2
     refusal-requires-2
     returns
+    check-tree-requires
     refusal-requires-3
-    returns-2
-    tree-fault-requires
-    refusal-requires-4
     same-length
+    returns-2
     returns-3
-    returns-4
     same-length-2
-    returns-5)
+    returns-4)

@@ -37,8 +37,8 @@ returns c =
     let args = c .before .before .before .before .before .before .before .args in
     let loop = c .before .before .before .before .before .loop in
     let loop-test = c .before .before .before .before .loop-test in
-    λ file first bs k. counting-broken (now (args .work)) (args .n) (args .root) (loop .i) (loop .inv) (loop-test .taken) file first bs k (λ
-    e. c .if1 .taken (e ∙ sym (c .before .wanted .ensures)))
+    λ file first k. counting-broken (now (args .work)) (args .n) (args .root) (loop .i) (loop .inv) (loop-test .taken) file first k (λ e.
+    c .if1 .taken (e ∙ sym (c .before .wanted .ensures)))
 
 add-i : tie.Need-add-i Inv-loop μ-loop
 add-i c = search needs

@@ -1,4 +1,5 @@
 -- `mark` meets its contract. Assumes nothing.
+use native.Mathlib.Omega.{arith}
 use borrow.Author.Needs.{needs}
 use denote.Ref.{now}
 use Rattle.check_names.proofs.WordLaws.{mark-more, mark-same}
@@ -26,12 +27,12 @@ same-length c = search needs
 returns : tie.Need-returns
 returns c =
     let args = c .before .before .args in
-    mark-more (now (args .work)) (args .i) (c .if1 .taken)
+    mark-more (now (args .work)) (args .i) (omega arith)
 
 returns-2 : tie.Need-returns-2
 returns-2 c =
     let args = c .before .before .args in
-    mark-same (now (args .work)) (args .i) (c .if1 .left)
+    mark-same (now (args .work)) (args .i) (omega arith)
 
 pub mark-spec : {M : Type 1} → statement M
 mark-spec =

@@ -25,17 +25,17 @@ add-from c =
     let frame-at = c .before .before .before .before .frame-at in
     let the-frame = c .before .before .frame in
     let good = c .before .before .before .before .before .before .before .good in
-    let l = frame⇒Framed (now (args .file)) (args .start) _ (sym (frame-at .ensures) ∙ ap (frameSaid (args .start)) (the-frame .given .1)) in
-    let some = l .some in let sized = l .sized in let within = l .within in omega (arith, good)
+    let l = frame⇒Framed (now (args .file)) (args .start) _ (sym (frame-at .ensures) ∙ ap (frameSaid (args .start)) (the-frame .given .1))
+    in let some = l .some in let sized = l .sized in let within = l .within in omega (arith, good)
 
 returns : tie.Need-returns
 unfolding frameSaid
 returns c =
     let args = c .before .before .before .before .before .before .before .before .before .args in
     let frame-at = c .before .before .before .before .before .before .frame-at in
-    let the-frame = c .before .before .before .before .frame in
-    λ first bs seen b k m at. block-none (now (args .file)) first bs seen (now (args .work)) (args .n) k b m (args .start) at _ (sym
-    (frame-at .ensures) ∙ ap (frameSaid (args .start)) (the-frame .given .1)) (c .if1 .taken)
+    let frame = c .before .before .before .before .frame in
+    λ first seen b k m at. block-none (now (args .file)) first seen (now (args .work)) (args .n) k b m (args .start) at _ (sym
+    (frame-at .ensures) ∙ ap (frameSaid (args .start)) (frame .given .1)) (c .if1 .taken)
 
 name-entries-requires : tie.Need-name-entries-requires
 unfolding frameSaid
@@ -44,16 +44,16 @@ name-entries-requires c κs =
     let frame-at = c .before .before .before .before .before .before .before .frame-at in
     let the-frame = c .before .before .before .before .before .frame in
     let pre = c .before .before .before .before .before .before .before .before .before .before .pre in
-    let l = frame⇒Framed (now (args .file)) (args .start) _ (sym (frame-at .ensures) ∙ ap (frameSaid (args .start)) (the-frame .given .1)) in
-    let some = l .some in let sized = l .sized in let within = l .within in (pre, omega arith)
+    let l = frame⇒Framed (now (args .file)) (args .start) _ (sym (frame-at .ensures) ∙ ap (frameSaid (args .start)) (the-frame .given .1))
+    in let some = l .some in let sized = l .sized in let within = l .within in (pre, omega arith)
 
 returns-2 : tie.Need-returns-2
 unfolding frameSaid
 returns-2 c =
     let args = c .before .before .before .before .before .args in
     let frame-at = c .before .before .frame-at in
-    λ first bs seen b k m at. absurd (block-framed (now (args .file)) first bs seen (now (args .work)) (args .n) k b m (args .start) at _ _
-    (sym (frame-at .ensures) ∙ ap (frameSaid (args .start)) (c .enum-told .given .1)))
+    λ first seen b k m at. absurd (block-framed (now (args .file)) first seen (now (args .work)) (args .n) k b m (args .start) at _ _ (sym
+    (frame-at .ensures) ∙ ap (frameSaid (args .start)) (c .enum-told .given .1)))
 
 same-length : tie.Need-same-length
 same-length c = search needs
@@ -63,11 +63,11 @@ unfolding frameSaid
 returns-3 c =
     let args = c .before .before .before .before .before .before .before .before .before .before .before .before .before .args in
     let frame-at = c .before .before .before .before .before .before .before .before .before .before .frame-at in
-    let the-frame = c .before .before .before .before .before .before .before .before .frame in
+    let frame = c .before .before .before .before .before .before .before .before .frame in
     let if1 = c .before .before .before .before .if1 in
     let name-entries = c .before .before .name-entries in
-    λ first bs seen b k m at. block-index (now (args .file)) first bs seen (now (args .work)) (args .n) k b m (args .start) at _ (sym
-    (frame-at .ensures) ∙ ap (frameSaid (args .start)) (the-frame .given .1)) (if1 .left) _ _ (name-entries .ensures)
+    λ first seen b k m at. block-index (now (args .file)) first seen (now (args .work)) (args .n) k b m (args .start) at _ (sym
+    (frame-at .ensures) ∙ ap (frameSaid (args .start)) (frame .given .1)) (if1 .left) _ _ (name-entries .ensures)
 
 pub name-block-spec : {M : Type 1} → statement M
 name-block-spec =

@@ -46,9 +46,9 @@ returns c =
     let loop = c .before .before .before .before .before .loop in
     let loop-test = c .before .before .before .before .loop-test in
     let entry-at = c .before .before .entry-at in
-    λ first place bs seen es k e. absurd (marked-refused (now (args .file)) (args .level) (args .from) (args .end) (now (args .work))
-    (args .n) (loop .work) (loop .at) (loop .inv) (loop-test .taken) _ (λ place. sym (entry-at .ensures .0 place) ∙ ap (entrySaid place (take
-    (args .end) (now (args .file)))) (c .enum-told .given .1)) first place bs seen es k e)
+    marked-refused (now (args .file)) (args .level) (args .from) (args .end) (now (args .work)) (args .n) (loop .work) (loop .at)
+    (loop .inv) (loop-test .taken) _ (λ place. sym (entry-at .ensures .0 place) ∙ ap (entrySaid place (take (args .end) (now (args .file))))
+    (c .enum-told .given .1))
 
 enum-known-step : tie.Need-enum-known-step Inv-loop μ-loop
 enum-known-step c = search needs
@@ -74,7 +74,7 @@ returns-2 c =
     let step = c .before .before .before .before .step in
     marked-unfit (now (args .file)) (args .level) (args .from) (args .end) (now (args .work)) (args .n) (loop .work) (loop .at) (loop .inv)
     (loop-test .taken) _ (λ place. sym (entry-at .ensures .0 place) ∙ ap (entrySaid place (take (args .end) (now (args .file))))
-    (step .given .1)) (c .before .named .result) (λ first bs seen k. c .before .named .ensures first bs seen _ k) (c .if1 .taken)
+    (step .given .1)) (c .before .named .result) (λ first seen k. c .before .named .ensures first seen _ k) (c .if1 .taken)
 
 mark-requires : tie.Need-mark-requires Inv-loop μ-loop
 mark-requires c κs =
@@ -90,8 +90,8 @@ loop-less c =
     let entry-at = c .before .before .before .before .before .before .before .before .before .before .entry-at in
     let step = c .before .before .before .before .before .before .before .before .step in
     let loop-test = c .before .before .before .before .before .before .before .before .before .before .before .before .loop-test in
-    let p = entry⇒Entered 0 (take (args .end) (now (args .file))) (loop .at) _ (sym (entry-at .ensures .0 0) ∙ ap (entrySaid 0 (take (args .end)
-    (now (args .file)))) (step .given .1)) in let forward = p .forward in omega (arith, loop-test .taken)
+    let p = entry⇒Entered 0 (take (args .end) (now (args .file))) (loop .at) _ (sym (entry-at .ensures .0 0) ∙ ap (entrySaid 0 (take
+    (args .end) (now (args .file)))) (step .given .1)) in let forward = p .forward in omega (arith, loop-test .taken)
 
 loop-again : tie.Need-loop-again Inv-loop μ-loop
 unfolding entrySaid
@@ -107,7 +107,7 @@ loop-again c =
     let mark = c .before .before .mark in
     marked-more (now (args .file)) (args .level) (args .from) (args .end) (now (args .work)) (args .n) (loop .work) (loop .at) (loop .inv)
     (loop-test .taken) _ (λ place. sym (entry-at .ensures .0 place) ∙ ap (entrySaid place (take (args .end) (now (args .file))))
-    (step .given .1)) (named .result) (λ first bs seen k. named .ensures first bs seen _ k) (let long = loop .inv .long in omega (
+    (step .given .1)) (named .result) (λ first seen k. named .ensures first seen _ k) (let long = loop .inv .long in omega (
       arith,
       pre .0,
     )) (if1 .left) _ (mark .ensures)

@@ -1,5 +1,5 @@
--- `fill` meets its contract. The loop's invariant is `Hopped`: the starts of the blocks so far are stored, where there is
--- room for all. Assumes nothing.
+-- `fill` meets its contract. The loop's invariant is `Hopped`: the starts of the blocks so far are counted, and stored where there is
+-- room for them. Assumes nothing.
 use mathlib.Core.Path.{sym, ap, _∙_}
 use Prim.Native.Nat.{_-_}
 use native.Mathlib.Omega.{arith}
@@ -38,8 +38,8 @@ returns c =
     let loop = c .before .before .before .before .loop in
     let loop-test = c .before .before .before .loop-test in
     let frame-at = c .before .before .frame-at in
-    λ bs b room. absurd (hopped-refused _ _ _ _ _ _ (loop .inv) (loop-test .taken) _ _ (sym (frame-at .ensures) ∙ ap (frameSaid (loop .at))
-    (c .enum-told .given .1)) bs b)
+    hopped-refused _ _ _ _ _ _ (loop .inv) (loop-test .taken) _ _ (sym (frame-at .ensures) ∙ ap (frameSaid (loop .at))
+    (c .enum-told .given .1))
 
 enum-known-frame : tie.Need-enum-known-frame Inv-loop μ-loop
 enum-known-frame c = search needs
@@ -58,8 +58,8 @@ add-at c =
       good,
     )
 
-store-requires : tie.Need-store-requires Inv-loop μ-loop
-store-requires c κs = search needs
+put-requires : tie.Need-put-requires Inv-loop μ-loop
+put-requires c κs = search needs
 
 add-count : tie.Need-add-count Inv-loop μ-loop
 unfolding frameSaid
@@ -95,11 +95,11 @@ loop-again c =
     let loop = c .before .before .before .before .before .before .before .before .before .before .before .before .loop in
     let loop-test = c .before .before .before .before .before .before .before .before .before .before .before .loop-test in
     let frame-at = c .before .before .before .before .before .before .before .before .before .before .frame-at in
-    let the-frame = c .before .before .before .before .before .before .before .before .frame in
+    let frame = c .before .before .before .before .before .before .before .before .frame in
     let if1 = c .before .before .before .before .if1 in
-    let store = c .before .before .store in
-    hopped-ordinary _ _ _ _ _ _ (loop .inv) (loop-test .taken) _ (sym (frame-at .ensures) ∙ ap (frameSaid (loop .at)) (the-frame .given .1))
-    (if1 .taken) _ (store .ensures)
+    let put = c .before .before .put in
+    hopped-ordinary _ _ _ _ _ _ (loop .inv) (loop-test .taken) _ (sym (frame-at .ensures) ∙ ap (frameSaid (loop .at)) (frame .given .1))
+    (if1 .taken) _ (put .ensures .1)
 
 loop-less-2 : tie.Need-loop-less-2 Inv-loop μ-loop
 unfolding frameSaid
@@ -121,15 +121,15 @@ loop-again-2 c =
     let loop = c .before .before .before .before .before .before .before .before .loop in
     let loop-test = c .before .before .before .before .before .before .before .loop-test in
     let frame-at = c .before .before .before .before .before .before .frame-at in
-    let the-frame = c .before .before .before .before .frame in
-    hopped-reserved _ _ _ _ _ _ (loop .inv) (loop-test .taken) _ (sym (frame-at .ensures) ∙ ap (frameSaid (loop .at)) (the-frame .given .1))
+    let frame = c .before .before .before .before .frame in
+    hopped-reserved _ _ _ _ _ _ (loop .inv) (loop-test .taken) _ (sym (frame-at .ensures) ∙ ap (frameSaid (loop .at)) (frame .given .1))
     (c .if1 .left)
 
 same-length-2 : tie.Need-same-length-2 Inv-loop μ-loop
 same-length-2 c = c .before .loop .inv .long
 
 returns-2 : tie.Need-returns-2 Inv-loop μ-loop
-returns-2 c = λ bs b room. hopped-end _ _ _ _ _ _ (c .before .loop .inv) (c .loop-test .left) bs b room
+returns-2 c = hopped-end _ _ _ _ _ _ (c .before .loop .inv) (c .loop-test .left)
 
 pub fill-spec : {M : Type 1} → statement M
 fill-spec =
@@ -144,7 +144,7 @@ fill-spec =
     returns
     enum-known-frame
     add-at
-    store-requires
+    put-requires
     add-count
     loop-less
     loop-again

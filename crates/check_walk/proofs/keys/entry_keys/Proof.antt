@@ -3,7 +3,7 @@ use mathlib.Core.Path.{sym, _∙_}
 use borrow.Author.Needs.{needs}
 use denote.Ref.{now}
 use Rattle.check_walk.proofs.KeyLaws.{entry-is, fits-kept, fits-broken}
-use Rattle.check_walk.specs.Keys.{bytesOf}
+use Rattle.check_walk.specs.Lookup.{bytesIn}
 use Rattle.check_walk.proofs.keys.entry_keys.Statement.{statement}
 use Rattle.check_walk.proofs.keys.entry_keys.Tie as tie
 
@@ -19,7 +19,7 @@ returns : tie.Need-returns
 returns c =
     let args = c .before .before .before .before .before .before .args in
     let joined = c .before .before .joined in
-    entry-is (now (args .file)) (args .at) (bytesOf (now (args .file)) (args .key)) (args .before) (args .child) _ _ (joined .ensures)
+    entry-is (now (args .file)) (args .at) (bytesIn (now (args .file)) (args .key)) (args .before) (args .child) _ _ (joined .ensures)
     (fits-kept _ _ _ (sym (c .before .fits-between .ensures) ∙ c .if1 .taken))
 
 earlier-requires : tie.Need-earlier-requires
@@ -30,7 +30,7 @@ returns-2 c =
     let args = c .before .before .before .before .before .before .before .args in
     let joined = c .before .before .before .joined in
     let fits-between = c .before .before .fits-between in
-    entry-is (now (args .file)) (args .at) (bytesOf (now (args .file)) (args .key)) (args .before) (args .child) _ _ (joined .ensures)
+    entry-is (now (args .file)) (args .at) (bytesIn (now (args .file)) (args .key)) (args .before) (args .child) _ _ (joined .ensures)
     (fits-broken _ _ _ _ (sym (fits-between .ensures) ∙ c .before .if1 .left) (c .earlier .ensures))
 
 pub entry-keys-spec : {M : Type 1} → statement M

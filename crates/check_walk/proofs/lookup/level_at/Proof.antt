@@ -2,9 +2,9 @@
 use mathlib.Core.Path.{sym, ap, _∙_}
 use borrow.Author.Needs.{needs}
 use Rattle.framing.specs.Answers.{frameSaid}
-use Rattle.check_walk.specs.Walk.{levelOf}
-use Rattle.check_walk.proofs.walk.level_at.Statement.{statement}
-use Rattle.check_walk.proofs.walk.level_at.Tie as tie
+use Rattle.check_walk.specs.Lookup.{levelOf}
+use Rattle.check_walk.proofs.lookup.level_at.Statement.{statement}
+use Rattle.check_walk.proofs.lookup.level_at.Tie as tie
 
 frame-at-requires : tie.Need-frame-at-requires
 frame-at-requires c κs = search needs

@@ -1,12 +1,12 @@
--- A loop through the items in front of the first refusal: going on from here gives what the whole gives.
+-- A loop through the items before the first refusal: going on from here gives what the whole gives.
 -- Assumes nothing.
 use mathlib.Core.Path.{_≡_, ap, _∙_}
 use mathlib.Core.List.{List, [], _∷_}
 use Prim.Native.Nat.{ℕ, zero, suc, _-_, _≤_, _<_}
 use native.Mathlib.Omega.{arith}
 use Rattle.outcome.specs.Outcome.{Outcome, answer, refused}
 use Rattle.items.specs.Items.{Step, soundFrom}
 use Rattle.items.proofs.ItemsLaws.{sound-end, sound-step, sound-refused}
 
 -- `run` goes through a list of items with a state
 module _ {A S R : Type 0} (run : List A → S → R) (step : ℕ → Outcome (Step A)) (end : ℕ) (whole : R) where

@@ -1,0 +1,2 @@
+-- The meaning of the check of the hash.
+pub mod Hash
