@@ -17,7 +17,7 @@ use Rattle.tree.specs.Stages.{neighbours}
 use Rattle.theorems_check.specs.Rules.{Fill, full, item, Stands}
 use Rattle.lists.proofs.ListsLaws.{keep-member, member-keep, keep-first, keep-later}
 use Rattle.theorems_check.proofs.BlockRuleLaws.{block-forward}
-use Rattle.theorems_check.proofs.StageLaws.{allAtMost-of, neighbours-after, neighbours-before, neighbours-chain}
+use Rattle.theorems_check.proofs.NeighbourLaws.{allAtMost-of, neighbours-after, neighbours-before, neighbours-chain}
 use Rattle.theorems_check.proofs.TiledLaws.{record-level, data-record, stands-block, stands-start, tiled-block}
 
 -- the records of a block are at most those of every block that starts later

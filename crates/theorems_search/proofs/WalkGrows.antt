@@ -8,6 +8,7 @@ use Rattle.outcome.specs.Outcome.{Outcome, answer, _>>=_}
 use Rattle.payload.specs.Payload.{Text, Entry}
 use Rattle.block.specs.Block.{Block}
 use Rattle.query.specs.Query.{Query}
+use Rattle.search.specs.declared.opening.Named.{Named}
 use Rattle.search.specs.Search.{Walked, withOpened, withMatch, openBlock, addMatches, walkOver, walkOf}
 use Rattle.theorems_search.proofs.WalkSteps.{over-keeps, matches-keep, opens-keep, walk-keeps}
 
@@ -52,9 +53,9 @@ pub over-grows : (q : Query) (visit : Entry → Option (List ℕ) → Walked →
     → (es : List Entry) (s t : Walked) → walkOver q visit above es s ≡ answer t → Grown s t
 over-grows = over-keeps Grown grown-none grown-further
 
-pub opens-grow : (file : List ℕ) (places from number place least most offset size : ℕ) (next : Block → Walked → Outcome Walked)
+pub opens-grow : (file : List ℕ) (places from : ℕ) (n : Named) (next : Block → Walked → Outcome Walked)
     → ((c : Block) (s t : Walked) → next c s ≡ answer t → Grown s t)
-    → (s t : Walked) → (openBlock file places from number place least most offset size s >>= λ c. next c (withOpened offset s)) ≡ answer t → Grown s t
+    → (s t : Walked) → (openBlock file places from n s >>= λ c. next c (withOpened (n .offset) s)) ≡ answer t → Grown s t
 opens-grow file places = opens-keep Grown grown-none grown-further file places (λ offset c s free read. grown-opened offset s)
 
 pub walk-grows : (file : List ℕ) (q : Query) (places room from level : ℕ) (b : Block) (upper : Option (List ℕ)) (s t : Walked)

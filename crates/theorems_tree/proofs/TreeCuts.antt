@@ -19,7 +19,7 @@ use Rattle.tree.specs.Tree.{blockEntries, blockRecords, blockLevel, leaves, und
 use Rattle.search.specs.Search.{nextKey}
 use Rattle.theorems_check.specs.Rules.{Sorted, one-string}
 use Rattle.tree.proofs.TreeLaws.{Tree, records-at, leaves-data, leaves-some}
-use Rattle.tree.proofs.TreeWays.{Way, at-root, by-entry, Turn, turnsOf, leavesBefore, leavesBehind, pre, post, records-cut, Met, way-block, met-entries}
+use Rattle.tree.proofs.TreeWays.{Way, at-root, by-entry, Turn, turnsOf, leavesBefore, leavesAfter, pre, post, records-cut, Met, way-block, met-entries}
 
 -- ---- bounds
 
@@ -72,9 +72,9 @@ module _ (bs : List Block) (root : ℕ) where
 
   next-after : (level at upper : ℕ) (front : List Entry) (e next : Entry) (back : List Entry) (w : Way bs root (suc level) upper) (p : blockEntries bs upper ≡ front ++ (e ∷ next ∷ back)) (q : at ≡ e .offset)
       → post bs root level at (by-entry upper front e (next ∷ back) w p q) ≡ under bs level (next .offset) ++ post bs root level (next .offset) (way-next level upper front e next back w p)
-  unfolding leavesBehind post under flatMap way-next
+  unfolding leavesAfter post under flatMap way-next
   next-after level at upper front e next back w p q =
-      let after : List ℕ = leavesBehind bs root (suc level) upper w in
+      let after : List ℕ = leavesAfter bs root (suc level) upper w in
       ap records-of (append-assoc (leaves bs level (next .offset)) (leavesOf level back) (after))
       ∙ flatMap-append (λ o. blockRecords bs o) (leaves bs level (next .offset)) (leavesOf level back ++ after)
 
@@ -94,7 +94,7 @@ module _ (bs : List Block) (root : ℕ) where
 
   last-after : (level at upper : ℕ) (front : List Entry) (e : Entry) (w : Way bs root (suc level) upper) (p : blockEntries bs upper ≡ front ++ (e ∷ [])) (q : at ≡ e .offset)
       → post bs root level at (by-entry upper front e [] w p q) ≡ post bs root (suc level) upper w
-  unfolding leavesBehind post flatMap
+  unfolding leavesAfter post flatMap
   last-after level at upper front e w p q = refl
 
 -- x is at most an upper bound, where there is one
@@ -223,7 +223,7 @@ module _ (bs : List Block) (root : ℕ) (k : SearchTree bs root) where
   pub upper-cut : (level at : ℕ) (w : Way bs root level at)
       → ((r : Text) → List·Memᴰ r (pre bs root level at w ++ under bs level at) → UpTo (r .bytes) (upperOf bs root level at w))
       × ((r : Text) → List·Memᴰ r (post bs root level at w) → Past (upperOf bs root level at w) (r .bytes))
-  unfolding upperOf upperBound lowerOf lowerBound turnsOf nextKey UpTo Past post leavesBehind flatMap way-next
+  unfolding upperOf upperBound lowerOf lowerBound turnsOf nextKey UpTo Past post leavesAfter flatMap way-next
   upper-cut level at (at-root p q) = (λ r m. tt, λ (r : Text) (m : List·Memᴰ r []). absurd (List·Memᴰ·not-nil m))
   upper-cut level at (by-entry upper front e [] w p q) =
       let ih = upper-cut (suc level) upper w in
