@@ -1,68 +1,30 @@
 -- A file is accepted exactly where it keeps the rules of the format, and its blocks are those of the rules.
 -- Assumes nothing.
-use mathlib.Core.Path.{_≡_, refl, sym, ap, _∙_, subst}
+use mathlib.Core.Path.{_≡_, sym, ap, _∙_}
 use mathlib.Core.Logic.{_↔_}
-use mathlib.Core.Bool.{Bool, true, false}
+use mathlib.Core.Bool.{true}
 use mathlib.Core.List.{List}
-use Prim.Native.Nat.{ℕ, _+_}
+use Prim.Native.Nat.{ℕ, _+_, _≤_}
 use native.Mathlib.Omega.{arith}
-use lib.ListN.{length, drop}
-use Rattle.byte_string.specs.Order.{begins}
-use Rattle.sha256.specs.Sha256.{sha256}
-use Rattle.outcome.specs.Outcome.{answer, refused, _>>_, must}
-use Rattle.lists.specs.Lists.{keep}
-use Rattle.outcome.proofs.OutcomeLaws.{answer-injective, answer-not-refused, refused-not-answer, must-kept, after-answer, passed⁻¹}
+use lib.ListN.{length}
+use Rattle.outcome.specs.Outcome.{answer, refused}
+use Rattle.outcome.proofs.OutcomeLaws.{answer-injective, answer-not-refused}
 use Rattle.header.specs.declared.Header.{Header}
 use Rattle.header.specs.Header.{headerOf, blocksFrom, fieldAt, H}
 use Rattle.header.proofs.RuleLaws.{numbersOf}
-use Rattle.block.specs.Block.{Block, isData, blocksAt}
+use Rattle.block.specs.Block.{Block, blocksAt}
 use Rattle.block.specs.Survey.{ordinary}
 use Rattle.tree.specs.Tree.{blockLevel, leaves}
-use Rattle.tree.specs.Stages.{each, entriesFit, namedRightly, ascending, neighbours, keysFit, payloads, treeOf, hasRoot}
-use Rattle.checker.specs.Check.{acceptOf}
+use Rattle.tree.specs.Stages.{payloads, treeOf, hasRoot}
+use Rattle.tree.proofs.StageLaws.{Passed, tree⇒Passed, Passed⇒tree, root⁻¹}
+use Rattle.checker.specs.Check.{acceptOf, checkOf}
+use Rattle.checker.proofs.CheckLaws.{Reached, accept⁻¹, accept⁺, check⁻¹}
 use Rattle.theorems_check.specs.Rules.{Fill, Stands, TreeRules, Rules}
-use Rattle.theorems_check.proofs.EarlyStages.{Reached, Stages, refuses, reaches, stages, accept-tree}
 use Rattle.theorems_check.proofs.SortedLaws.{ascending⇒Rising, Rising⇒ascending}
 use Rattle.theorems_check.proofs.HeaderRuleLaws.{header⇒HeaderRules, HeaderRules⇒header}
 use Rattle.theorems_check.proofs.BlockRuleLaws.{blocks⇒Fill, Fill⇒blocks}
 use Rattle.theorems_check.proofs.OrderedLaws.{neighbours⇒Ordered, Ordered⇒neighbours}
-use Rattle.theorems_check.proofs.TreeRuleLaws.{root⇒rooted, rooted⇒root, fit⇒named, named⇒fit, fit⇒keyed, keyed⇒fit, rightly⇒once, rightly⇒unnamed, once⇒rightly, begins⇒hashed, hashed⇒begins}
-
--- ---- the stages of the tree
-
--- each stage from 19 to 25 is passed
-pub record Passed (file : List ℕ) (h : Header) (bs : List Block) : Type 0 where
-  pub fit : each (entriesFit bs) 19 (ordinary bs) ≡ answer tt
-  pub rightly : each (namedRightly bs (h .root)) 20 (ordinary bs) ≡ answer tt
-  pub walk : ascending 0 (leaves bs (blockLevel bs (h .root)) (h .root)) ≡ answer tt
-  pub pairs : neighbours (keep (λ b. isData (b .frame .level)) bs) ≡ answer tt
-  pub keys : each (keysFit bs) 24 (ordinary bs) ≡ answer tt
-  pub hash : begins (sha256 (payloads file bs)) (drop 40 file) ≡ true
-
-must⁻¹ : (b : Bool) (number place : ℕ) → must b number place ≡ answer tt → b ≡ true
-unfolding must
-must⁻¹ true number place e = refl
-must⁻¹ false number place e = absurd (refused-not-answer tt number place e)
-
-pub tree⇒Passed : (file : List ℕ) (h : Header) (bs : List Block) → treeOf file h bs ≡ answer tt → Passed file h bs
-unfolding treeOf
-tree⇒Passed file h bs e =
-    let a = passed⁻¹ (each (entriesFit bs) 19 (ordinary bs)) _ tt e in
-    let b = passed⁻¹ (each (namedRightly bs (h .root)) 20 (ordinary bs)) _ tt (a .1) in
-    let c = passed⁻¹ (ascending 0 (leaves bs (blockLevel bs (h .root)) (h .root))) _ tt (b .1) in
-    let d = passed⁻¹ (neighbours (keep (λ b. isData (b .frame .level)) bs)) _ tt (c .1) in
-    let f = passed⁻¹ (each (keysFit bs) 24 (ordinary bs)) _ tt (d .1) in
-    record { fit = a .0; rightly = b .0; walk = c .0; pairs = d .0; keys = f .0; hash = must⁻¹ _ 25 0 (f .1) }
-
-pub Passed⇒tree : (file : List ℕ) (h : Header) (bs : List Block) → Passed file h bs → treeOf file h bs ≡ answer tt
-unfolding treeOf
-Passed⇒tree file h bs p =
-    after-answer (each (entriesFit bs) 19 (ordinary bs)) _ tt (p .fit)
-    ∙ after-answer (each (namedRightly bs (h .root)) 20 (ordinary bs)) _ tt (p .rightly)
-    ∙ after-answer (ascending 0 (leaves bs (blockLevel bs (h .root)) (h .root))) _ tt (p .walk)
-    ∙ after-answer (neighbours (keep (λ b. isData (b .frame .level)) bs)) _ tt (p .pairs)
-    ∙ after-answer (each (keysFit bs) 24 (ordinary bs)) _ tt (p .keys)
-    ∙ must-kept (begins (sha256 (payloads file bs)) (drop 40 file)) 25 0 (p .hash)
+use Rattle.theorems_check.proofs.TreeRuleLaws.{rooted⇒root, fit⇒named, named⇒fit, fit⇒keyed, keyed⇒fit, rightly⇒once, rightly⇒unnamed, once⇒rightly, begins⇒hashed, hashed⇒begins}
 
 -- ---- the rules of the tree
 
@@ -70,7 +32,7 @@ module _ (file : List ℕ) (from : ℕ) (bs : List Block) (tiled : Fill (Stands 
   pub Passed⇒TreeRules : hasRoot (numbersOf file) bs ≡ true → Passed file (numbersOf file) bs → TreeRules file bs
   unfolding numbersOf
   Passed⇒TreeRules root p =
-      let rooted = root⇒rooted bs (numbersOf file) root in
+      let rooted = root⁻¹ (numbersOf file) bs root in
       record {
         ordered = neighbours⇒Ordered file from bs tiled (p .pairs);
         named = fit⇒named file from bs tiled (p .fit);
@@ -128,10 +90,6 @@ Rules⇒Accepted file bs r =
       tree = Passed⇒tree file (numbersOf file) bs (tree .1);
     }
 
--- an answer after the tree is the list of blocks
-pub tree-answer⁻¹ : (file : List ℕ) (h : Header) (bs cs : List Block) → (treeOf file h cs >> answer cs) ≡ answer bs → (treeOf file h cs ≡ answer tt) × (cs ≡ bs)
-tree-answer⁻¹ file h bs cs e = let p = passed⁻¹ (treeOf file h cs) (answer cs) bs e in (p .0, answer-injective cs bs (p .1))
-
 -- the tree is reached and passed
 pub Reached⇒Accepted : (file : List ℕ) (h : Header) (bs : List Block) → Reached file h bs → treeOf file h bs ≡ answer tt → Accepted file bs
 Reached⇒Accepted file h bs r tree =
@@ -145,17 +103,17 @@ Reached⇒Accepted file h bs r tree =
     }
 
 pub accepted⇒Accepted : (file : List ℕ) (bs : List Block) → acceptOf file ≡ answer bs → Accepted file bs
-accepted⇒Accepted file bs e = go (stages file)
-  where
-    go : Stages file → Accepted file bs
-    go (refuses number place r) = absurd (answer-not-refused bs number place (sym e ∙ r .by-acceptance))
-    go (reaches h cs r) =
-        let t = tree-answer⁻¹ file h bs cs (sym (accept-tree file h (r .header) cs (r .blocks) (r .root)) ∙ e) in
-        subst (Accepted file) (t .1) (Reached⇒Accepted file h cs r (t .0))
+accepted⇒Accepted file bs e = let (h, r, tree) = accept⁻¹ file bs e in Reached⇒Accepted file h bs r tree
+
+-- so is the check's list of blocks
+pub check⇒Accepted : (file : List ℕ) (places : ℕ) (bs : List Block) → checkOf file places ≡ answer bs → Accepted file bs × (length (ordinary bs) ≤ places)
+check⇒Accepted file places bs e = let (h, r, enough, tree) = check⁻¹ file places bs e in (Reached⇒Accepted file h bs r tree, enough)
+
+pub Accepted⇒Reached : (file : List ℕ) (bs : List Block) → Accepted file bs → Reached file (numbersOf file) bs
+Accepted⇒Reached file bs a = record { header = a .header; blocks = a .blocks; root = a .root }
 
 pub Accepted⇒accepted : (file : List ℕ) (bs : List Block) → Accepted file bs → acceptOf file ≡ answer bs
-Accepted⇒accepted file bs a =
-    accept-tree file (numbersOf file) (a .header) bs (a .blocks) (a .root) ∙ after-answer (treeOf file (numbersOf file) bs) (answer bs) tt (a .tree)
+Accepted⇒accepted file bs a = accept⁺ file (numbersOf file) bs (Accepted⇒Reached file bs a) (a .tree)
 
 -- the rules hold of an accepted file and its blocks
 pub accepted⇒Rules : (file : List ℕ) (bs : List Block) → acceptOf file ≡ answer bs → Rules file bs

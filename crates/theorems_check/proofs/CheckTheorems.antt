@@ -15,8 +15,8 @@ use Rattle.checker.specs.Check.{checkOf, checkAnswer}
 use Rattle.checker.proofs.CheckLaws.{answer-of-refusal, answer-of-blocks}
 use Rattle.theorems_check.specs.Rules.{Rules}
 use Rattle.theorems_check.specs.CheckedByRules.{AcceptedWith, CheckedByRules}
-use Rattle.theorems_check.proofs.AcceptLaws.{Accepted⇒Rules, Rules⇒Accepted, Accepted⇒accepted}
-use Rattle.theorems_check.proofs.PlacesLaws.{check⇒Accepted, check-accepts, check-not-0, TooFew, TooFew⇒18, 18⇒TooFew}
+use Rattle.theorems_check.proofs.AcceptLaws.{Accepted⇒Rules, Rules⇒Accepted, Accepted⇒Reached, Accepted⇒accepted, check⇒Accepted}
+use Rattle.theorems_check.proofs.PlacesLaws.{check-accepts, check-not-0, TooFew, TooFew⇒18, 18⇒TooFew}
 
 module _ (file : List ℕ) (places : ℕ) where
   -- ---- demand 1: the answer, for all inputs
@@ -87,11 +87,11 @@ module _ (file : List ℕ) (places : ℕ) where
   pub Rules⇒number-18 : (bs : List Block) → Rules file bs → places < length (ordinary bs) → checkAnswer (checkOf file places) .number ≡ 18
   Rules⇒number-18 bs r few =
       let a = Rules⇒Accepted file bs r in
-      number-18 .1 (record { header = numbersOf file; blocks = bs; reached = record { header = a .header; blocks = a .blocks; root = a .root }; few = few })
+      number-18 .1 (record { header = numbersOf file; blocks = bs; reached = Accepted⇒Reached file bs a; few = few })
 
   -- so the rules decide the answer
   pub check-by-rules : (r : Checked) → r ≡ checkAnswer (checkOf file places) → CheckedByRules file places r
-  check-by-rules r told = rw told (record { only = number-0⇒Rules; every = Rules⇒number-0; too-few = Rules⇒number-18 })
+  check-by-rules r told = rw told (record { only = number-0⇒Rules; every = λ bs k enough. Rules⇒number-0 bs k (omega arith); too-few = λ bs k few. Rules⇒number-18 bs k (omega arith) })
 
 -- with places enough for the ordinary blocks of whatever keeps the rules, the number is 0 exactly where something does
 pub number-0-exactly : (file : List ℕ) (places : ℕ) → ((bs : List Block) → Rules file bs → length (ordinary bs) ≤ places)

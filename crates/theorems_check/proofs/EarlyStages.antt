@@ -1,44 +1,20 @@
--- The stages up to 17, the same for acceptance and for the check: one of them refuses the file, or the tree is reached. What the theorems
--- know of `acceptOf` and `checkOf` comes from here and from the laws of crate `checker`.
+-- The stages up to 17, the same for acceptance and for the check: one of them refuses the file, or the tree is reached.
 -- Assumes nothing.
-use mathlib.Core.Path.{_≡_, refl, _∙_}
+use mathlib.Core.Path.{_≡_, refl}
 use mathlib.Core.Logic.{_⊎_, inl, inr}
 use mathlib.Core.Bool.{Bool, true, false}
 use mathlib.Core.List.{List}
 use Prim.Native.Nat.{ℕ, _≤_}
 use native.Mathlib.Omega.{arith}
-use Rattle.outcome.specs.Outcome.{Outcome, answer, refused, _>>_}
-use Rattle.outcome.proofs.OutcomeLaws.{bind-answer, bind-refused, kept, broken}
+use Rattle.outcome.specs.Outcome.{Outcome, answer, refused}
 use Rattle.header.specs.declared.Header.{Header}
 use Rattle.header.specs.Header.{headerOf, blocksFrom}
 use Rattle.header.proofs.HeaderLaws.{header-refused}
 use Rattle.block.specs.Block.{Block, blocksAt}
-use Rattle.tree.specs.Stages.{treeOf, hasRoot}
+use Rattle.tree.specs.Stages.{hasRoot}
 use Rattle.checker.specs.Check.{acceptOf, checkOf}
-use Rattle.checker.proofs.CheckLaws.{check-header, check-unsound, check-17}
+use Rattle.checker.proofs.CheckLaws.{Reached, accept-header, accept-unsound, accept-17, check-header, check-unsound, check-17}
 use Rattle.theorems_check.proofs.BlockNumbers.{BlockNumber, blocks-numbers}
-
--- ---- acceptance, stage by stage, as `check-header` to `check-tree` say it of the check
-
-accept-header : (file : List ℕ) (number place : ℕ) → headerOf file ≡ refused number place → acceptOf file ≡ refused number place
-unfolding acceptOf
-accept-header file number place e = bind-refused (headerOf file) _ number place e
-
-module _ (file : List ℕ) (h : Header) (header : headerOf file ≡ answer h) where
-  accept-unsound : (number place : ℕ) → blocksAt file (blocksFrom h) ≡ refused number place → acceptOf file ≡ refused number place
-  unfolding acceptOf
-  accept-unsound number place e = bind-answer (headerOf file) _ h header ∙ bind-refused (blocksAt file (blocksFrom h)) _ number place e
-
-  module _ (bs : List Block) (blocks : blocksAt file (blocksFrom h) ≡ answer bs) where
-    accept-17 : hasRoot h bs ≡ false → acceptOf file ≡ refused 17 0
-    unfolding acceptOf
-    accept-17 root = bind-answer (headerOf file) _ h header ∙ bind-answer (blocksAt file (blocksFrom h)) _ bs blocks ∙ broken (hasRoot h bs) 17 0 _ root
-
-    pub accept-tree : hasRoot h bs ≡ true → acceptOf file ≡ (treeOf file h bs >> answer bs)
-    unfolding acceptOf
-    accept-tree root = bind-answer (headerOf file) _ h header ∙ bind-answer (blocksAt file (blocksFrom h)) _ bs blocks ∙ kept (hasRoot h bs) 17 0 _ root
-
--- ---- how far a file comes
 
 -- a refusal by the header, the blocks or the root: acceptance and the check agree, whatever the work list
 pub record RefusedEarly (file : List ℕ) (number place : ℕ) : Type 0 where
@@ -46,17 +22,11 @@ pub record RefusedEarly (file : List ℕ) (number place : ℕ) : Type 0 where
   pub by-acceptance : acceptOf file ≡ refused number place
   pub by-check : (places : ℕ) → checkOf file places ≡ refused number place
 
--- header, blocks and root are sound: the tree is reached
-pub record Reached (file : List ℕ) (h : Header) (bs : List Block) : Type 0 where
-  pub header : headerOf file ≡ answer h
-  pub blocks : blocksAt file (blocksFrom h) ≡ answer bs
-  pub root : hasRoot h bs ≡ true
-
+-- that, or header, blocks and root are sound and the tree is reached
 pub data Stages (file : List ℕ) : Type 0 where
   refuses : (number place : ℕ) → RefusedEarly file number place → Stages file
   reaches : (h : Header) (bs : List Block) → Reached file h bs → Stages file
 
--- one or the other
 pub stages : (file : List ℕ) → Stages file
 stages file = by-header (headerOf file) refl
   where

@@ -99,8 +99,8 @@ entry⇒EntryIn place s at x e =
     let size = third .0 in
     subst (λ (y : Step Entry). EntryIn s at (y .next) (y .item)) (answer-injective _ x (third .2))
     (record {
-      behind-key = key .next;
-      behind-offset = offset .next;
+      after-key = key .next;
+      after-offset = offset .next;
       keyed = text⇒TextIn place s at key (first .1);
       placed = number⇒NumberIn 15 place s (key .next) offset (second .1);
       sized = number⇒NumberIn 15 place s (offset .next) size (third .1);
@@ -109,14 +109,14 @@ entry⇒EntryIn place s at x e =
 pub EntryIn⇒entry : (place : ℕ) (s : List ℕ) (at next : ℕ) (x : Entry) → EntryIn s at next x → entryAt place s at ≡ answer (record { item = x; next = next })
 unfolding entrySized
 EntryIn⇒entry place s at next x h =
-    entry-read place s at (record { item = x .key; next = h .behind-key }) (record { item = x .offset; next = h .behind-offset })
-    (TextIn⇒text place s at (h .behind-key) (x .key) (h .keyed))
-    (NumberIn⇒number 15 place s (h .behind-key) (h .behind-offset) (x .offset) (h .placed))
-    ∙ bind-answer (numberAt 15 place s (h .behind-offset)) _ (record { item = x .size; next = next }) (NumberIn⇒number 15 place s (h .behind-offset) next (x .size) (h .sized))
+    entry-read place s at (record { item = x .key; next = h .after-key }) (record { item = x .offset; next = h .after-offset })
+    (TextIn⇒text place s at (h .after-key) (x .key) (h .keyed))
+    (NumberIn⇒number 15 place s (h .after-key) (h .after-offset) (x .offset) (h .placed))
+    ∙ bind-answer (numberAt 15 place s (h .after-offset)) _ (record { item = x .size; next = next }) (NumberIn⇒number 15 place s (h .after-offset) next (x .size) (h .sized))
 
 pub entry-forward : (s : List ℕ) (at next : ℕ) (x : Entry) → EntryIn s at next x → (at < next) × (next ≤ length s)
 entry-forward s at next x h =
-    let key = text-forward s at (h .behind-key) (x .key) (h .keyed) in
-    let offset = number-forward s (h .behind-key) (h .behind-offset) (x .offset) (h .placed) in
-    let size = number-forward s (h .behind-offset) next (x .size) (h .sized) in
+    let key = text-forward s at (h .after-key) (x .key) (h .keyed) in
+    let offset = number-forward s (h .after-key) (h .after-offset) (x .offset) (h .placed) in
+    let size = number-forward s (h .after-offset) next (x .size) (h .sized) in
     (omega arith, size .1)

@@ -4,7 +4,7 @@ pub mod ItemRuleLaws
 pub mod SortedLaws
 pub mod HeaderRuleLaws
 pub mod BlockRuleLaws
-pub mod StageLaws
+pub mod NeighbourLaws
 pub mod TiledLaws
 pub mod OrderedLaws
 pub mod TreeRuleLaws

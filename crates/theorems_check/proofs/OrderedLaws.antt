@@ -17,7 +17,7 @@ use Rattle.tree.specs.Stages.{neighbours}
 use Rattle.theorems_check.specs.Rules.{Fill, full, item, Stands}
 use Rattle.lists.proofs.ListsLaws.{keep-member, member-keep, keep-first, keep-later}
 use Rattle.theorems_check.proofs.BlockRuleLaws.{block-forward}
-use Rattle.theorems_check.proofs.StageLaws.{allAtMost-of, neighbours-behind, neighbours-before, neighbours-chain}
+use Rattle.theorems_check.proofs.NeighbourLaws.{allAtMost-of, neighbours-after, neighbours-before, neighbours-chain}
 use Rattle.theorems_check.proofs.TiledLaws.{record-level, data-record, stands-block, stands-start, tiled-block}
 
 -- the records of a block are at most those of every block that starts later
@@ -28,13 +28,13 @@ Ordered bs = (a b : Block) → List·Memᴰ a bs → List·Memᴰ b bs → a .fr
 abbrev dataBlocks : List Block → List Block
 dataBlocks bs = keep (λ b. isData (b .frame .level)) bs
 
--- neighbours among the data blocks behind the first block
-behind : (b : Block) (bs : List Block) → neighbours (dataBlocks (b ∷ bs)) ≡ answer tt → neighbours (dataBlocks bs) ≡ answer tt
+-- neighbours among the data blocks after the first block
+after : (b : Block) (bs : List Block) → neighbours (dataBlocks (b ∷ bs)) ≡ answer tt → neighbours (dataBlocks bs) ≡ answer tt
 unfolding neighbours
-behind b bs h = go (isData (b .frame .level)) refl
+after b bs h = go (isData (b .frame .level)) refl
   where
     go : (d : Bool) → isData (b .frame .level) ≡ d → neighbours (dataBlocks bs) ≡ answer tt
-    go true e = neighbours-behind b (dataBlocks bs) (sym (ap neighbours (keep-first (λ c. isData (c .frame .level)) b bs e)) ∙ h)
+    go true e = neighbours-after b (dataBlocks bs) (sym (ap neighbours (keep-first (λ c. isData (c .frame .level)) b bs e)) ∙ h)
     go false e = sym (ap neighbours (keep-later (λ c. isData (c .frame .level)) b bs e)) ∙ h
 
 module _ (file : List ℕ) where
@@ -62,7 +62,7 @@ module _ (file : List ℕ) where
       let later = tiled-block file next cs fill a i .1 in
       absurd (omega arith)
   neighbours⇒Ordered at bs (item {next = next} {x = c} {xs = cs} stands fill) h a b (List·Memᴰ·tail i) (List·Memᴰ·tail j) before r s m n =
-      neighbours⇒Ordered next cs fill (behind c cs h) a b i j before r s m n
+      neighbours⇒Ordered next cs fill (after c cs h) a b i j before r s m n
 
   pub Ordered⇒neighbours : (at : ℕ) (bs : List Block) → Fill (Stands file) (length file) at bs → Ordered bs → neighbours (dataBlocks bs) ≡ answer tt
   unfolding neighbours keep

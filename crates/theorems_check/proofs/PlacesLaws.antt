@@ -17,49 +17,23 @@ use Rattle.header.specs.declared.Header.{Header}
 use Rattle.header.proofs.RuleLaws.{numbersOf}
 use Rattle.block.specs.Block.{Block}
 use Rattle.block.specs.Survey.{ordinary}
-use Rattle.tree.specs.Stages.{each, ascending, allAtMost, neighboursOf, neighbours, treeOf}
+use Rattle.tree.specs.Stages.{each, ascending, allAtMost, neighboursOf, neighbours, namingOf, walkRulesOf, hashRuleOf, treeOf}
 use Rattle.checker.specs.Check.{acceptOf, checkOf}
-use Rattle.checker.proofs.CheckLaws.{check-18, check-tree}
+use Rattle.checker.proofs.CheckLaws.{Reached, accept-tree, check-18, check-tree, check⁺}
 use Rattle.theorems_check.specs.Rules.{Rules}
 use Rattle.lists.proofs.ListsLaws.{false-not-true, any-member, member-any}
 use Rattle.outcome.proofs.RefusalLaws.{Refuses, refuses-answer, refuses-refused, refuses-must, refuses-stage, refuses-rule, refuses-more}
-use Rattle.theorems_check.proofs.EarlyStages.{Reached, Stages, refuses, reaches, stages, accept-tree}
-use Rattle.theorems_check.proofs.AcceptLaws.{Accepted, Accepted⇒Rules, Rules⇒Accepted, tree-answer⁻¹, Reached⇒Accepted, Accepted⇒accepted}
+use Rattle.theorems_check.proofs.EarlyStages.{Stages, refuses, reaches, stages}
+use Rattle.theorems_check.proofs.AcceptLaws.{Accepted⇒Rules, Rules⇒Accepted, check⇒Accepted, Accepted⇒Reached}
 
 -- ---- acceptance
 
-module _ (file : List ℕ) (places : ℕ) where
-  -- a file that comes to the tree, with places enough
-  abbrev Decided : List Block → Type 0
-  Decided bs = Accepted file bs × (length (ordinary bs) ≤ places)
-
-  pub check⇒Accepted : (bs : List Block) → checkOf file places ≡ answer bs → Accepted file bs × (length (ordinary bs) ≤ places)
-  check⇒Accepted bs e = go (stages file)
-    where
-      at-tree : (h : Header) (cs : List Block) → Reached file h cs → (b : Bool) → leb (length (ordinary cs)) places ≡ b → Decided bs
-      at-tree h cs r true enough =
-          let t = tree-answer⁻¹ file h bs cs (sym (check-tree file places h cs (r .header) (r .blocks) (r .root) (leb-true _ _ enough)) ∙ e) in
-          subst Decided (t .1) (Reached⇒Accepted file h cs r (t .0), leb-true _ _ enough)
-      at-tree h cs r false few =
-          absurd (answer-not-refused bs 18 0 (sym e ∙ check-18 file places h cs (r .header) (r .blocks) (r .root) (leb-false _ _ few)))
-
-      go : Stages file → Decided bs
-      go (refuses number place r) = absurd (answer-not-refused bs number place (sym e ∙ r .by-check places))
-      go (reaches h cs r) = at-tree h cs r (leb (length (ordinary cs)) places) refl
-
-  -- what the check accepts is accepted
-  pub check⇒accepted : (bs : List Block) → checkOf file places ≡ answer bs → acceptOf file ≡ answer bs
-  check⇒accepted bs e = Accepted⇒accepted file bs (check⇒Accepted bs e .0)
-
-  -- the check accepts a file exactly where it keeps the rules, with those blocks, if there are places enough
-  pub check-accepts : (bs : List Block) → length (ordinary bs) ≤ places → (checkOf file places ≡ answer bs) ↔ Rules file bs
-  check-accepts bs enough = (
-    λ e. Accepted⇒Rules file bs (check⇒Accepted bs e .0),
-    λ r. go (Rules⇒Accepted file bs r),
-  )
-    where
-      go : Accepted file bs → checkOf file places ≡ answer bs
-      go a = check-tree file places (numbersOf file) bs (a .header) (a .blocks) (a .root) enough ∙ after-answer (treeOf file (numbersOf file) bs) (answer bs) tt (a .tree)
+-- the check accepts a file exactly where it keeps the rules, with those blocks, if there are places enough
+pub check-accepts : (file : List ℕ) (places : ℕ) (bs : List Block) → length (ordinary bs) ≤ places → (checkOf file places ≡ answer bs) ↔ Rules file bs
+check-accepts file places bs enough = (
+  λ e. Accepted⇒Rules file bs (check⇒Accepted file places bs e .0),
+  λ r. let a = Rules⇒Accepted file bs r in check⁺ file places (numbersOf file) bs (Accepted⇒Reached file bs a) enough (a .tree),
+)
 
 -- ---- the numbers of refusals
 
@@ -96,14 +70,14 @@ unfoldable pub treeNumbers : List ℕ
 treeNumbers = 19 ∷ 20 ∷ 22 ∷ 23 ∷ 24 ∷ 25 ∷ []
 
 pub tree-refuses : (file : List ℕ) (h : Header) (bs : List Block) → Refuses (λ n. List·Memᴰ n treeNumbers) (treeOf file h bs)
-unfolding treeOf treeNumbers any
+unfolding treeOf namingOf walkRulesOf hashRuleOf treeNumbers any
 tree-refuses file h bs =
-    refuses-stage Kind _ _ (each-refuses Kind _ 19 _ (listed 19 treeNumbers refl))
-    (refuses-stage Kind _ _ (each-refuses Kind _ 20 _ (listed 20 treeNumbers refl))
+    refuses-stage Kind (namingOf bs (h .root)) _
+    (refuses-stage Kind _ _ (each-refuses Kind _ 19 _ (listed 19 treeNumbers refl)) (each-refuses Kind _ 20 _ (listed 20 treeNumbers refl)))
+    (refuses-stage Kind (walkRulesOf bs (h .root)) _
     (refuses-stage Kind _ _ (ascending-refuses Kind 0 _ (listed 22 treeNumbers refl))
-    (refuses-stage Kind _ _ (neighbours-refuses Kind _ (listed 23 treeNumbers refl))
-    (refuses-stage Kind _ _ (each-refuses Kind _ 24 _ (listed 24 treeNumbers refl))
-    (refuses-must Kind _ 25 0 (listed 25 treeNumbers refl))))))
+    (refuses-stage Kind _ _ (neighbours-refuses Kind _ (listed 23 treeNumbers refl)) (each-refuses Kind _ 24 _ (listed 24 treeNumbers refl))))
+    (refuses-must Kind _ 25 0 (listed 25 treeNumbers refl)))
   where
     Kind : ℕ → Type 0
     Kind n = List·Memᴰ n treeNumbers

@@ -23,7 +23,7 @@ use Rattle.block.specs.Block.{Block}
 use Rattle.block.specs.Survey as survey
 use Rattle.tree.specs.Tree as tree
 use Rattle.tree.specs.Stages as stages
-use Rattle.checker.specs.Check.{acceptOf}
+use Rattle.checker.specs.Check.{checkWith, acceptOf}
 use Rattle.theorems_check.specs.Rules.{Rules}
 use Rattle.theorems_check.proofs.AcceptLaws.{accepted⇒Rules}
 
@@ -48,17 +48,17 @@ smallestFile =
 
 -- it is accepted, with two blocks; by computation
 two-blocks : countOf length (acceptOf smallestFile) ≡ 2
-unfolding smallestFile countOf acceptOf head.headerOf head.sizeRule head.frontRules head.dataOf head.fieldsOf head.headerNumbers head.blocksFrom _>>=_ _>>_ must head.magic head.unfinishedMagic head.codecNone
-    head.fieldAt meta.isMetadata head.H head.M head.holdsHeader head.headerCrcRight head.holdsMetadata part itemsFrom keep any all order orElse isMore
-    atMost begins fixed.littleEndian continuing sevens reading crc.crc64 crc.crcOf crc.registerStart crc.register crc.byteStep crc.bitSteps crc.bitStep crc.allOnes crc.polynomial
-    crc.reversed frame.readAs frame.numberAt frame.framed frame.frameAt frame.crcRight frame.soundFrameAt payload.textAt payload.entrySized
-    payload.entryAt payload.risingFrom payload.rising payload.payloadAt payload.recordsAt payload.entriesAt block.isData block.isOrdinary
-    block.blockIn block.blockAt block.blockStep block.blocksAt survey.ordinary survey.recordsOf survey.isRoot stages.each stages.entriesFit
-    stages.namedRightly stages.ascending stages.allAtMost stages.neighboursOf stages.neighbours stages.keysFit stages.payloads stages.treeOf
-    stages.hasRoot tree.blockEntries tree.blockRecords tree.blockLevel tree.names tree.namings tree.leaves tree.under tree.recordsBefore tree.keyFits
-    sha.add sha.complement sha.rotr sha.shr sha.Ch sha.Maj sha.Σ₀ sha.Σ₁ sha.σ₀ sha.σ₁ sha.K sha.initial sha.padding sha.wordsOf sha.nextWord
-    sha.extended sha.schedule sha.round sha.rounds sha.sums sha.compress sha.compressBlocks sha.over sha.digest sha.sha256 fixed.bigEndian
-    fixed.littleBytes fixed.bigBytes flatMap
+unfolding smallestFile countOf acceptOf checkWith head.headerOf head.sizeRule head.frontRules head.dataOf head.fieldsOf head.headerNumbers head.blocksFrom _>>=_ _>>_ must head.magic head.unfinishedMagic
+    head.codecNone head.fieldAt meta.isMetadata head.H head.M head.holdsHeader head.headerCrcRight head.holdsMetadata part itemsFrom keep any all
+    order orElse isMore atMost begins fixed.littleEndian continuing sevens reading crc.crc64 crc.crcOf crc.registerStart crc.register crc.byteStep crc.bitSteps crc.bitStep
+    crc.allOnes crc.polynomial crc.reversed frame.readAs frame.numberAt frame.framed frame.frameAt frame.crcRight frame.soundFrameAt payload.textAt
+    payload.entrySized payload.entryAt payload.risingFrom payload.rising payload.payloadAt payload.recordsAt payload.entriesAt block.isData
+    block.isOrdinary block.blockIn block.blockAt block.blockStep block.blocksAt survey.ordinary survey.recordsOf survey.isRoot stages.each
+    stages.entriesFit stages.namedRightly stages.ascending stages.allAtMost stages.neighboursOf stages.neighbours stages.keysFit stages.payloads
+    stages.namingOf stages.walkRulesOf stages.hashRuleOf stages.treeOf stages.hasRoot tree.blockEntries tree.blockRecords tree.blockLevel tree.names
+    tree.namings tree.leaves tree.under tree.recordsBefore tree.keyFits sha.add sha.complement sha.rotr sha.shr sha.Ch sha.Maj sha.Σ₀ sha.Σ₁ sha.σ₀
+    sha.σ₁ sha.K sha.initial sha.padding sha.wordsOf sha.nextWord sha.extended sha.schedule sha.round sha.rounds sha.sums sha.compress
+    sha.compressBlocks sha.over sha.digest sha.sha256 fixed.bigEndian fixed.littleBytes fixed.bigBytes flatMap
 two-blocks = refl
 
 answered : (o : Outcome (List Block)) → countOf length o ≡ 2 → (bs : List Block) × (o ≡ answer bs)

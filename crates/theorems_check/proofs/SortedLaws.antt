@@ -18,7 +18,7 @@ use Rattle.lists.proofs.ListsLaws.{both, both⁻¹}
 
 -- ---- byte strings
 
--- the first of rising byte strings is at most every one behind it
+-- the first of rising byte strings is at most every one after it
 rising-below : (x : List ℕ) (xs : List (List ℕ)) → risingFrom x xs ≡ true → (y : List ℕ) → List·Memᴰ y xs → atMost x y ≡ true
 unfolding risingFrom
 rising-below x xs h y (List·Memᴰ·head {x = z} {xs = zs} e) = ap (atMost x) e ∙ both⁻¹ (atMost x z) (risingFrom z zs) h .0

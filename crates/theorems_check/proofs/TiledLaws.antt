@@ -49,7 +49,7 @@ module _ (file : List ℕ) where
   unfolding Stands
   stands-start at next b h = block-frame file at b (h .0) .starts
 
-  -- each block stands at its start, at or behind the place where the tiling begins
+  -- each block stands at its start, at or after the place where the tiling begins
   pub tiled-block : (at : ℕ) (bs : List Block) → Fill (Stands file) (length file) at bs → (b : Block) → List·Memᴰ b bs → BlockIn file (b .frame .start) b × (at ≤ b .frame .start)
   tiled-block at bs full b m = absurd (List·Memᴰ·not-nil m)
   tiled-block at bs (item {next = next} {x = c} {xs = cs} s r) b (List·Memᴰ·head e) =

@@ -6,9 +6,9 @@ use mathlib.Core.Bool.{Bool, true, false, _&&_, cond}
 use mathlib.Core.List.{List, [], _∷_, List·Memᴰ}
 use Prim.Native.Nat.{ℕ, _+_, _-_, _≤_, _<_}
 use native.Mathlib.Omega.{arith}
-use lib.Dec.{leb, ltb, eqb}
+use lib.Dec.{ltb, eqb}
 use lib.ListN.{length, take, drop}
-use borrow.Author.Tests.{leb-true, le-leb, ltb-true, lt-ltb, eqb-true, eqb-false, eq-eqb, ne-eqb}
+use borrow.Author.Tests.{le-leb, ltb-true, lt-ltb, eqb-true, eqb-false, eq-eqb, ne-eqb}
 use Rattle.byte_string.specs.Order.{atMost, begins}
 use Rattle.byte_string.proofs.PrefixLaws.{take-begins, begins-of-take}
 use Rattle.sha256.specs.Sha256.{sha256}
@@ -22,24 +22,13 @@ use Rattle.block.specs.Survey.{ordinary, recordsOf, isRoot}
 use Rattle.tree.specs.Tree.{names, namings, under, recordsBefore, keyFits}
 use Rattle.tree.specs.Stages.{each, entriesFit, namedRightly, keysFit, hasRoot}
 use Rattle.theorems_check.specs.Rules.{Fill, Stands}
-use Rattle.lists.proofs.ListsLaws.{both, both⁻¹, all-member, member-all, any-member, member-any, keep-member, member-keep}
-use Rattle.theorems_check.proofs.StageLaws.{each-member, member-each, ordinary-member, member-ordinary}
+use Rattle.lists.proofs.ListsLaws.{both, both⁻¹, all-member, member-all, member-any, keep-member, member-keep}
+use Rattle.tree.proofs.StageLaws.{each-member, member-each, ordinary-member, member-ordinary, names⁻¹}
 use Rattle.theorems_check.proofs.TiledLaws.{entry-level, tiled-block}
 
 -- ---- the root
 
 module _ (bs : List Block) (h : Header) where
-  pub root⇒rooted : hasRoot h bs ≡ true
-      → (b : Block) × List·Memᴰ b bs × (b .frame .start ≡ h .root) × (b .frame .size ≡ h .rootsize) × (1 ≤ b .frame .level) × (b .frame .level ≤ 63)
-  unfolding hasRoot isRoot isOrdinary
-  root⇒rooted e =
-      let r = any-member (λ b. isRoot (h .root) (h .rootsize) (b .frame)) bs e in
-      let b = r .0 in
-      let p = both⁻¹ (eqb (b .frame .start) (h .root) && eqb (b .frame .size) (h .rootsize)) _ (r .2) in
-      let q = both⁻¹ (eqb (b .frame .start) (h .root)) _ (p .0) in
-      let l = both⁻¹ (leb 1 (b .frame .level)) _ (p .1) in
-      (b, r .1, eqb-true _ _ (q .0), eqb-true _ _ (q .1), leb-true _ _ (l .0), leb-true _ _ (l .1))
-
   pub rooted⇒root : (b : Block) → List·Memᴰ b bs → b .frame .start ≡ h .root → b .frame .size ≡ h .rootsize → 1 ≤ b .frame .level → b .frame .level ≤ 63 → hasRoot h bs ≡ true
   unfolding hasRoot isRoot isOrdinary
   rooted⇒root b m start size low high =
@@ -53,15 +42,6 @@ abbrev pub Named : List Block → (level : ℕ) → Entry → Type 0
 Named bs level e = (c : Block) × List·Memᴰ c bs × (c .frame .start ≡ e .offset) × (c .frame .size ≡ e .size) × (c .frame .level + 1 ≡ level)
 
 module _ (bs : List Block) (level : ℕ) (e : Entry) where
-  names⁻¹ : names bs level e ≡ true → Named bs level e
-  unfolding names
-  names⁻¹ h =
-      let r = any-member (λ c. (eqb (c .frame .start) (e .offset) && eqb (c .frame .size) (e .size)) && eqb (c .frame .level + 1) level) (ordinary bs) h in
-      let c = r .0 in
-      let p = both⁻¹ (eqb (c .frame .start) (e .offset) && eqb (c .frame .size) (e .size)) _ (r .2) in
-      let q = both⁻¹ (eqb (c .frame .start) (e .offset)) _ (p .0) in
-      (c, ordinary-member bs c (r .1) .0, eqb-true _ _ (q .0), eqb-true _ _ (q .1), eqb-true _ _ (p .1))
-
   names-of : level ≤ 63 → Named bs level e → names bs level e ≡ true
   unfolding names
   names-of few n =

@@ -38,11 +38,11 @@ TextIn s at next t = NumberIn s at (t .at) (length (t .bytes)) × StandsIn s t �
 
 -- from `at` to `next` there stand a key, a number for the offset and a number for the full size
 pub record EntryIn (s : List ℕ) (at next : ℕ) (e : Entry) : Type 0 where
-  pub behind-key : ℕ
-  pub behind-offset : ℕ
-  pub keyed : TextIn s at behind-key (e .key)
-  pub placed : NumberIn s behind-key behind-offset (e .offset)
-  pub sized : NumberIn s behind-offset next (e .size)
+  pub after-key : ℕ
+  pub after-offset : ℕ
+  pub keyed : TextIn s at after-key (e .key)
+  pub placed : NumberIn s after-key after-offset (e .offset)
+  pub sized : NumberIn s after-offset next (e .size)
 
 -- items that stand side by side from `at` to `end`
 pub data Fill {A : Type 0} (Stands : ℕ → ℕ → A → Type 0) (end : ℕ) : ℕ → List A → Type 0 where

@@ -3,7 +3,7 @@
 use mathlib.Core.Path.{_≡_}
 use mathlib.Core.List.{List, [], _∷_, map, List·Memᴰ, List·Memᴰ·not-nil, List·Memᴰ·cases-cons}
 use mathlib.Core.Logic.{_⊎_, inl, inr}
-use Prim.Native.Nat.{ℕ, _+_, _*_, _≤_, _<_}
+use Prim.Native.Nat.{ℕ, _+_, _≤_, _<_}
 use native.Mathlib.Omega.{arith}
 use lib.ListN.{length}
 use Rattle.outcome.specs.Outcome.{answer}
@@ -13,6 +13,7 @@ use Rattle.block.specs.Block.{Block}
 use Rattle.block.specs.Survey.{recordsOf}
 use Rattle.query.specs.Query.{Query}
 use Rattle.matching.specs.Matching.{matching}
+use Rattle.matching.specs.ResultList.{roomFor}
 use Rattle.reader.specs.declared.ReadAnswer.{ReadAnswer}
 use Rattle.reader.specs.Read.{readOf, readAnswer, readList}
 use Rattle.reader.proofs.PlaceLaws.{LaidOut, laid-member}
@@ -31,16 +32,16 @@ module _ (file : List ℕ) where
   laid⇒later (m ∷ ms) from end (s, h) y i = go (List·Memᴰ·cases-cons i) (laid⇒later ms _ end h y)
     where
       go : (y ≡ m .at) ⊎ List·Memᴰ y (map (λ m. m .at) ms) → (List·Memᴰ y (map (λ m. m .at) ms) → m .at + length (m .bytes) < y) → from < y
-      go (inl same) rest = let first = s .behind in omega arith
-      go (inr later) rest = let first = s .behind in let more = rest later in omega arith
+      go (inl same) rest = let first = s .after in omega arith
+      go (inr later) rest = let first = s .after in let more = rest later in omega arith
 
   laid⇒Rising : (ms : List Text) (from end : ℕ) → LaidOut file from ms end → Rising (map (λ m. m .at) ms)
   unfolding LaidOut
   laid⇒Rising [] from end h = no-number
   laid⇒Rising (m ∷ ms) from end (s, h) = one-number {x = m .at} (λ y i. let more = laid⇒later ms _ end h y i in omega arith) (laid⇒Rising ms _ end h)
 
-module _ (file : List ℕ) (bs : List Block) (accepted : acceptOf file ≡ answer bs) (q : Query) (room : ℕ) (fits : 2 * length (matching q (recordsOf bs)) ≤ room) where
-  -- with two places for each match it is not refused
+module _ (file : List ℕ) (bs : List Block) (accepted : acceptOf file ≡ answer bs) (q : Query) (room : ℕ) (fits : roomFor (length (matching q (recordsOf bs))) ≤ room) where
+  -- with room for the matches it is not refused
   pub accepted⇒read : readOf file q room ≡ answer (matching q (recordsOf bs))
   accepted⇒read = let a = accepted⇒Accepted file bs accepted in read-whole file q room (headerNumbers file) (a .header) bs (a .blocks) fits
 
@@ -53,13 +54,13 @@ module _ (file : List ℕ) (bs : List Block) (accepted : acceptOf file ≡ answe
       record { answered = told .0; listed = told .1; stand = λ m i. laid-member file m ms _ (length file) laid i; rising = laid⇒Rising file ms _ (length file) laid }
 
 -- a file that keeps the rules: not refused with room, exactly the records that match, and the list
-pub Rules⇒read : (file : List ℕ) (bs : List Block) → Rules file bs → (q : Query) (room : ℕ) → 2 * length (matching q (recordsOf bs)) ≤ room
+pub Rules⇒read : (file : List ℕ) (bs : List Block) → Rules file bs → (q : Query) (room : ℕ) → roomFor (length (matching q (recordsOf bs))) ≤ room
     → GivesMatches file (matching q (recordsOf bs)) room (readAnswer (readOf file q room)) (readList room (readOf file q room))
 Rules⇒read file bs r q room fits = accepted⇒matches file bs (Rules⇒accepted file bs r) q room fits
 
 -- a file that the check accepted, with whatever work list
 pub checked⇒read : (file : List ℕ) (places : ℕ) → checkAnswer (checkOf file places) .number ≡ 0
-    → (bs : List Block) × Rules file bs × ((q : Query) (room : ℕ) → 2 * length (matching q (recordsOf bs)) ≤ room
+    → (bs : List Block) × Rules file bs × ((q : Query) (room : ℕ) → roomFor (length (matching q (recordsOf bs))) ≤ room
     → GivesMatches file (matching q (recordsOf bs)) room (readAnswer (readOf file q room)) (readList room (readOf file q room)))
 checked⇒read file places z = let (bs, a) = number-0⇒Rules file places z in (bs, a .rules, Rules⇒read file bs (a .rules))
 
@@ -67,4 +68,4 @@ checked⇒read file places z = let (bs, a) = number-0⇒Rules file places z in (
 pub read-by-rules : (file : List ℕ) (q : Query) (room : ℕ) (r : ReadAnswer) (results : List ℕ)
     → r ≡ readAnswer (readOf file q room) → results ≡ readList room (readOf file q room) → ReadByRules file q room r results
 unfolding ReadByRules
-read-by-rules file q room r results told result-list bs accepted fits = rw (told, result-list) (accepted⇒matches file bs accepted q room fits)
+read-by-rules file q room r results told result-list bs accepted fits = rw (told, result-list) (accepted⇒matches file bs accepted q room (omega arith))

@@ -3,7 +3,7 @@
 use mathlib.Core.Path.{_≡_, refl, sym, ap, _∙_, subst}
 use mathlib.Core.Logic.{_↔_, inl, inr}
 use mathlib.Core.List.{List}
-use Prim.Native.Nat.{ℕ, _*_, _≤_, _<_}
+use Prim.Native.Nat.{ℕ, _≤_, _<_}
 use native.Mathlib.Omega.{arith}
 use lib.ListN.{length}
 use Rattle.outcome.specs.Outcome.{Outcome, answer, refused}
@@ -15,6 +15,7 @@ use Rattle.block.specs.Block.{Block, blocksAt}
 use Rattle.block.specs.Survey.{recordsOf}
 use Rattle.query.specs.Query.{Query}
 use Rattle.matching.specs.Matching.{matching}
+use Rattle.matching.specs.ResultList.{roomFor}
 use Rattle.reader.specs.declared.ReadAnswer.{ReadAnswer}
 use Rattle.reader.specs.Read.{readOf, readAnswer}
 use Rattle.reader.proofs.ReadLaws.{header-refuses}
@@ -22,13 +23,13 @@ use Rattle.theorems_check.proofs.BlockNumbers.{BlockNumber, blocks-numbers}
 use Rattle.theorems_read.proofs.ReadTheorems.{read-refusal, read-answer, read-unsound, read-27, read-27⁻¹}
 
 module _ (file : List ℕ) (q : Query) (room : ℕ) where
-  -- header and blocks are accepted, and there are fewer than two places for each match
+  -- header and blocks are accepted, and there is no room for the matches
   pub record NoRoom : Type 0 where
     pub header : Header
     pub blocks : List Block
     pub header-accepted : headerOf file ≡ answer header
     pub blocks-accepted : blocksAt file (blocksFrom header) ≡ answer blocks
-    pub few : room < 2 * length (matching q (recordsOf blocks))
+    pub few : room < roomFor (length (matching q (recordsOf blocks)))
 
   -- a refusal is the header's, the block stage's, or 27
   pub data RefusedBy (number place : ℕ) : Type 0 where
@@ -70,7 +71,7 @@ module _ (file : List ℕ) (q : Query) (room : ℕ) where
       go (answer ms) e = (ms, e)
       go (refused n p) e = absurd (some n p (refused-by n p e) (sym (ap (λ (r : ReadAnswer). r .number) (read-refusal file q room n p e .0)) ∙ z))
 
-  -- 27 exactly where nothing before it applies and there are fewer than two places for each match
+  -- 27 exactly where nothing before it applies and there is no room for the matches
   pub number-27 : (readAnswer (readOf file q room) .number ≡ 27) ↔ NoRoom
   number-27 = (λ e. go e (readOf file q room) refl, few⇒27)
     where

@@ -123,7 +123,7 @@ module _ (file : List ℕ) (q : Query) (room : ℕ) where
 
   -- ---- where the records lie
 
-  -- the matches lie in the file behind the header, one behind the other
+  -- the matches lie in the file after the header, one after the other
   pub read-laid : (ms : List Text) (r : IsRead ms) → LaidOut file (blocksFrom (r .header)) ms (length file)
   read-laid ms r =
       let from = blocksFrom (r .header) in

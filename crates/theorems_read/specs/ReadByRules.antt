@@ -1,5 +1,5 @@
 -- What is claimed of reading front to back: on a file that keeps the rules it gives exactly the records that match.
-use Prim.Native.Nat.{ℕ, _*_, _≤_}
+use Prim.Native.Nat.{ℕ, _≤_}
 use mathlib.Core.Path.{_≡_}
 use mathlib.Core.List.{List, map, List·Memᴰ}
 use lib.ListN.{length}
@@ -10,7 +10,7 @@ use Rattle.block.specs.Block.{Block}
 use Rattle.block.specs.Survey.{recordsOf}
 use Rattle.query.specs.Query.{Query}
 use Rattle.matching.specs.Matching.{matching}
-use Rattle.matching.specs.ResultList.{numbersOf}
+use Rattle.matching.specs.ResultList.{roomFor, numbersOf}
 use Rattle.reader.specs.declared.ReadAnswer.{ReadAnswer}
 use Rattle.checker.specs.Check.{acceptOf}
 use Rattle.theorems_check.specs.Rules.{StandsIn, Rising}
@@ -26,9 +26,9 @@ pub record GivesMatches (file : List ℕ) (ms : List Text) (room : ℕ) (r : Rea
   -- offsets rise strictly
   pub rising : Rising (map (λ m. m .at) ms)
 
--- Demand 2, reading: r is the answer, and `results` the list of so many places at exit. An accepted file, with two places for each of its
--- records that match, gives exactly these.
+-- Demand 2, reading: r is the answer, and `results` the list of so many places at exit. An accepted file, with room for those of
+-- its records that match, gives exactly these.
 unfoldable pub ReadByRules : (file : List ℕ) → Query → (room : ℕ) (r : ReadAnswer) (results : List ℕ) → Type 0
 ReadByRules file q room r results =
-    (bs : List Block) → acceptOf file ≡ answer bs → 2 * length (matching q (recordsOf bs)) ≤ room
+    (bs : List Block) → acceptOf file ≡ answer bs → roomFor (length (matching q (recordsOf bs))) ≤ room
     → GivesMatches file (matching q (recordsOf bs)) room r results

@@ -1,6 +1,6 @@
 -- The walk of an accepted file as a list of events, with no room and no refusal: blocks that are opened and matches that are found.
 -- Assumes nothing.
-use Prim.Native.Nat.{ℕ, zero, suc, _+_, _*_}
+use Prim.Native.Nat.{ℕ, zero, suc, _+_}
 use mathlib.Core.Bool.{cond}
 use mathlib.Core.List.{List, [], _∷_, _++_, map}
 use mathlib.Core.Option.{Option, none}
@@ -12,6 +12,7 @@ use Rattle.block.specs.Block.{Block}
 use Rattle.query.specs.Query.{Query}
 use Rattle.query.specs.Opening.{mayMatch}
 use Rattle.matching.specs.Matching.{matching}
+use Rattle.matching.specs.ResultList.{roomFor}
 use Rattle.search.specs.Search.{Walked, withOpened, withMatch, nextKey}
 use Rattle.tree.specs.Tree.{blockEntries, blockRecords, blockLevel}
 
@@ -44,8 +45,8 @@ findsIn [] = []
 findsIn (opens offset ∷ es) = findsIn es
 findsIn (finds r ∷ es) = r ∷ findsIn es
 
--- the events one behind the other, on lists with so many places: 26, 27
+-- the events one after the other, on lists with so many places: 26, 27
 unfoldable pub run : (places room : ℕ) → List Event → Walked → Outcome Walked
 run places room [] s = answer s
 run places room (opens offset ∷ es) s = must (ltb (length (s .opened)) places) 26 0 >> run places room es (withOpened offset s)
-run places room (finds r ∷ es) s = must (leb (2 * length (s .matches) + 2) room) 27 0 >> run places room es (withMatch r s)
+run places room (finds r ∷ es) s = must (leb (roomFor (length (s .matches) + 1)) room) 27 0 >> run places room es (withMatch r s)

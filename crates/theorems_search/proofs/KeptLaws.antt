@@ -76,9 +76,9 @@ module _ {A : Type 0} (P : A → Type 0) where
 
   -- ---- order
 
-  -- a kept element stands in the list between elements of which those in front and behind are kept
+  -- a kept element stands in the list between elements of which those in front and after are kept
   pub kept-split : (xs ys : List A) → Kept P xs ys → (front : List A) (y : A) (back : List A) → ys ≡ front ++ (y ∷ back)
-      → (before : List A) × (behind : List A) × (xs ≡ before ++ (y ∷ behind)) × Kept P before front × Kept P behind back
+      → (before : List A) × (after : List A) × (xs ≡ before ++ (y ∷ after)) × Kept P before front × Kept P after back
   kept-split xs ys no-more [] y back e = absurd (List·Memᴰ·not-nil (subst (List·Memᴰ y) (sym e) (List·Memᴰ·head refl)))
   kept-split xs ys no-more (z ∷ front) y back e = absurd (List·Memᴰ·not-nil (subst (List·Memᴰ z) (sym e) (List·Memᴰ·head refl)))
   kept-split xs ys (taken {x = x} {xs = more} {ys = more′} p k) [] y back e =

@@ -3,7 +3,7 @@
 use mathlib.Core.Path.{_≡_, sym, ap, _∙_, subst}
 use mathlib.Core.Logic.{_↔_}
 use mathlib.Core.List.{List, List·Memᴰ}
-use Prim.Native.Nat.{ℕ, _*_, _≤_, _<_}
+use Prim.Native.Nat.{ℕ, _≤_, _<_}
 use native.Mathlib.Omega.{arith}
 use lib.ListN.{length, take}
 use Rattle.byte_string.specs.Order.{AreBytes}
@@ -14,6 +14,7 @@ use Rattle.block.specs.Block.{Block}
 use Rattle.block.specs.Survey.{recordsOf}
 use Rattle.query.specs.Query.{Query}
 use Rattle.matching.specs.Matching.{matching}
+use Rattle.matching.specs.ResultList.{roomFor}
 use Rattle.search.specs.declared.Found.{Found}
 use Rattle.search.specs.Search.{searchOf, searchAnswer, openedList, resultList}
 use Rattle.tree.specs.Tree.{blockLevel}
@@ -64,7 +65,7 @@ module _ (file : List ℕ) (bs : List Block) (accepted : acceptOf file ≡ answe
     unfolding RuleOpens walkOrder
     rule-opens = accepted-exactly file bs accepted bytes q asked
 
-    searched : (places room : ℕ) → length (opensIn (searchEvents bs (fieldAt file 16) q)) ≤ places → 2 * length (matching q (recordsOf bs)) ≤ room
+    searched : (places room : ℕ) → length (opensIn (searchEvents bs (fieldAt file 16) q)) ≤ places → roomFor (length (matching q (recordsOf bs))) ≤ room
         → SearchGives file bs q (opensIn (searchEvents bs (fieldAt file 16) q)) places room
     searched places room opened-fit matches-fit =
         record {
@@ -83,9 +84,9 @@ module _ (file : List ℕ) (bs : List Block) (accepted : acceptOf file ≡ answe
         }
 
     -- Demand 3. The rule determines the blocks to be opened: all blocks in walk order with exactly the opened ones kept. With a place for
-    -- each of them, and two places for each match, the search is not refused, equals reading front to back and opens these blocks.
+    -- each of them, and room for the matches, the search is not refused, equals reading front to back and opens these blocks.
     pub search-equals-reading-and-opens-by-rule : (opened : List ℕ) × RuleOpens file bs q opened
-        × ((places room : ℕ) → length opened ≤ places → 2 * length (matching q (recordsOf bs)) ≤ room → SearchGives file bs q opened places room)
+        × ((places room : ℕ) → length opened ≤ places → roomFor (length (matching q (recordsOf bs))) ≤ room → SearchGives file bs q opened places room)
     search-equals-reading-and-opens-by-rule = (opensIn (searchEvents bs (fieldAt file 16) q), rule-opens, searched)
 
     -- no other list is meant
@@ -99,12 +100,12 @@ module _ (file : List ℕ) (bs : List Block) (accepted : acceptOf file ≡ answe
       same = rule-unique (opensIn (searchEvents bs (fieldAt file 16) q)) opened rule-opens exactly
 
       -- with room for the results: 26 exactly if the opened list has fewer places than blocks that the rule opens
-      pub exact-26 : 2 * length (matching q (recordsOf bs)) ≤ room → (searchAnswer (searchOf file q places room) .number ≡ 26) ↔ (places < length opened)
+      pub exact-26 : roomFor (length (matching q (recordsOf bs))) ≤ room → (searchAnswer (searchOf file q places room) .number ≡ 26) ↔ (places < length opened)
       exact-26 matches-fit =
           subst (λ (l : List ℕ). (searchAnswer (searchOf file q places room) .number ≡ 26) ↔ (places < length l)) same (rooms.edge-26 file bs accepted q places room matches-fit)
 
-      -- with room for the opened blocks: 27 exactly if there are fewer than two places per match
-      pub exact-27 : length opened ≤ places → (searchAnswer (searchOf file q places room) .number ≡ 27) ↔ (room < 2 * length (matching q (recordsOf bs)))
+      -- with room for the opened blocks: 27 exactly if there is no room for the matches
+      pub exact-27 : length opened ≤ places → (searchAnswer (searchOf file q places room) .number ≡ 27) ↔ (room < roomFor (length (matching q (recordsOf bs))))
       exact-27 opened-fit = rooms.edge-27 file bs accepted q places room (subst (λ (l : List ℕ). length l ≤ places) (sym same) opened-fit)
 
 -- ---- the same from the rules, and from what the check answers
@@ -112,13 +113,13 @@ module _ (file : List ℕ) (bs : List Block) (accepted : acceptOf file ≡ answe
 module _ (file : List ℕ) (bytes : AreBytes file) where
   pub Rules⇒searched : (bs : List Block) → Rules file bs → (q : Query) → QueryBytes q
       → (opened : List ℕ) × RuleOpens file bs q opened
-      × ((places room : ℕ) → length opened ≤ places → 2 * length (matching q (recordsOf bs)) ≤ room → SearchGives file bs q opened places room)
+      × ((places room : ℕ) → length opened ≤ places → roomFor (length (matching q (recordsOf bs))) ≤ room → SearchGives file bs q opened places room)
   Rules⇒searched bs r q asked = search-equals-reading-and-opens-by-rule file bs (Rules⇒accepted file bs r) bytes q asked
 
   -- the check accepted the file, with whatever work list
   pub checked⇒searched : (work : ℕ) → checkAnswer (checkOf file work) .number ≡ 0
       → (bs : List Block) × Rules file bs × ((q : Query) → QueryBytes q → (opened : List ℕ) × RuleOpens file bs q opened
-      × ((places room : ℕ) → length opened ≤ places → 2 * length (matching q (recordsOf bs)) ≤ room → SearchGives file bs q opened places room))
+      × ((places room : ℕ) → length opened ≤ places → roomFor (length (matching q (recordsOf bs))) ≤ room → SearchGives file bs q opened places room))
   checked⇒searched work z = let (bs, a) = number-0⇒Rules file work z in (bs, a .rules, Rules⇒searched bs (a .rules))
 
 -- ---- of an answer and lists that are the search's
@@ -129,7 +130,7 @@ module _ (file : List ℕ) (bytes : AreBytes file) (q : Query) (asked : QueryByt
   unfolding SearchedByRules
   search-by-rules told opened-list result-list bs accepted =
       let (opened, rule, whole) = search-equals-reading-and-opens-by-rule file bs accepted bytes q asked in
-      (opened, rule, λ opened-fit matches-fit. rw (told, opened-list, result-list) (whole places room opened-fit matches-fit))
+      (opened, rule, λ opened-fit matches-fit. rw (told, opened-list, result-list) (whole places room (omega arith) (omega arith)))
 
   -- the blocks opened are the first numbers of the list at exit, as many as are counted
   pub opened-listed : (bs : List Block) (opened : List ℕ) → Searched file bs q opened places room r list results → take (r .opened) list ≡ opened

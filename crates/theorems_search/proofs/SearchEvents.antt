@@ -1,12 +1,12 @@
 -- The search of an accepted file runs its events: every block that an entry or the header names is found.
 -- Assumes nothing.
 use mathlib.Core.Path.{_≡_, refl, sym, ap, _∙_, subst}
-use mathlib.Core.Bool.{Bool, true, false, _&&_, cond}
+use mathlib.Core.Bool.{Bool, true, false, cond}
 use mathlib.Core.List.{List, [], _∷_, map, List·Memᴰ, List·Memᴰ·head, List·Memᴰ·tail}
 use mathlib.Core.Option.{Option, none}
-use Prim.Native.Nat.{ℕ, zero, suc, _+_, _*_, _≤_}
+use Prim.Native.Nat.{ℕ, zero, suc, _+_, _≤_}
 use native.Mathlib.Omega.{arith}
-use lib.Dec.{leb, ltb, eqb}
+use lib.Dec.{leb, ltb}
 use lib.ListN.{length}
 use borrow.Author.Tests.{lt-ltb, le-leb, eq-eqb}
 use Rattle.outcome.specs.Outcome.{Outcome, answer, _>>=_, _>>_, must}
@@ -23,7 +23,9 @@ use Rattle.block.proofs.TileLaws.{blocks-read}
 use Rattle.query.specs.Query.{Query}
 use Rattle.query.specs.Opening.{mayMatch}
 use Rattle.matching.specs.Matching.{matching}
-use Rattle.search.specs.Search.{Walked, nothing, withOpened, withMatch, nextKey, fittingBlock, namedBlock, openBlock, addMatches, walkOver, walkOf, walkFrom, searchOf}
+use Rattle.matching.specs.ResultList.{roomFor}
+use Rattle.search.specs.declared.opening.Named.{Named}
+use Rattle.search.specs.Search.{Walked, nothing, withOpened, withMatch, nextKey, rootNamed, childNamed, fittingBlock, namedBlock, openBlock, addMatches, walkOver, walkOf, walkFrom, searchOf}
 use Rattle.tree.specs.Tree.{blockLevel}
 use Rattle.checker.specs.Check.{acceptOf}
 use Rattle.tree.proofs.TreeLaws.{Tree, entries-at, records-at, level-at, child}
@@ -38,7 +40,7 @@ module _ (q : Query) (places room : ℕ) where
   matches-events : (rs : List Text) (s : Walked) → addMatches room rs s ≡ run places room (map finds rs) s
   unfolding addMatches run
   matches-events [] s = refl
-  matches-events (r ∷ rs) s = ap (λ (o : Outcome Walked). must (leb (2 * length (s .matches) + 2) room) 27 0 >> o) (matches-events rs (withMatch r s))
+  matches-events (r ∷ rs) s = ap (λ (o : Outcome Walked). must (leb (roomFor (length (s .matches) + 1)) room) 27 0 >> o) (matches-events rs (withMatch r s))
 
   -- where each visit runs the events of its entry
   entries-events : (visit : Entry → Option (List ℕ) → Walked → Outcome Walked) (events : Entry → Option (List ℕ) → List Event) (above : Option (List ℕ)) (es : List Entry)
@@ -64,10 +66,10 @@ module _ (q : Query) (places room : ℕ) where
 
 module _ (file : List ℕ) (from : ℕ) (bs : List Block) (stage : blocksAt file from ≡ answer bs) where
   -- a block of the file is found by its start and full size, where its level fits
-  pub named-block : (number place least most offset size : ℕ) (c : Block) → List·Memᴰ c bs → c .frame .start ≡ offset → c .frame .size ≡ size → least ≤ c .frame .level → c .frame .level ≤ most
-      → namedBlock file from number place least most offset size ≡ answer c
+  pub named-block : (n : Named) (c : Block) → List·Memᴰ c bs → c .frame .start ≡ n .offset → c .frame .size ≡ n .size → n .least ≤ c .frame .level → c .frame .level ≤ n .most
+      → namedBlock file from n ≡ answer c
   unfolding namedBlock fittingBlock
-  named-block number place least most offset size c m starts sized low high =
+  named-block n c m starts sized low high =
       let b = blocks-read file from bs stage c m in
       let r = block⇒BlockRead file (c .frame .start) c (b .read) in
       let f = r .framed in
@@ -76,24 +78,26 @@ module _ (file : List ℕ) (from : ℕ) (bs : List Block) (stage : blocksAt file
       let ends = f .sized in
       let within = f .within in
       let after = b .after in
-      kept (leb from offset && ltb offset (length file)) number place _ (both (leb from offset) (ltb offset (length file)) (le-leb from offset (omega arith)) (lt-ltb offset (length file) (omega arith)))
-      ∙ bind-answer (soundFrameAt file offset) (fittingBlock file number place least most size) (c .frame) (ap (soundFrameAt file) (sym starts) ∙ r .sound)
-      ∙ kept (eqb (c .frame .size) size && (leb least (c .frame .level) && leb (c .frame .level) most)) number place (blockIn file (c .frame))
-      (both _ _ (eq-eqb (c .frame .size) size sized) (both _ _ (le-leb least (c .frame .level) low) (le-leb (c .frame .level) most high)))
+      kept _ _ _ _ (both (leb from (n .offset)) (ltb (n .offset) (length file)) (le-leb from (n .offset) (omega arith)) (lt-ltb (n .offset) (length file) (omega arith)))
+      ∙ bind-answer (soundFrameAt file (n .offset)) (fittingBlock file n) (c .frame) (ap (soundFrameAt file) (sym starts) ∙ r .sound)
+      ∙ kept _ _ _ (blockIn file (c .frame))
+      (both _ _ (eq-eqb (c .frame .size) (n .size) sized) (both _ _ (le-leb (n .least) (c .frame .level) low) (le-leb (c .frame .level) (n .most) high)))
       ∙ r .inside
 
   module _ (root : ℕ) (t : Tree bs root) where
     -- the block that an entry names is found
     pub named-child : (b : Block) → List·Memᴰ b bs → (level : ℕ) → b .frame .level ≡ suc level → (e : Entry) → List·Memᴰ e (b .entries)
-        → (c : Block) × List·Memᴰ c bs × (c .frame .start ≡ e .offset) × (c .frame .level ≡ level) × (namedBlock file from 19 (b .frame .start) level level (e .offset) (e .size) ≡ answer c)
+        → (c : Block) × List·Memᴰ c bs × (c .frame .start ≡ e .offset) × (c .frame .level ≡ level) × (namedBlock file from (childNamed (b .frame .start) level (e .offset) (e .size)) ≡ answer c)
+    unfolding childNamed
     named-child b m level p e i =
         let c = child bs root t b m level p e (subst (List·Memᴰ e) (sym (entries-at bs root t b m)) i) in
         let leveled = c .leveled in
-        (c .block, c .member, c .starts, c .leveled, named-block 19 (b .frame .start) level level (e .offset) (e .size) (c .block) (c .member) (c .starts) (c .sized) (omega arith) (omega arith))
+        (c .block, c .member, c .starts, c .leveled, named-block (childNamed (b .frame .start) level (e .offset) (e .size)) (c .block) (c .member) (c .starts) (c .sized) (omega arith) (omega arith))
 
     -- so is the root
-    pub named-root : (size : ℕ) (b : Block) → List·Memᴰ b bs → b .frame .start ≡ root → b .frame .size ≡ size → 1 ≤ b .frame .level → b .frame .level ≤ 63 → namedBlock file from 17 0 1 63 root size ≡ answer b
-    named-root size b m starts sized low high = named-block 17 0 1 63 root size b m starts sized low high
+    pub named-root : (size : ℕ) (b : Block) → List·Memᴰ b bs → b .frame .start ≡ root → b .frame .size ≡ size → 1 ≤ b .frame .level → b .frame .level ≤ 63 → namedBlock file from (rootNamed root size) ≡ answer b
+    unfolding rootNamed
+    named-root size b m starts sized low high = named-block (rootNamed root size) b m starts sized low high
 
     -- ---- the walk
 
@@ -110,13 +114,13 @@ module _ (file : List ℕ) (from : ℕ) (bs : List Block) (stage : blocksAt file
         where
           visited : ((c : Block) → List·Memᴰ c bs → c .frame .level ≡ level → (bound : Option (List ℕ)) (u : Walked) → walkOf file q places room from level c bound u ≡ run places room (eventsOf bs q level (c .frame .start) bound) u)
               → (e : Entry) → List·Memᴰ e (b .entries) → (bound : Option (List ℕ)) (u : Walked)
-              → (openBlock file places from 19 (b .frame .start) level level (e .offset) (e .size) u >>= λ c. walkOf file q places room from level c bound (withOpened (e .offset) u))
+              → (openBlock file places from (childNamed (b .frame .start) level (e .offset) (e .size)) u >>= λ c. walkOf file q places room from level c bound (withOpened (e .offset) u))
               ≡ run places room (opens (e .offset) ∷ eventsOf bs q level (e .offset) bound) u
           visited ih e i bound u =
               let n = named-child b m level p e i in
-              after-bind (must (ltb (length (u .opened)) places) 26 0) (namedBlock file from 19 (b .frame .start) level level (e .offset) (e .size)) _
+              after-bind (must (ltb (length (u .opened)) places) 26 0) (namedBlock file from (childNamed (b .frame .start) level (e .offset) (e .size))) _
               ∙ ap (λ (o : Outcome Walked). must (ltb (length (u .opened)) places) 26 0 >> o)
-              (bind-answer (namedBlock file from 19 (b .frame .start) level level (e .offset) (e .size)) _ (n .0) (n .4)
+              (bind-answer (namedBlock file from (childNamed (b .frame .start) level (e .offset) (e .size))) _ (n .0) (n .4)
               ∙ ih (n .0) (n .1) (n .3) bound (withOpened (e .offset) u)
               ∙ ap (λ (o : ℕ). run places room (eventsOf bs q level o bound) (withOpened (e .offset) u)) (n .2))
 
@@ -125,9 +129,9 @@ module _ (file : List ℕ) (from : ℕ) (bs : List Block) (stage : blocksAt file
           → walkFrom file q places room from root size ≡ run places room (searchEvents bs root q) nothing
       unfolding walkFrom openBlock searchEvents run
       walk-root size b m starts sized low high =
-          after-bind (must (ltb (length (nothing .opened)) places) 26 0) (namedBlock file from 17 0 1 63 root size) _
+          after-bind (must (ltb (length (nothing .opened)) places) 26 0) (namedBlock file from (rootNamed root size)) _
           ∙ ap (λ (o : Outcome Walked). must (ltb (length (nothing .opened)) places) 26 0 >> o)
-          (bind-answer (namedBlock file from 17 0 1 63 root size) _ b (named-root size b m starts sized low high)
+          (bind-answer (namedBlock file from (rootNamed root size)) _ b (named-root size b m starts sized low high)
           ∙ walk-events (b .frame .level) b m refl none (withOpened root nothing)
           ∙ ap (λ (o : ℕ). run places room (eventsOf bs q (b .frame .level) o none) (withOpened root nothing)) starts
           ∙ ap (λ (n : ℕ). run places room (eventsOf bs q n root none) (withOpened root nothing)) (sym (level-at bs root t b m) ∙ ap (blockLevel bs) starts))

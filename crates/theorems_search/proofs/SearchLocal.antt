@@ -24,7 +24,8 @@ use Rattle.block.proofs.LocalLaws.{block-local}
 use Rattle.query.specs.Query.{Query}
 use Rattle.query.specs.Opening.{mayMatch}
 use Rattle.search.specs.declared.Found.{Found}
-use Rattle.search.specs.Search.{Walked, nothing, withOpened, nextKey, fittingBlock, namedBlock, openBlock, walkOver, walkOf, walkFrom, searchOf, searchAnswer, openedList, resultList}
+use Rattle.search.specs.declared.opening.Named.{Named}
+use Rattle.search.specs.Search.{Walked, nothing, withOpened, nextKey, rootNamed, childNamed, fittingBlock, namedBlock, openBlock, walkOver, walkOf, walkFrom, searchOf, searchAnswer, openedList, resultList}
 use Rattle.theorems_search.specs.Locality.{headerEnd, SameWhereOpened, SearchedLocally}
 use Rattle.theorems_search.proofs.SearchTheorems.{search-answer}
 use Rattle.theorems_search.proofs.SearchNumbers.{number-0⇒answered}
@@ -44,42 +45,40 @@ module _ (file other : List ℕ) (long : length other ≡ length file) where
 
   -- ---- one block
 
-  pub named-local : (from number place least most offset size : ℕ) (c : Block)
-      → namedBlock file from number place least most offset size ≡ answer c → Alike offset → namedBlock other from number place least most offset size ≡ answer c
+  pub named-local : (from : ℕ) (n : Named) (c : Block) → namedBlock file from n ≡ answer c → Alike (n .offset) → namedBlock other from n ≡ answer c
   unfolding namedBlock fittingBlock
-  named-local from number place least most offset size c e alike =
-      let n = named⁻¹ file from number place least most offset size c e in
-      let here = named-block file from least most offset size c n in
-      let there = block⇒BlockRead other offset c (block-local file other offset c here long (alike c here)) in
-      let frame = answer-injective (n .frame) (c .frame) (sym (n .sound) ∙ block⇒BlockRead file offset c here .sound) in
-      kept (leb from offset && ltb offset (length other)) number place _ (ap (λ (k : ℕ). leb from offset && ltb offset k) long ∙ n .placed)
-      ∙ bind-answer (soundFrameAt other offset) (fittingBlock other number place least most size) (c .frame) (there .sound)
-      ∙ kept (fits (c .frame)) number place (blockIn other (c .frame)) (ap fits (sym frame) ∙ n .fitting)
+  named-local from n c e alike =
+      let is = named⁻¹ file from n c e in
+      let here = named-block file from n c is in
+      let there = block⇒BlockRead other (n .offset) c (block-local file other (n .offset) c here long (alike c here)) in
+      let frame = answer-injective (is .frame) (c .frame) (sym (is .sound) ∙ block⇒BlockRead file (n .offset) c here .sound) in
+      kept _ _ _ _ (ap (λ (k : ℕ). leb from (n .offset) && ltb (n .offset) k) long ∙ is .placed)
+      ∙ bind-answer (soundFrameAt other (n .offset)) (fittingBlock other n) (c .frame) (there .sound)
+      ∙ kept (fits (c .frame)) _ _ (blockIn other (c .frame)) (ap fits (sym frame) ∙ is .fitting)
       ∙ there .inside
     where
       fits : Frame → Bool
-      fits f = eqb (f .size) size && (leb least (f .level) && leb (f .level) most)
+      fits f = eqb (f .size) (n .size) && (leb (n .least) (f .level) && leb (f .level) (n .most))
 
-  pub open-local : (places from number place least most offset size : ℕ) (s : Walked) (c : Block)
-      → openBlock file places from number place least most offset size s ≡ answer c → Alike offset → openBlock other places from number place least most offset size s ≡ answer c
+  pub open-local : (places from : ℕ) (n : Named) (s : Walked) (c : Block) → openBlock file places from n s ≡ answer c → Alike (n .offset) → openBlock other places from n s ≡ answer c
   unfolding openBlock
-  open-local places from number place least most offset size s c e alike =
-      let o = open⁻¹ file places from number place least most offset size s c e in
-      kept (ltb (length (s .opened)) places) 26 0 (namedBlock other from number place least most offset size) (o .0)
-      ∙ named-local from number place least most offset size c (o .1) alike
+  open-local places from n s c e alike =
+      let o = open⁻¹ file places from n s c e in
+      kept (ltb (length (s .opened)) places) 26 0 (namedBlock other from n) (o .0) ∙ named-local from n c (o .1) alike
 
   -- a block is opened, and the walk goes on from it
-  opens-local : (places from number place least most offset size : ℕ) (here there : Block → Walked → Outcome Walked)
+  opens-local : (places from : ℕ) (n : Named) (here there : Block → Walked → Outcome Walked)
       → ((c : Block) (s t : Walked) → here c s ≡ answer t → Grown s t)
       → ((c : Block) (s t : Walked) → here c s ≡ answer t → AllAlike t → there c s ≡ answer t)
-      → (s t : Walked) → (openBlock file places from number place least most offset size s >>= λ c. here c (withOpened offset s)) ≡ answer t → AllAlike t
-      → (openBlock other places from number place least most offset size s >>= λ c. there c (withOpened offset s)) ≡ answer t
+      → (s t : Walked) → (openBlock file places from n s >>= λ c. here c (withOpened (n .offset) s)) ≡ answer t → AllAlike t
+      → (openBlock other places from n s >>= λ c. there c (withOpened (n .offset) s)) ≡ answer t
   unfolding withOpened
-  opens-local places from number place least most offset size here there grows same s t e alike =
-      let first = bind⁻¹ (openBlock file places from number place least most offset size s) (λ c. here c (withOpened offset s)) t e in
+  opens-local places from n here there grows same s t e alike =
+      let offset = n .offset in
+      let first = bind⁻¹ (openBlock file places from n s) (λ c. here c (withOpened offset s)) t e in
       let now = grown-member (withOpened offset s) t (grows (first .0) (withOpened offset s) t (first .2)) offset (Memᴰ·append-right (s .opened) (List·Memᴰ·head refl)) in
-      bind-answer (openBlock other places from number place least most offset size s) (λ c. there c (withOpened offset s)) (first .0)
-      (open-local places from number place least most offset size s (first .0) (first .1) (alike offset now))
+      bind-answer (openBlock other places from n s) (λ c. there c (withOpened offset s)) (first .0)
+      (open-local places from n s (first .0) (first .1) (alike offset now))
       ∙ same (first .0) (withOpened offset s) t (first .2) alike
 
   -- ---- the walk
@@ -105,19 +104,19 @@ module _ (file other : List ℕ) (long : length other ≡ length file) where
   module _ (q : Query) (places room from : ℕ) where
     pub walk-local : (level : ℕ) (b : Block) (upper : Option (List ℕ)) (s t : Walked)
         → walkOf file q places room from level b upper s ≡ answer t → AllAlike t → walkOf other q places room from level b upper s ≡ answer t
-    unfolding walkOf
+    unfolding walkOf childNamed
     walk-local zero b upper s t e alike = e
     walk-local (suc level) b upper s t e alike =
         over-local q _ _ upper
-        (λ x bound. opens-grow file places from 19 (b .frame .start) level level (x .offset) (x .size) (λ c. walkOf file q places room from level c bound) (λ c. walk-grows file q places room from level c bound))
-        (λ x bound. opens-local places from 19 (b .frame .start) level level (x .offset) (x .size) (λ c. walkOf file q places room from level c bound) (λ c. walkOf other q places room from level c bound)
+        (λ x bound. opens-grow file places from (childNamed (b .frame .start) level (x .offset) (x .size)) (λ c. walkOf file q places room from level c bound) (λ c. walk-grows file q places room from level c bound))
+        (λ x bound. opens-local places from (childNamed (b .frame .start) level (x .offset) (x .size)) (λ c. walkOf file q places room from level c bound) (λ c. walkOf other q places room from level c bound)
         (λ c. walk-grows file q places room from level c bound) (λ c. walk-local level c bound))
         (b .entries) s t e alike
 
     pub walkFrom-local : (root rootsize : ℕ) (t : Walked) → walkFrom file q places room from root rootsize ≡ answer t → AllAlike t → walkFrom other q places room from root rootsize ≡ answer t
-    unfolding walkFrom
+    unfolding walkFrom rootNamed
     walkFrom-local root rootsize t e alike =
-        opens-local places from 17 0 1 63 root rootsize (λ b. walkOf file q places room from (b .frame .level) b none) (λ b. walkOf other q places room from (b .frame .level) b none)
+        opens-local places from (rootNamed root rootsize) (λ b. walkOf file q places room from (b .frame .level) b none) (λ b. walkOf other q places room from (b .frame .level) b none)
         (λ c. walk-grows file q places room from (c .frame .level) c none) (λ c. walk-local (c .frame .level) c none) nothing t e alike
 
 -- ---- the search

@@ -18,7 +18,8 @@ use Rattle.query.specs.Query.{Query}
 use Rattle.query.specs.Opening.{mayMatch}
 use Rattle.matching.specs.Matching.{matching}
 use Rattle.search.specs.declared.Found.{Found}
-use Rattle.search.specs.Search.{Walked, nothing, withMatch, withOpened, nextKey, fittingBlock, namedBlock, openBlock, addMatches, walkOver, walkOf, walkFrom, searchOf, searchAnswer}
+use Rattle.search.specs.declared.opening.Named.{Named}
+use Rattle.search.specs.Search.{Walked, nothing, withMatch, withOpened, nextKey, rootNamed, childNamed, fittingBlock, namedBlock, openBlock, addMatches, walkOver, walkOf, walkFrom, searchOf, searchAnswer}
 use Rattle.theorems_check.proofs.BlockNumbers.{BlockNumber, frame-numbers, inside-numbers}
 use Rattle.theorems_search.proofs.SearchTheorems.{search-refusal}
 
@@ -29,14 +30,13 @@ module _ (Kind : ℕ → Type 0) (low : (n : ℕ) → 1 ≤ n → n ≤ 17 → K
 
   -- ---- one block
 
-  open-refuses : (file : List ℕ) (places from number place least most offset size : ℕ) (s : Walked) → Kind number
-      → Refuses Kind (openBlock file places from number place least most offset size s)
+  open-refuses : (file : List ℕ) (places from : ℕ) (n : Named) (s : Walked) → Kind (n .refusal .number) → Refuses Kind (openBlock file places from n s)
   unfolding openBlock namedBlock fittingBlock
-  open-refuses file places from number place least most offset size s k =
+  open-refuses file places from n s k =
       refuses-rule Kind _ 26 0 _ k26
-      (refuses-rule Kind _ number place _ k
-      (refuses-bind Kind (soundFrameAt file offset) _ (refuses-more BlockNumber Kind _ by-block (frame-numbers file offset))
-      (λ f. refuses-rule Kind _ number place _ k (refuses-more BlockNumber Kind _ by-block (inside-numbers file f)))))
+      (refuses-rule Kind _ (n .refusal .number) (n .refusal .place) _ k
+      (refuses-bind Kind (soundFrameAt file (n .offset)) _ (refuses-more BlockNumber Kind _ by-block (frame-numbers file (n .offset)))
+      (λ f. refuses-rule Kind _ (n .refusal .number) (n .refusal .place) _ k (refuses-more BlockNumber Kind _ by-block (inside-numbers file f)))))
 
   add-refuses : (room : ℕ) (rs : List Text) (s : Walked) → Refuses Kind (addMatches room rs s)
   unfolding addMatches
@@ -59,22 +59,22 @@ module _ (Kind : ℕ → Type 0) (low : (n : ℕ) → 1 ≤ n → n ≤ 17 → K
 
   module _ (file : List ℕ) (q : Query) (places room : ℕ) where
     walk-refuses : (from level : ℕ) (b : Block) (upper : Option (List ℕ)) (s : Walked) → Refuses Kind (walkOf file q places room from level b upper s)
-    unfolding walkOf
+    unfolding walkOf childNamed
     walk-refuses from zero b upper s = add-refuses room (matching q (b .records)) s
     walk-refuses from (suc level) b upper s =
         over-refuses q _ upper
-        (λ e bound t. refuses-bind Kind (openBlock file places from 19 (b .frame .start) level level (e .offset) (e .size) t) _
-        (open-refuses file places from 19 (b .frame .start) level level (e .offset) (e .size) t k19)
+        (λ e bound t. refuses-bind Kind (openBlock file places from (childNamed (b .frame .start) level (e .offset) (e .size)) t) _
+        (open-refuses file places from (childNamed (b .frame .start) level (e .offset) (e .size)) t k19)
         (λ c. walk-refuses from level c bound (withOpened (e .offset) t)))
         (b .entries) s
 
     pub search-refuses : Refuses Kind (searchOf file q places room)
-    unfolding searchOf walkFrom
+    unfolding searchOf walkFrom rootNamed
     search-refuses =
         refuses-bind Kind (headerOf file) _
         (record { among = λ n p e. let numbers = header-refused file n p e in low n (numbers .1) (omega arith) })
-        (λ h. refuses-bind Kind (openBlock file places (blocksFrom h) 17 0 1 63 (h .root) (h .rootsize) nothing) _
-        (open-refuses file places (blocksFrom h) 17 0 1 63 (h .root) (h .rootsize) nothing (low 17 (omega arith) (omega arith)))
+        (λ h. refuses-bind Kind (openBlock file places (blocksFrom h) (rootNamed (h .root) (h .rootsize)) nothing) _
+        (open-refuses file places (blocksFrom h) (rootNamed (h .root) (h .rootsize)) nothing (low 17 (omega arith) (omega arith)))
         (λ b. walk-refuses (blocksFrom h) (b .frame .level) b none (withOpened (h .root) nothing)))
 
 module _ (file : List ℕ) (q : Query) (places room : ℕ) where

@@ -2,7 +2,7 @@
 -- Assumes nothing.
 use mathlib.Core.Path.{_≡_, sym, ap, _∙_}
 use mathlib.Core.List.{List}
-use Prim.Native.Nat.{ℕ, _*_, _≤_}
+use Prim.Native.Nat.{ℕ, _≤_}
 use lib.ListN.{length}
 use Rattle.output_list.specs.OutputList.{padded}
 use Rattle.outcome.specs.Outcome.{Outcome, answer, numberOf, placeOf, countOf, listOf}
@@ -12,7 +12,7 @@ use Rattle.block.specs.Block.{Block}
 use Rattle.block.specs.Survey.{recordsOf}
 use Rattle.query.specs.Query.{Query}
 use Rattle.matching.specs.Matching.{matching}
-use Rattle.matching.specs.ResultList.{numbersOf}
+use Rattle.matching.specs.ResultList.{roomFor, numbersOf}
 use Rattle.reader.specs.Read.{readOf, readAnswer, readList}
 use Rattle.theorems_read.proofs.ReadTheorems.{read-answer}
 use Rattle.theorems_read.proofs.ReadAccepted.{accepted⇒read}
@@ -23,7 +23,7 @@ use Rattle.theorems_search.proofs.SearchRoom.{search-fits}
 
 -- ---- what is reported of an answer
 
--- number and place are 0; blocks and matches are counted and listed, with zeros behind them
+-- number and place are 0; blocks and matches are counted and listed, with zeros after them
 pub record Reported (o : Outcome Walked) (places room : ℕ) (opened : List ℕ) (ms : List Text) : Type 0 where
   pub number : searchAnswer o .number ≡ 0
   pub place : searchAnswer o .place ≡ 0
@@ -39,7 +39,7 @@ answer-reported o places room opened ms e = record { number = rw e; place = rw e
 -- ---- an accepted file
 
 module _ (file : List ℕ) (bs : List Block) (accepted : acceptOf file ≡ answer bs) (q : Query) (places room : ℕ)
-    (fit-opened : length (opensIn (searchEvents bs (fieldAt file 16) q)) ≤ places) (fit-matches : 2 * length (matching q (recordsOf bs)) ≤ room) where
+    (fit-opened : length (opensIn (searchEvents bs (fieldAt file 16) q)) ≤ places) (fit-matches : roomFor (length (matching q (recordsOf bs))) ≤ room) where
   reported : Reported (searchOf file q places room) places room (opensIn (searchEvents bs (fieldAt file 16) q)) (matching q (recordsOf bs))
   reported = answer-reported (searchOf file q places room) places room _ _ (search-fits file bs accepted q places room fit-opened fit-matches)
 

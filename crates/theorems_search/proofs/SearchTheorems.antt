@@ -1,9 +1,9 @@
 -- Theorems about the search on any bytes, over the definitions that its contract cites: the answer, and the two lists at exit.
 -- Assumes nothing.
-use mathlib.Core.Path.{_≡_, refl, ap, _∙_}
+use mathlib.Core.Path.{_≡_, refl, sym, ap, _∙_, subst}
 use mathlib.Core.List.{List, [], _∷_, _++_, List·Memᴰ, List·Memᴰ·not-nil, List·Memᴰ·append-cases, List·Memᴰ·cases-cons}
 use mathlib.Core.Logic.{_⊎_, inl, inr}
-use Prim.Native.Nat.{ℕ, _+_, _*_, _≤_, _<_}
+use Prim.Native.Nat.{ℕ, _+_, _≤_, _<_}
 use native.Mathlib.Omega.{arith}
 use lib.ListN.{length, length-append}
 use Rattle.output_list.specs.OutputList.{padded, zeros}
@@ -12,15 +12,15 @@ use Rattle.outcome.specs.Outcome.{Outcome, answer, refused, numberOf, placeOf, 
 use Rattle.payload.specs.Payload.{Text}
 use Rattle.block.specs.Block.{Block, blockAt}
 use Rattle.query.specs.Query.{Query}
-use Rattle.matching.specs.ResultList.{numbersOf}
-use Rattle.matching.proofs.StoreLaws.{length-numbers}
+use Rattle.matching.specs.ResultList.{roomFor, numbersOf}
+use Rattle.matching.proofs.ResultListLaws.{roomFor-none, length-numbers}
 use Rattle.search.specs.Search.{Walked, nothing, withOpened, withMatch, searchOf, searchAnswer, openedList, resultList}
 use Rattle.theorems_search.proofs.WalkSteps.{search-keeps}
 
 -- what is listed has its places
 pub record Fits (places room : ℕ) (s : Walked) : Type 0 where
   pub opened-fit : length (s .opened) ≤ places
-  pub matches-fit : 2 * length (s .matches) ≤ room
+  pub matches-fit : roomFor (length (s .matches)) ≤ room
 
 -- each of these is the offset of a block that can be read
 abbrev pub AllRead : List ℕ → List ℕ → Type 0
@@ -32,13 +32,15 @@ module _ (file : List ℕ) (q : Query) (places room : ℕ) where
   unfolding nothing withOpened withMatch
   walk-fits s e =
       search-keeps (λ s t. Fits places room s → Fits places room t) (λ s f. f) (λ s t u f g h. g (f h)) file q places room opening finding s e
-      (record { opened-fit = omega arith; matches-fit = omega arith })
+      (record { opened-fit = omega arith; matches-fit = omega (arith, roomFor-none) })
     where
       opening : (offset : ℕ) (c : Block) (t : Walked) → length (t .opened) < places → blockAt file offset ≡ answer c → Fits places room t → Fits places room (withOpened offset t)
       opening offset c t free read f = let more = length-append (t .opened) (offset ∷ []) in record { opened-fit = omega arith; matches-fit = f .matches-fit }
 
-      finding : (r : Text) (t : Walked) → 2 * length (t .matches) + 2 ≤ room → Fits places room t → Fits places room (withMatch r t)
-      finding r t free f = let more = length-append (t .matches) (r ∷ []) in record { opened-fit = f .opened-fit; matches-fit = omega arith }
+      finding : (r : Text) (t : Walked) → roomFor (length (t .matches) + 1) ≤ room → Fits places room t → Fits places room (withMatch r t)
+      finding r t free f =
+          let more : length (t .matches ++ (r ∷ [])) ≡ length (t .matches) + 1 = omega (arith, length-append (t .matches) (r ∷ [])) in
+          record { opened-fit = f .opened-fit; matches-fit = subst (λ (n : ℕ). roomFor n ≤ room) (sym more) free }
 
   -- every offset on the opened list is that of a block that can be read
   pub opened-read : (s : Walked) → searchOf file q places room ≡ answer s → AllRead file (s .opened)

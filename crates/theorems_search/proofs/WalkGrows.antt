@@ -1,4 +1,4 @@
--- The lists of the walk only grow: what it has opened and found it keeps, and puts more behind it.
+-- The lists of the walk only grow: what it has opened and found it keeps, and puts more after it.
 -- Assumes nothing.
 use mathlib.Core.Path.{_≡_, refl, sym, ap, _∙_, subst}
 use mathlib.Core.List.{List, [], _∷_, _++_, append-nil, append-assoc, List·Memᴰ, Memᴰ·append-left}
@@ -8,10 +8,11 @@ use Rattle.outcome.specs.Outcome.{Outcome, answer, _>>=_}
 use Rattle.payload.specs.Payload.{Text, Entry}
 use Rattle.block.specs.Block.{Block}
 use Rattle.query.specs.Query.{Query}
+use Rattle.search.specs.declared.opening.Named.{Named}
 use Rattle.search.specs.Search.{Walked, withOpened, withMatch, openBlock, addMatches, walkOver, walkOf}
 use Rattle.theorems_search.proofs.WalkSteps.{over-keeps, matches-keep, opens-keep, walk-keeps}
 
--- t has all that s has, in its order, and more behind it
+-- t has all that s has, in its order, and more after it
 pub record Grown (s t : Walked) : Type 0 where
   pub more-opened : List ℕ
   pub opened-are : t .opened ≡ s .opened ++ more-opened
@@ -52,9 +53,9 @@ pub over-grows : (q : Query) (visit : Entry → Option (List ℕ) → Walked →
     → (es : List Entry) (s t : Walked) → walkOver q visit above es s ≡ answer t → Grown s t
 over-grows = over-keeps Grown grown-none grown-further
 
-pub opens-grow : (file : List ℕ) (places from number place least most offset size : ℕ) (next : Block → Walked → Outcome Walked)
+pub opens-grow : (file : List ℕ) (places from : ℕ) (n : Named) (next : Block → Walked → Outcome Walked)
     → ((c : Block) (s t : Walked) → next c s ≡ answer t → Grown s t)
-    → (s t : Walked) → (openBlock file places from number place least most offset size s >>= λ c. next c (withOpened offset s)) ≡ answer t → Grown s t
+    → (s t : Walked) → (openBlock file places from n s >>= λ c. next c (withOpened (n .offset) s)) ≡ answer t → Grown s t
 opens-grow file places = opens-keep Grown grown-none grown-further file places (λ offset c s free read. grown-opened offset s)
 
 pub walk-grows : (file : List ℕ) (q : Query) (places room from level : ℕ) (b : Block) (upper : Option (List ℕ)) (s t : Walked)

@@ -1,5 +1,5 @@
 -- What is claimed of the search of an accepted file: it is answered as reading front to back is, and opens the blocks of the rule.
-use Prim.Native.Nat.{ℕ, _*_, _≤_, _<_}
+use Prim.Native.Nat.{ℕ, _≤_, _<_}
 use mathlib.Core.Path.{_≡_}
 use mathlib.Core.Logic.{_↔_}
 use mathlib.Core.List.{List, _∷_, List·Memᴰ}
@@ -12,6 +12,7 @@ use Rattle.block.specs.Block.{Block}
 use Rattle.block.specs.Survey.{recordsOf}
 use Rattle.query.specs.Query.{Query}
 use Rattle.matching.specs.Matching.{matching}
+use Rattle.matching.specs.ResultList.{roomFor}
 use Rattle.reader.specs.Read.{readOf, readAnswer, readList}
 use Rattle.search.specs.declared.Found.{Found}
 use Rattle.tree.specs.Tree.{blockLevel}
@@ -48,9 +49,9 @@ pub record Searched (file : List ℕ) (bs : List Block) (q : Query) (opened : Li
   pub in-vain : (level : ℕ) → level < blockLevel bs (fieldAt file 16) → (vain : List ℕ) × Kept (InVain bs q level) opened vain × (length vain ≤ 2)
 
 -- Demand 3, of a search with this answer and these lists at exit. For an accepted file the rule says which blocks are opened; with a place
--- for each of them and two places for each record that matches, the search is as claimed.
+-- for each of them and room for the records that match, the search is as claimed.
 unfoldable pub SearchedByRules : (file : List ℕ) → Query → (places room : ℕ) (r : Found) (list results : List ℕ) → Type 0
 SearchedByRules file q places room r list results =
     (bs : List Block) → acceptOf file ≡ answer bs
     → (opened : List ℕ) × RuleOpens file bs q opened
-    × (length opened ≤ places → 2 * length (matching q (recordsOf bs)) ≤ room → Searched file bs q opened places room r list results)
+    × (length opened ≤ places → roomFor (length (matching q (recordsOf bs))) ≤ room → Searched file bs q opened places room r list results)

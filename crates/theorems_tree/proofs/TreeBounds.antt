@@ -13,7 +13,7 @@ use Rattle.tree.specs.Tree.{blockEntries, blockRecords, blockLevel, leaves, und
 use Rattle.tree.proofs.TreeLaws.{Tree, records-at}
 use Rattle.tree.proofs.TreeWays.{Way, pre, post, records-cut}
 use Rattle.theorems_tree.proofs.TreeCuts.{SearchTree, lowerOf, upperOf, UpTo, Past, lower-cut, upper-cut}
-use Rattle.theorems_tree.proofs.TreeLevels.{blocksOfLevel, level-behind, level-before}
+use Rattle.theorems_tree.proofs.TreeLevels.{blocksOfLevel, level-after, level-before}
 
 -- ---- what a block leads to
 
@@ -52,7 +52,7 @@ module _ (bs : List Block) (root : ℕ) (k : SearchTree bs root) where
   -- every record that a block leads to is at least the upper bound of an earlier block of its level
   pub upper-earlier : (l : ℕ) → l ≤ blockLevel bs root → (front : List ℕ) (x : ℕ) (back : List ℕ) → blocksOfLevel bs l (blockLevel bs root) root ≡ front ++ (x ∷ back) → (y : ℕ) → List·Memᴰ y back
       → (v : Way bs root l x) → Way bs root l y → (r : Text) → List·Memᴰ r (under bs l y) → Past (upperOf bs root l x v) (r .bytes)
-  upper-earlier l few front x back split y later v w r m = upper-cut bs root k l x v .1 r (level-behind bs root (k .tree) (k .walked) l few front x back split y later v w r m)
+  upper-earlier l few front x back split y later v w r m = upper-cut bs root k l x v .1 r (level-after bs root (k .tree) (k .walked) l few front x back split y later v w r m)
 
   -- and at most the lower bound of a later block of its level
   pub lower-later : (l : ℕ) → l ≤ blockLevel bs root → (front : List ℕ) (x : ℕ) (back : List ℕ) → blocksOfLevel bs l (blockLevel bs root) root ≡ front ++ (x ∷ back) → (y : ℕ) → List·Memᴰ y back

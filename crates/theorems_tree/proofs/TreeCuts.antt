@@ -1,4 +1,4 @@
--- The cuts: the records before a block, under it and behind it, and how they lie to the block's bounds.
+-- The cuts: the records before a block, under it and after it, and how they lie to the block's bounds.
 -- Assumes nothing.
 use mathlib.Core.Path.{_≡_, refl, sym, ap, _∙_, subst}
 use mathlib.Core.Logic.{_⊎_, inl, inr}
@@ -19,7 +19,7 @@ use Rattle.tree.specs.Tree.{blockEntries, blockRecords, blockLevel, leaves, und
 use Rattle.search.specs.Search.{nextKey}
 use Rattle.theorems_check.specs.Rules.{Sorted, one-string}
 use Rattle.tree.proofs.TreeLaws.{Tree, records-at, leaves-data, leaves-some}
-use Rattle.tree.proofs.TreeWays.{Way, at-root, by-entry, Turn, turnsOf, leavesBefore, leavesBehind, pre, post, records-cut, Met, way-block, met-entries}
+use Rattle.tree.proofs.TreeWays.{Way, at-root, by-entry, Turn, turnsOf, leavesBefore, leavesAfter, pre, post, records-cut, Met, way-block, met-entries}
 
 -- ---- bounds
 
@@ -57,7 +57,7 @@ module _ (bs : List Block) (root : ℕ) where
   unfolding pre under
   pre-under level at w = sym (flatMap-append (λ o. blockRecords bs o) (leavesBefore bs root level at w) (leaves bs level at))
 
-  -- before the next block are this block's records and those before it; behind this block are the next block's and those behind it
+  -- before the next block are this block's records and those before it; after this block are the next block's and those after it
   next-before : (level at upper : ℕ) (front : List Entry) (e next : Entry) (back : List Entry) (w : Way bs root (suc level) upper) (p : blockEntries bs upper ≡ front ++ (e ∷ next ∷ back)) (q : at ≡ e .offset)
       → pre bs root level at (by-entry upper front e (next ∷ back) w p q) ++ under bs level at ≡ pre bs root level (next .offset) (way-next level upper front e next back w p)
   unfolding leavesBefore pre flatMap way-next
@@ -70,13 +70,13 @@ module _ (bs : List Block) (root : ℕ) where
       ∙ ap (λ (l : List ℕ). before ++ l)
       (ap (λ (l : List ℕ). leavesOf level front ++ l) (sym (append-nil (leaves bs level (e .offset)))) ∙ sym (flatMap-append (λ x. leaves bs level (x .offset)) front (e ∷ []))))
 
-  next-behind : (level at upper : ℕ) (front : List Entry) (e next : Entry) (back : List Entry) (w : Way bs root (suc level) upper) (p : blockEntries bs upper ≡ front ++ (e ∷ next ∷ back)) (q : at ≡ e .offset)
+  next-after : (level at upper : ℕ) (front : List Entry) (e next : Entry) (back : List Entry) (w : Way bs root (suc level) upper) (p : blockEntries bs upper ≡ front ++ (e ∷ next ∷ back)) (q : at ≡ e .offset)
       → post bs root level at (by-entry upper front e (next ∷ back) w p q) ≡ under bs level (next .offset) ++ post bs root level (next .offset) (way-next level upper front e next back w p)
-  unfolding leavesBehind post under flatMap way-next
-  next-behind level at upper front e next back w p q =
-      let behind : List ℕ = leavesBehind bs root (suc level) upper w in
-      ap records-of (append-assoc (leaves bs level (next .offset)) (leavesOf level back) (behind))
-      ∙ flatMap-append (λ o. blockRecords bs o) (leaves bs level (next .offset)) (leavesOf level back ++ behind)
+  unfolding leavesAfter post under flatMap way-next
+  next-after level at upper front e next back w p q =
+      let after : List ℕ = leavesAfter bs root (suc level) upper w in
+      ap records-of (append-assoc (leaves bs level (next .offset)) (leavesOf level back) (after))
+      ∙ flatMap-append (λ o. blockRecords bs o) (leaves bs level (next .offset)) (leavesOf level back ++ after)
 
   -- the block of the last entry ends with its index block
   last-before : (level at upper : ℕ) (front : List Entry) (e : Entry) (w : Way bs root (suc level) upper) (p : blockEntries bs upper ≡ front ++ (e ∷ [])) (q : at ≡ e .offset)
@@ -92,10 +92,10 @@ module _ (bs : List Block) (root : ℕ) where
       (ap (λ (l : List ℕ). leavesOf level front ++ l) (sym (append-nil (leaves bs level (e .offset)))) ∙ sym (flatMap-split (λ x. leaves bs level (x .offset)) (blockEntries bs upper) front e [] p)))
       ∙ sym (pre-under (suc level) upper w)
 
-  last-behind : (level at upper : ℕ) (front : List Entry) (e : Entry) (w : Way bs root (suc level) upper) (p : blockEntries bs upper ≡ front ++ (e ∷ [])) (q : at ≡ e .offset)
+  last-after : (level at upper : ℕ) (front : List Entry) (e : Entry) (w : Way bs root (suc level) upper) (p : blockEntries bs upper ≡ front ++ (e ∷ [])) (q : at ≡ e .offset)
       → post bs root level at (by-entry upper front e [] w p q) ≡ post bs root (suc level) upper w
-  unfolding leavesBehind post flatMap
-  last-behind level at upper front e w p q = refl
+  unfolding leavesAfter post flatMap
+  last-after level at upper front e w p q = refl
 
 -- x is at most an upper bound, where there is one
 unfoldable pub UpTo : List ℕ → Option (List ℕ) → Type 0
@@ -129,7 +129,7 @@ key-separates : (key : List ℕ) (all front part back : List Text) (first : Text
     → Ascending (map (λ r. r .at) all) → Sorted (map (λ r. r .bytes) all) → atMost key (first .bytes) ≡ true
     → ((r : Text) → List·Memᴰ r all → r .at < first .at → atMost (r .bytes) key ≡ true)
     → ((r : Text) → List·Memᴰ r front → atMost (r .bytes) key ≡ true) × ((r : Text) → List·Memᴰ r (part ++ back) → atMost key (r .bytes) ≡ true)
-key-separates key all front part back first rest cut begins placed sorted low high = (before, behind)
+key-separates key all front part back first rest cut begins placed sorted low high = (before, after)
   where
     begin : List·Memᴰ first (part ++ back)
     begin = Memᴰ·append-left back (subst (List·Memᴰ first) (sym begins) (List·Memᴰ·head refl))
@@ -145,8 +145,8 @@ key-separates key all front part back first rest cut begins placed sorted low hi
         high r (subst (List·Memᴰ r) (sym cut) (Memᴰ·append-left (part ++ back) m))
         (ascending-apart (map (λ u. u .at) front) (map (λ u. u .at) (part ++ back)) offsets (r .at) (first .at) (Memᴰ·map (λ (u : Text). u .at) m) (Memᴰ·map (λ (u : Text). u .at) begin))
 
-    behind : (r : Text) → List·Memᴰ r (part ++ back) → atMost key (r .bytes) ≡ true
-    behind r m =
+    after : (r : Text) → List·Memᴰ r (part ++ back) → atMost key (r .bytes) ≡ true
+    after r m =
         let joined = ap (λ (l : List Text). map (λ u. u .bytes) (l ++ back)) begins in
         let least =
         sorted-first (first .bytes) (map (λ u. u .bytes) (rest ++ back)) (subst Sorted joined strings) (r .bytes)
@@ -195,7 +195,7 @@ module _ (bs : List Block) (root : ℕ) (k : SearchTree bs root) where
       begun [] p m = absurd (List·Memᴰ·not-nil m)
       begun (r ∷ rs) p m = (r, rs, p)
 
-  -- the lower bound separates the records before the block from its own and those behind it
+  -- the lower bound separates the records before the block from its own and those after it
   pub lower-cut : (level at : ℕ) (w : Way bs root level at)
       → ((r : Text) → List·Memᴰ r (pre bs root level at w) → atMost (r .bytes) (lowerOf bs root level at w) ≡ true)
       × ((r : Text) → List·Memᴰ r (under bs level at ++ post bs root level at w) → atMost (lowerOf bs root level at w) (r .bytes) ≡ true)
@@ -219,15 +219,15 @@ module _ (bs : List Block) (root : ℕ) (k : SearchTree bs root) where
           key-separates (e .key .bytes) (recordsOf bs) (pre bs root level at v) (under bs level at) (post bs root level at v) (own .0) (own .1)
           (records-cut bs root (k .tree) (k .walked) level at v) (own .2) (k .placed) (k .sorted) (rule .0) (rule .1)
 
-  -- the upper bound separates the records before the block and its own from those behind it; where there is none, none are behind it
+  -- the upper bound separates the records before the block and its own from those after it; where there is none, none are after it
   pub upper-cut : (level at : ℕ) (w : Way bs root level at)
       → ((r : Text) → List·Memᴰ r (pre bs root level at w ++ under bs level at) → UpTo (r .bytes) (upperOf bs root level at w))
       × ((r : Text) → List·Memᴰ r (post bs root level at w) → Past (upperOf bs root level at w) (r .bytes))
-  unfolding upperOf upperBound lowerOf lowerBound turnsOf nextKey UpTo Past post leavesBehind flatMap way-next
+  unfolding upperOf upperBound lowerOf lowerBound turnsOf nextKey UpTo Past post leavesAfter flatMap way-next
   upper-cut level at (at-root p q) = (λ r m. tt, λ (r : Text) (m : List·Memᴰ r []). absurd (List·Memᴰ·not-nil m))
   upper-cut level at (by-entry upper front e [] w p q) =
       let ih = upper-cut (suc level) upper w in
-      (λ r m. ih .0 r (subst (List·Memᴰ r) (last-before bs root level at upper front e w p q) m), λ r m. ih .1 r (subst (List·Memᴰ r) (last-behind bs root level at upper front e w p q) m))
+      (λ r m. ih .0 r (subst (List·Memᴰ r) (last-before bs root level at upper front e w p q) m), λ r m. ih .1 r (subst (List·Memᴰ r) (last-after bs root level at upper front e w p q) m))
   upper-cut level at (by-entry upper front e (next ∷ back) w p q) =
       let c = lower-cut level (next .offset) (way-next bs root level upper front e next back w p) in
-      (λ r m. c .0 r (subst (List·Memᴰ r) (next-before bs root level at upper front e next back w p q) m), λ r m. c .1 r (subst (List·Memᴰ r) (next-behind bs root level at upper front e next back w p q) m))
+      (λ r m. c .0 r (subst (List·Memᴰ r) (next-before bs root level at upper front e next back w p q) m), λ r m. c .1 r (subst (List·Memᴰ r) (next-after bs root level at upper front e next back w p q) m))

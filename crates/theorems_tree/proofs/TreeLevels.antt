@@ -18,7 +18,7 @@ use Rattle.block.specs.Block.{Block}
 use Rattle.tree.specs.Tree.{blockEntries, blockRecords, blockLevel, leaves, under}
 use Rattle.theorems_tree.specs.Preorder.{preorder}
 use Rattle.tree.proofs.TreeLaws.{Tree, level-at, child, leaves-some}
-use Rattle.tree.proofs.TreeWays.{Way, leavesBefore, leavesBehind, leaves-cut, leaves-within, pre, post, way-block}
+use Rattle.tree.proofs.TreeWays.{Way, leavesBefore, leavesAfter, leaves-cut, leaves-within, pre, post, way-block}
 use Rattle.theorems_tree.proofs.TreePreorder.{preorder-met, preorder⇒ordinary, ordinary⇒preorder}
 
 -- the blocks of level l met going down from the block of a level at an offset, in walk order
@@ -27,9 +27,9 @@ blocksOfLevel bs l level at = keep (λ x. eqb (blockLevel bs x) l) (preorder bs 
 
 -- ---- numbers that ascend, in three parts
 
--- what is above the middle part stands behind it
-above⇒behind : (a l b : List ℕ) → Ascending (a ++ (l ++ b)) → (o : ℕ) → List·Memᴰ o l → (n : ℕ) → List·Memᴰ n (a ++ (l ++ b)) → ((m : ℕ) → List·Memᴰ m l → m < n) → List·Memᴰ n b
-above⇒behind a l b rise o i n j above = go (List·Memᴰ·append-cases a j)
+-- what is above the middle part stands after it
+above⇒after : (a l b : List ℕ) → Ascending (a ++ (l ++ b)) → (o : ℕ) → List·Memᴰ o l → (n : ℕ) → List·Memᴰ n (a ++ (l ++ b)) → ((m : ℕ) → List·Memᴰ m l → m < n) → List·Memᴰ n b
+above⇒after a l b rise o i n j above = go (List·Memᴰ·append-cases a j)
   where
     later : List·Memᴰ n l ⊎ List·Memᴰ n b → List·Memᴰ n b
     later (inl m) = let self = above n m in absurd (omega arith)
@@ -151,16 +151,16 @@ module _ (bs : List Block) (root : ℕ) (t : Tree bs root) where
         let leaf = leaves-some bs root t l (met .block) (met .member) (met .leveled) (met .few) in
         (leaf .0, subst (λ (n : ℕ). List·Memᴰ (leaf .0) (leaves bs l n)) (met .starts) (leaf .1))
 
-    -- so the later one's records are behind the earlier one, and the earlier one's before the later
-    pub level-behind : (v : Way bs root l x) → Way bs root l y → (r : Text) → List·Memᴰ r (under bs l y) → List·Memᴰ r (post bs root l x v)
+    -- so the later one's records are after the earlier one, and the earlier one's before the later
+    pub level-after : (v : Way bs root l x) → Way bs root l y → (r : Text) → List·Memᴰ r (under bs l y) → List·Memᴰ r (post bs root l x v)
     unfolding under post
-    level-behind v w r m =
+    level-after v w r m =
         let f = flatMap-member (λ o. blockRecords bs o) (leaves bs l y) r m in
         let some = some-leaf x v in
         let cut = leaves-cut bs root l x v in
         let inside = subst (List·Memᴰ (f .0)) cut (leaves-within bs root l y w (f .0) (f .1)) in
-        let place = above⇒behind (leavesBefore bs root l x v) (leaves bs l x) (leavesBehind bs root l x v) (subst Ascending cut walked) (some .0) (some .1) (f .0) inside (λ (o : ℕ) (i : List·Memᴰ o (leaves bs l x)). level-order o (f .0) i (f .1)) in
-        member-flatMap (λ o. blockRecords bs o) (leavesBehind bs root l x v) (f .0) r place (f .2)
+        let place = above⇒after (leavesBefore bs root l x v) (leaves bs l x) (leavesAfter bs root l x v) (subst Ascending cut walked) (some .0) (some .1) (f .0) inside (λ (o : ℕ) (i : List·Memᴰ o (leaves bs l x)). level-order o (f .0) i (f .1)) in
+        member-flatMap (λ o. blockRecords bs o) (leavesAfter bs root l x v) (f .0) r place (f .2)
 
     pub level-before : Way bs root l x → (w : Way bs root l y) → (r : Text) → List·Memᴰ r (under bs l x) → List·Memᴰ r (pre bs root l y w)
     unfolding under pre
@@ -169,5 +169,5 @@ module _ (bs : List Block) (root : ℕ) (t : Tree bs root) where
         let some = some-leaf y w in
         let cut = leaves-cut bs root l y w in
         let inside = subst (List·Memᴰ (f .0)) cut (leaves-within bs root l x v (f .0) (f .1)) in
-        let place = below⇒before (leavesBefore bs root l y w) (leaves bs l y) (leavesBehind bs root l y w) (subst Ascending cut walked) (some .0) (some .1) (f .0) inside (λ (o : ℕ) (i : List·Memᴰ o (leaves bs l y)). level-order (f .0) o (f .1) i) in
+        let place = below⇒before (leavesBefore bs root l y w) (leaves bs l y) (leavesAfter bs root l y w) (subst Ascending cut walked) (some .0) (some .1) (f .0) inside (λ (o : ℕ) (i : List·Memᴰ o (leaves bs l y)). level-order (f .0) o (f .1) i) in
         member-flatMap (λ o. blockRecords bs o) (leavesBefore bs root l y w) (f .0) r place (f .2)

@@ -1,4 +1,4 @@
--- `zs::zs_check` meets its contract: that of `check`, and what the theorems say of its answer. Assumes nothing.
+-- `zs_check` meets its contract: that of `check`, and what the theorems say of its answer. Assumes nothing.
 use denote.Ref.{now}
 use lib.ListN.{length}
 use borrow.Author.Needs.{needs}

@@ -1,4 +1,4 @@
--- `zs::zs_read` meets its contract: that of `read`, and what the theorems say of its answer and list. Assumes nothing.
+-- `zs_read` meets its contract: that of `read`, and what the theorems say of its answer and list. Assumes nothing.
 use denote.Ref.{now}
 use lib.ListN.{length}
 use borrow.Author.Needs.{needs}

@@ -1,4 +1,4 @@
--- `zs::zs_search` meets its contract: that of `search`, and what the theorems say of its answer and lists. File, start and prefix are slices
+-- `zs_search` meets its contract: that of `search`, and what the theorems say of its answer and lists. File, start and prefix are slices
 -- of u8, so they are bytes. Assumes nothing.
 use native.Mathlib.Omega.{arith}
 use denote.Ref.{now}
