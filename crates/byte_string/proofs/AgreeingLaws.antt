@@ -72,7 +72,8 @@ agreeing-take [] y = rw (agreeing-nil-left y)
 agreeing-take (a ∷ x) [] = rw (agreeing-nil-right (a ∷ x))
 agreeing-take (a ∷ x) (b ∷ y) = go (agreeing-take x y) (same-or-not a b)
   where
-    go : take (agreeing x y) x ≡ take (agreeing x y) y → (a ≡ b) ⊎ (a ≡ b → ⊥) → take (agreeing (a ∷ x) (b ∷ y)) (a ∷ x) ≡ take (agreeing (a ∷ x) (b ∷ y)) (b ∷ y)
+    go : take (agreeing x y) x ≡ take (agreeing x y) y → (a ≡ b) ⊎ (a ≡ b → ⊥)
+        → take (agreeing (a ∷ x) (b ∷ y)) (a ∷ x) ≡ take (agreeing (a ∷ x) (b ∷ y)) (b ∷ y)
     go ih (inl e) = rw (agreeing-same a b x y e) (cc)
     go ih (inr n) = rw (agreeing-differ a b x y n)
 

@@ -75,7 +75,9 @@ module _ {A : Type 0} (step : ℕ → Outcome (Step A)) (end : ℕ) where
   items⇒sound zero at xs e = answer-injective [] xs e
   items⇒sound (suc fuel) at xs e = go xs (items⁻¹ fuel at xs e) (λ (s : Step A) (more : List A). items⇒sound fuel (s .next) more)
     where
-      go : (ys : List A) → Read fuel at ys → ((s : Step A) (more : List A) → itemsFrom step end fuel (s .next) ≡ answer more → soundFrom step end fuel (s .next) ≡ more) → soundFrom step end (suc fuel) at ≡ ys
+      go : (ys : List A) → Read fuel at ys
+          → ((s : Step A) (more : List A) → itemsFrom step end fuel (s .next) ≡ answer more → soundFrom step end fuel (s .next) ≡ more)
+          → soundFrom step end (suc fuel) at ≡ ys
       go ys (at-end h) rest = sound-end (suc fuel) at h
       go ys (one-more s more h p q) rest = sound-step fuel at s h p ∙ ap (λ (l : List A). s .item ∷ l) (rest s more q)
 
@@ -95,14 +97,17 @@ module _ {A : Type 0} (step : ℕ → Outcome (Step A)) (end : ℕ) where
       same (answer xs) = refl
       same (refused number place) = refl
 
-  joined : (seen : List A) (x : A) (more : List A) → _≡_ {A = Outcome (List A)} (answer (x ∷ more) >>= λ rest. answer (seen ++ rest)) (answer (seen ++ (x ∷ []) ++ more))
+  joined : (seen : List A) (x : A) (more : List A)
+      → _≡_ {A = Outcome (List A)} (answer (x ∷ more) >>= λ rest. answer (seen ++ rest)) (answer (seen ++ (x ∷ []) ++ more))
   unfolding _>>=_
   joined seen x more = ap answer (sym (append-snoc seen x more))
 
-  pub progress-more : (from at : ℕ) (seen : List A) (s : Step A) → Progress from at seen → at < end → step at ≡ answer s → at < s .next → Progress from (s .next) (seen ++ (s .item ∷ []))
+  pub progress-more : (from at : ℕ) (seen : List A) (s : Step A) → Progress from at seen → at < end → step at ≡ answer s → at < s .next
+      → Progress from (s .next) (seen ++ (s .item ∷ []))
   progress-more from at seen s p h e forward = more (p .fuel) (p .enough) (p .leads)
     where
-      more : (fuel : ℕ) → end - at ≤ fuel → itemsFrom step end (end - from) from ≡ (itemsFrom step end fuel at >>= λ more. answer (seen ++ more)) → Progress from (s .next) (seen ++ (s .item ∷ []))
+      more : (fuel : ℕ) → end - at ≤ fuel → itemsFrom step end (end - from) from ≡ (itemsFrom step end fuel at >>= λ more. answer (seen ++ more))
+          → Progress from (s .next) (seen ++ (s .item ∷ []))
       more zero enough leads = absurd (omega arith)
       more (suc fuel) enough leads =
           record {
@@ -117,13 +122,18 @@ module _ {A : Type 0} (step : ℕ → Outcome (Step A)) (end : ℕ) where
 
   pub progress-end : (from at : ℕ) (seen : List A) → Progress from at seen → end ≤ at → itemsFrom step end (end - from) from ≡ answer seen
   unfolding _>>=_
-  progress-end from at seen p h = p .leads ∙ ap (λ (o : Outcome (List A)). o >>= λ more. answer (seen ++ more)) (items-end (p .fuel) at h) ∙ ap answer (append-nil seen)
+  progress-end from at seen p h =
+      p .leads
+      ∙ ap (λ (o : Outcome (List A)). o >>= λ more. answer (seen ++ more)) (items-end (p .fuel) at h)
+      ∙ ap answer (append-nil seen)
 
-  pub progress-refused : (from at number place : ℕ) (seen : List A) → Progress from at seen → at < end → step at ≡ refused number place → itemsFrom step end (end - from) from ≡ refused number place
+  pub progress-refused : (from at number place : ℕ) (seen : List A) → Progress from at seen → at < end → step at ≡ refused number place
+      → itemsFrom step end (end - from) from ≡ refused number place
   unfolding _>>=_
   progress-refused from at number place seen p h e = go (p .fuel) (p .enough) (p .leads)
     where
-      go : (fuel : ℕ) → end - at ≤ fuel → itemsFrom step end (end - from) from ≡ (itemsFrom step end fuel at >>= λ more. answer (seen ++ more)) → itemsFrom step end (end - from) from ≡ refused number place
+      go : (fuel : ℕ) → end - at ≤ fuel → itemsFrom step end (end - from) from ≡ (itemsFrom step end fuel at >>= λ more. answer (seen ++ more))
+          → itemsFrom step end (end - from) from ≡ refused number place
       go zero enough leads = absurd (omega arith)
       go (suc fuel) enough leads = leads ∙ ap (λ (o : Outcome (List A)). o >>= λ more. answer (seen ++ more)) (items-refused fuel at number place h e)
 
@@ -133,7 +143,8 @@ module _ {A : Type 0} (step : ℕ → Outcome (Step A)) (end : ℕ) where
   items-length zero at xs e = subst (λ (l : List A). length l ≤ 0) (answer-injective [] xs e) (omega arith)
   items-length (suc fuel) at xs e = go xs (items⁻¹ fuel at xs e) (λ (s : Step A) (more : List A). items-length fuel (s .next) more)
     where
-      go : (ys : List A) → Read fuel at ys → ((s : Step A) (more : List A) → itemsFrom step end fuel (s .next) ≡ answer more → length more ≤ fuel) → length ys ≤ suc fuel
+      go : (ys : List A) → Read fuel at ys → ((s : Step A) (more : List A) → itemsFrom step end fuel (s .next) ≡ answer more → length more ≤ fuel)
+          → length ys ≤ suc fuel
       go ys (at-end h) rest = omega arith
       go ys (one-more s more h p q) rest = let few = rest s more q in omega arith
 
@@ -165,7 +176,8 @@ module _ {A : Type 0} (step : ℕ → Outcome (Step A)) (end : ℕ) where
     items⇒row zero at xs enough e = subst (Row at) (answer-injective [] xs e) (row-end (omega arith))
     items⇒row (suc fuel) at xs enough e = go xs (items⁻¹ fuel at xs e) (λ (s : Step A) (more : List A). items⇒row fuel (s .next) more)
       where
-        go : (ys : List A) → Read fuel at ys → ((s : Step A) (more : List A) → end - s .next ≤ fuel → itemsFrom step end fuel (s .next) ≡ answer more → Row (s .next) more) → Row at ys
+        go : (ys : List A) → Read fuel at ys
+            → ((s : Step A) (more : List A) → end - s .next ≤ fuel → itemsFrom step end fuel (s .next) ≡ answer more → Row (s .next) more) → Row at ys
         go ys (at-end h) rest = row-end h
         go ys (one-more s more h p q) rest = let f = forward at s p in row-more s more h p (rest s more (omega arith) q)
 
@@ -223,7 +235,9 @@ module _ {A : Type 0} (step other : ℕ → Outcome (Step A)) (end from : ℕ) (
       go : ((a : ℕ) → from ≤ a → itemsFrom step end fuel a ≡ itemsFrom other end fuel a) → itemsFrom step end (suc fuel) at ≡ itemsFrom other end (suc fuel) at
       go rest =
           ap (cond (leb end at) (answer []))
-          (bind-same (step at) (other at) _ _ (same at h) (λ s e. let f = forward at s e in ap (λ (o : Outcome (List A)). o >>= λ more. answer (s .item ∷ more)) (rest (s .next) (omega arith))))
+          (bind-same (step at) (other at) _ _ (same at h)
+          (λ s e. let f = forward at s e in
+          ap (λ (o : Outcome (List A)). o >>= λ more. answer (s .item ∷ more)) (rest (s .next) (omega arith))))
 
   listed-same : (o p : Outcome (Step A)) (f g : Step A → List A) → o ≡ p → ((s : Step A) → o ≡ answer s → f s ≡ g s) → whereAnswered o f ≡ whereAnswered p g
   unfolding whereAnswered

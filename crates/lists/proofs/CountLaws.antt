@@ -27,7 +27,8 @@ keep-none {A} test (x ∷ xs) h = rw (h x (List·Memᴰ·head refl)) (keep-none 
 pub keep-all : {A : Type 0} (test : A → Bool) (xs : List A) → ((x : A) → List·Memᴰ x xs → test x ≡ true) → keep test xs ≡ xs
 unfolding keep
 keep-all test [] h = refl
-keep-all {A} test (x ∷ xs) h = rw (h x (List·Memᴰ·head refl)) (ap (λ (l : List A). x ∷ l) (keep-all test xs (λ (y : A) (m : List·Memᴰ y xs). h y (List·Memᴰ·tail m))))
+keep-all {A} test (x ∷ xs) h =
+    rw (h x (List·Memᴰ·head refl)) (ap (λ (l : List A). x ∷ l) (keep-all test xs (λ (y : A) (m : List·Memᴰ y xs). h y (List·Memᴰ·tail m))))
 
 -- ---- counts
 
@@ -37,12 +38,14 @@ count-append test xs ys = ap length (keep-append test xs ys) ∙ length-append (
 pub count-member : {A : Type 0} (test : A → Bool) (xs : List A) (x : A) → List·Memᴰ x xs → test x ≡ true → 1 ≤ length (keep test xs)
 count-member test xs x m p = member-some (keep test xs) x (member-keep test xs x m p)
 
-pub count-within : {A B : Type 0} (test : B → Bool) (f : A → List B) (xs : List A) (x : A) → List·Memᴰ x xs → length (keep test (f x)) ≤ length (keep test (flatMap f xs))
+pub count-within : {A B : Type 0} (test : B → Bool) (f : A → List B) (xs : List A) (x : A) → List·Memᴰ x xs
+    → length (keep test (f x)) ≤ length (keep test (flatMap f xs))
 unfolding flatMap
 count-within test f [] x m = absurd (List·Memᴰ·not-nil m)
 count-within {A} {B} test f (y ∷ xs) x m = go (List·Memᴰ·cases-cons m) (λ (i : List·Memᴰ x xs). count-within test f xs x i)
   where
-    go : (x ≡ y) ⊎ List·Memᴰ x xs → (List·Memᴰ x xs → length (keep test (f x)) ≤ length (keep test (flatMap f xs))) → length (keep test (f x)) ≤ length (keep test (f y ++ flatMap f xs))
+    go : (x ≡ y) ⊎ List·Memᴰ x xs → (List·Memᴰ x xs → length (keep test (f x)) ≤ length (keep test (flatMap f xs)))
+        → length (keep test (f x)) ≤ length (keep test (f y ++ flatMap f xs))
     go (inl same) rest = let sum = count-append test (f y) (flatMap f xs) in let moved = ap (λ (z : A). length (keep test (f z))) same in omega arith
     go (inr inside) rest = let sum = count-append test (f y) (flatMap f xs) in let less = rest inside in omega arith
 
@@ -50,10 +53,13 @@ count-within {A} {B} test f (y ∷ xs) x m = go (List·Memᴰ·cases-cons m) (λ
 
 module _ {A B : Type 0} (f : A → List B) (test : B → Bool) where
   -- two that pass have the same holder
-  pub one-holder : (xs : List A) → length (keep test (flatMap f xs)) ≤ 1 → (x y : A) → List·Memᴰ x xs → List·Memᴰ y xs → (u v : B) → List·Memᴰ u (f x) → List·Memᴰ v (f y) → test u ≡ true → test v ≡ true → x ≡ y
+  pub one-holder : (xs : List A) → length (keep test (flatMap f xs)) ≤ 1 → (x y : A) → List·Memᴰ x xs → List·Memᴰ y xs → (u v : B)
+      → List·Memᴰ u (f x) → List·Memᴰ v (f y) → test u ≡ true → test v ≡ true → x ≡ y
   unfolding flatMap
   one-holder [] few x y m n u v i j p q = absurd (List·Memᴰ·not-nil m)
-  one-holder (z ∷ xs) few x y m n u v i j p q = go (List·Memᴰ·cases-cons m) (List·Memᴰ·cases-cons n) (λ (few′ : length (keep test (flatMap f xs)) ≤ 1) (k : List·Memᴰ x xs) (l : List·Memᴰ y xs). one-holder xs few′ x y k l u v i j p q)
+  one-holder (z ∷ xs) few x y m n u v i j p q =
+      go (List·Memᴰ·cases-cons m) (List·Memᴰ·cases-cons n)
+      (λ (few′ : length (keep test (flatMap f xs)) ≤ 1) (k : List·Memᴰ x xs) (l : List·Memᴰ y xs). one-holder xs few′ x y k l u v i j p q)
     where
       sum : length (keep test (f z ++ flatMap f xs)) ≡ length (keep test (f z)) + length (keep test (flatMap f xs))
       sum = count-append test (f z) (flatMap f xs)
@@ -91,11 +97,13 @@ module _ {A : Type 0} (test : A → Bool) where
       omega arith
 
   -- it has one place in the list
-  pub one-place : (front : List A) (x : A) (back : List A) (front′ : List A) (x′ : A) (back′ : List A) → front ++ (x ∷ back) ≡ front′ ++ (x′ ∷ back′) → length (keep test (front ++ (x ∷ back))) ≤ 1
+  pub one-place : (front : List A) (x : A) (back : List A) (front′ : List A) (x′ : A) (back′ : List A) → front ++ (x ∷ back) ≡ front′ ++ (x′ ∷ back′)
+      → length (keep test (front ++ (x ∷ back))) ≤ 1
       → test x ≡ true → test x′ ≡ true → (front ≡ front′) × (x ≡ x′) × (back ≡ back′)
   one-place [] x back [] x′ back′ same few p q = (refl, same-head x x′ back back′ same, same-tail x x′ back back′ same)
   one-place [] x back (z ∷ front′) x′ back′ same few p q = absurd (two x back front′ x′ back′ (same-tail x z back (front′ ++ (x′ ∷ back′)) same) few p q)
-  one-place (z ∷ front) x back [] x′ back′ same few p q = absurd (two z (front ++ (x ∷ back)) front x back refl few (ap test (same-head z x′ (front ++ (x ∷ back)) back′ same) ∙ q) p)
+  one-place (z ∷ front) x back [] x′ back′ same few p q =
+      absurd (two z (front ++ (x ∷ back)) front x back refl few (ap test (same-head z x′ (front ++ (x ∷ back)) back′ same) ∙ q) p)
   one-place (z ∷ front) x back (z′ ∷ front′) x′ back′ same few p q =
       let sum = count-cons z (front ++ (x ∷ back)) in
       let rest = one-place front x back front′ x′ back′ (same-tail z z′ (front ++ (x ∷ back)) (front′ ++ (x′ ∷ back′)) same) (omega arith) p q in

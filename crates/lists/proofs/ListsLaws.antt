@@ -3,7 +3,8 @@
 use mathlib.Core.Path.{_≡_, refl, sym, ap, _∙_, subst}
 use mathlib.Core.Bool.{Bool, true, false, _&&_, _||_, cond, and-eq-true-iff, or-assoc, or-true}
 use mathlib.Core.Logic.{_⊎_, inl, inr}
-use mathlib.Core.List.{List, [], _∷_, _++_, flatMap, map, append-assoc, List·Memᴰ, List·Memᴰ·head, List·Memᴰ·tail, List·Memᴰ·not-nil, List·Memᴰ·cases-cons, List·Memᴰ·append-cases, Memᴰ·append-left, Memᴰ·append-right, Memᴰ·map}
+use mathlib.Core.List.{List, [], _∷_, _++_, flatMap, map, append-assoc, List·Memᴰ, List·Memᴰ·head, List·Memᴰ·tail, List·Memᴰ·not-nil}
+use mathlib.Core.List.{List·Memᴰ·cases-cons, List·Memᴰ·append-cases, Memᴰ·append-left, Memᴰ·append-right, Memᴰ·map}
 use Prim.Native.Nat.{ℕ, zero, suc, _+_, _≤_, _<_}
 use native.Mathlib.Omega.{arith}
 use lib.ListN.{length, getD, replicate}
@@ -34,7 +35,8 @@ unfolding flatMap
 flatMap-member f [] y m = absurd (List·Memᴰ·not-nil m)
 flatMap-member {A} f (x ∷ xs) y m = go (List·Memᴰ·append-cases (f x) m) (λ (i : List·Memᴰ y (flatMap f xs)). flatMap-member f xs y i)
   where
-    go : List·Memᴰ y (f x) ⊎ List·Memᴰ y (flatMap f xs) → (List·Memᴰ y (flatMap f xs) → (z : A) × List·Memᴰ z xs × List·Memᴰ y (f z)) → (z : A) × List·Memᴰ z (x ∷ xs) × List·Memᴰ y (f z)
+    go : List·Memᴰ y (f x) ⊎ List·Memᴰ y (flatMap f xs) → (List·Memᴰ y (flatMap f xs) → (z : A) × List·Memᴰ z xs × List·Memᴰ y (f z))
+        → (z : A) × List·Memᴰ z (x ∷ xs) × List·Memᴰ y (f z)
     go (inl here) rest = (x, List·Memᴰ·head refl, here)
     go (inr there) rest = let r = rest there in (r .0, List·Memᴰ·tail (r .1), r .2)
 
@@ -134,7 +136,8 @@ module _ {A : Type 0} (number : A → ℕ) where
   pub ascending-unique : (xs : List A) → Ascending (map number xs) → (x y : A) → List·Memᴰ x xs → List·Memᴰ y xs → number x ≡ number y → x ≡ y
   unfolding Ascending
   ascending-unique [] h x y m n e = absurd (List·Memᴰ·not-nil m)
-  ascending-unique (z ∷ xs) h x y m n e = go (List·Memᴰ·cases-cons m) (List·Memᴰ·cases-cons n) (λ (i : List·Memᴰ x xs) (j : List·Memᴰ y xs). ascending-unique xs (h .1) x y i j e)
+  ascending-unique (z ∷ xs) h x y m n e =
+      go (List·Memᴰ·cases-cons m) (List·Memᴰ·cases-cons n) (λ (i : List·Memᴰ x xs) (j : List·Memᴰ y xs). ascending-unique xs (h .1) x y i j e)
     where
       first : (v w : A) → v ≡ z → List·Memᴰ w xs → number v ≡ number w → ⊥
       first v w same inside equal = let later = below-member (number z) xs (h .0) w inside in let moved = ap number same in omega arith
@@ -185,7 +188,8 @@ module _ {A : Type 0} (test : A → Bool) where
   any-member [] h = absurd (false-not-true h)
   any-member (x ∷ xs) h = go (test x) refl h (λ (k : any test xs ≡ true). any-member xs k)
     where
-      go : (b : Bool) → test x ≡ b → (b || any test xs) ≡ true → (any test xs ≡ true → (y : A) × List·Memᴰ y xs × (test y ≡ true)) → (y : A) × List·Memᴰ y (x ∷ xs) × (test y ≡ true)
+      go : (b : Bool) → test x ≡ b → (b || any test xs) ≡ true → (any test xs ≡ true → (y : A) × List·Memᴰ y xs × (test y ≡ true))
+          → (y : A) × List·Memᴰ y (x ∷ xs) × (test y ≡ true)
       go true e k rest = (x, List·Memᴰ·head refl, e)
       go false e k rest = let r = rest k in (r .0, List·Memᴰ·tail (r .1), r .2)
 
@@ -204,11 +208,13 @@ module _ {A : Type 0} (test : A → Bool) where
       later : List·Memᴰ x ys × (test x ≡ true) → List·Memᴰ x (y ∷ ys) × (test x ≡ true)
       later r = (List·Memᴰ·tail (r .0), r .1)
 
-      first : test y ≡ true → List·Memᴰ x (y ∷ keep test ys) → (List·Memᴰ x (keep test ys) → List·Memᴰ x ys × (test x ≡ true)) → List·Memᴰ x (y ∷ ys) × (test x ≡ true)
+      first : test y ≡ true → List·Memᴰ x (y ∷ keep test ys) → (List·Memᴰ x (keep test ys) → List·Memᴰ x ys × (test x ≡ true))
+          → List·Memᴰ x (y ∷ ys) × (test x ≡ true)
       first e (List·Memᴰ·head same) rest = (List·Memᴰ·head same, ap test same ∙ e)
       first e (List·Memᴰ·tail i) rest = later (rest i)
 
-      go : (b : Bool) → test y ≡ b → List·Memᴰ x (cond b (y ∷ keep test ys) (keep test ys)) → (List·Memᴰ x (keep test ys) → List·Memᴰ x ys × (test x ≡ true)) → List·Memᴰ x (y ∷ ys) × (test x ≡ true)
+      go : (b : Bool) → test y ≡ b → List·Memᴰ x (cond b (y ∷ keep test ys) (keep test ys))
+          → (List·Memᴰ x (keep test ys) → List·Memᴰ x ys × (test x ≡ true)) → List·Memᴰ x (y ∷ ys) × (test x ≡ true)
       go true e i rest = first e i rest
       go false e i rest = later (rest i)
 

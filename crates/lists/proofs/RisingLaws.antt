@@ -3,7 +3,8 @@
 use mathlib.Core.Path.{_≡_, refl, sym, ap, _∙_, subst}
 use mathlib.Core.Bool.{Bool, true, false, cond}
 use mathlib.Core.Logic.{_⊎_, inl, inr}
-use mathlib.Core.List.{List, [], _∷_, _++_, flatMap, map, append-nil, List·Memᴰ, List·Memᴰ·head, List·Memᴰ·tail, List·Memᴰ·not-nil, List·Memᴰ·cases-cons, List·Memᴰ·append-cases, Memᴰ·append-left, Memᴰ·append-right, Memᴰ·cast, Memᴰ·of-map}
+use mathlib.Core.List.{List, [], _∷_, _++_, flatMap, map, append-nil, List·Memᴰ, List·Memᴰ·head, List·Memᴰ·tail, List·Memᴰ·not-nil}
+use mathlib.Core.List.{List·Memᴰ·cases-cons, List·Memᴰ·append-cases, Memᴰ·append-left, Memᴰ·append-right, Memᴰ·cast, Memᴰ·of-map}
 use Prim.Native.Nat.{ℕ, _≤_, _<_}
 use native.Mathlib.Omega.{arith}
 use lib.Dec.{eqb}
@@ -18,18 +19,18 @@ pub use Rattle.lists.proofs.ListsLaws.{below-each}
 
 module _ {A : Type 0} where
   -- a member splits the list
-  pub member-split : (xs : List A) (x : A) → List·Memᴰ x xs → (before : List A) × (behind : List A) × (xs ≡ before ++ (x ∷ behind))
+  pub member-split : (xs : List A) (x : A) → List·Memᴰ x xs → (before : List A) × (after : List A) × (xs ≡ before ++ (x ∷ after))
   member-split [] x m = absurd (List·Memᴰ·not-nil m)
   member-split (y ∷ xs) x m = go (List·Memᴰ·cases-cons m) (λ (i : List·Memᴰ x xs). member-split xs x i)
     where
-      go : (x ≡ y) ⊎ List·Memᴰ x xs → (List·Memᴰ x xs → (before : List A) × (behind : List A) × (xs ≡ before ++ (x ∷ behind)))
-          → (before : List A) × (behind : List A) × (y ∷ xs ≡ before ++ (x ∷ behind))
+      go : (x ≡ y) ⊎ List·Memᴰ x xs → (List·Memᴰ x xs → (before : List A) × (after : List A) × (xs ≡ before ++ (x ∷ after)))
+          → (before : List A) × (after : List A) × (y ∷ xs ≡ before ++ (x ∷ after))
       go (inl same) rest = ([], xs, ap (λ (z : A). z ∷ xs) (sym same))
       go (inr inside) rest = let r = rest inside in (y ∷ r .0, r .1, ap (λ (l : List A). y ∷ l) (r .2))
 
   -- and what splits a list is a member
-  pub split-member : (xs before : List A) (x : A) (behind : List A) → xs ≡ before ++ (x ∷ behind) → List·Memᴰ x xs
-  split-member xs before x behind e = subst (List·Memᴰ x) (sym e) (Memᴰ·append-right before (List·Memᴰ·head refl))
+  pub split-member : (xs before : List A) (x : A) (after : List A) → xs ≡ before ++ (x ∷ after) → List·Memᴰ x xs
+  split-member xs before x after e = subst (List·Memᴰ x) (sym e) (Memᴰ·append-right before (List·Memᴰ·head refl))
 
   -- a list that is not empty has a member
   pub some-member : (xs : List A) → 0 < length xs → (x : A) × List·Memᴰ x xs
@@ -61,7 +62,8 @@ flatMap-flatMap f g [] = refl
 flatMap-flatMap {A} {B} {C} f g (x ∷ xs) = flatMap-append f (g x) (flatMap g xs) ∙ ap (λ (l : List C). flatMap f (g x) ++ l) (flatMap-flatMap f g xs)
 
 -- elements that add nothing may be left out
-pub flatMap-keep : {A B : Type 0} (f : A → List B) (test : A → Bool) (xs : List A) → ((x : A) → List·Memᴰ x xs → test x ≡ false → f x ≡ []) → flatMap f (keep test xs) ≡ flatMap f xs
+pub flatMap-keep : {A B : Type 0} (f : A → List B) (test : A → Bool) (xs : List A) → ((x : A) → List·Memᴰ x xs → test x ≡ false → f x ≡ [])
+    → flatMap f (keep test xs) ≡ flatMap f xs
 unfolding flatMap keep
 flatMap-keep f test [] h = refl
 flatMap-keep {A} {B} f test (x ∷ xs) h = go (test x) refl (flatMap-keep f test xs (λ (y : A) (m : List·Memᴰ y xs). h y (List·Memᴰ·tail m)))
@@ -71,9 +73,10 @@ flatMap-keep {A} {B} f test (x ∷ xs) h = go (test x) refl (flatMap-keep f test
     go false p ih = ih ∙ ap (λ (l : List B). l ++ flatMap f xs) (sym (h x (List·Memᴰ·head refl) p))
 
 -- around one element
-pub flatMap-split : {A B : Type 0} (f : A → List B) (xs before : List A) (x : A) (behind : List A) → xs ≡ before ++ (x ∷ behind) → flatMap f xs ≡ flatMap f before ++ (f x ++ flatMap f behind)
+pub flatMap-split : {A B : Type 0} (f : A → List B) (xs before : List A) (x : A) (after : List A) → xs ≡ before ++ (x ∷ after)
+    → flatMap f xs ≡ flatMap f before ++ (f x ++ flatMap f after)
 unfolding flatMap
-flatMap-split f xs before x behind e = ap (flatMap f) e ∙ flatMap-append f before (x ∷ behind)
+flatMap-split f xs before x after e = ap (flatMap f) e ∙ flatMap-append f before (x ∷ after)
 
 -- ---- numbers that ascend
 
@@ -95,7 +98,8 @@ ascending-least x xs h y m = go (List·Memᴰ·cases-cons m)
 pub ascending-left : (xs ys : List ℕ) → Ascending (xs ++ ys) → Ascending xs
 unfolding Ascending
 ascending-left [] ys h = tt
-ascending-left (x ∷ xs) ys h = (member-below x xs (λ (z : ℕ) (m : List·Memᴰ z xs). below-each x (xs ++ ys) (h .0) z (Memᴰ·append-left ys m)), ascending-left xs ys (h .1))
+ascending-left (x ∷ xs) ys h =
+    (member-below x xs (λ (z : ℕ) (m : List·Memᴰ z xs). below-each x (xs ++ ys) (h .0) z (Memᴰ·append-left ys m)), ascending-left xs ys (h .1))
 
 pub ascending-right : (xs ys : List ℕ) → Ascending (xs ++ ys) → Ascending ys
 unfolding Ascending
@@ -113,12 +117,14 @@ ascending-apart (z ∷ xs) ys h x y m n = go (List·Memᴰ·cases-cons m) (λ (i
     go (inr inside) rest = rest inside
 
 -- ascending lists with the same members are equal
-pub ascending-same : (xs ys : List ℕ) → Ascending xs → Ascending ys → ((x : ℕ) → List·Memᴰ x xs → List·Memᴰ x ys) → ((y : ℕ) → List·Memᴰ y ys → List·Memᴰ y xs) → xs ≡ ys
+pub ascending-same : (xs ys : List ℕ) → Ascending xs → Ascending ys → ((x : ℕ) → List·Memᴰ x xs → List·Memᴰ x ys)
+    → ((y : ℕ) → List·Memᴰ y ys → List·Memᴰ y xs) → xs ≡ ys
 unfolding Ascending
 ascending-same [] [] h k to from = refl
 ascending-same [] (y ∷ ys) h k to from = absurd (List·Memᴰ·not-nil (from y (List·Memᴰ·head refl)))
 ascending-same (x ∷ xs) [] h k to from = absurd (List·Memᴰ·not-nil (to x (List·Memᴰ·head refl)))
-ascending-same (x ∷ xs) (y ∷ ys) h k to from = joined (ascending-same xs ys (h .1) (k .1) (inner x y xs ys (h .0) same to) (inner y x ys xs (k .0) (sym same) from))
+ascending-same (x ∷ xs) (y ∷ ys) h k to from =
+    joined (ascending-same xs ys (h .1) (k .1) (inner x y xs ys (h .0) same to) (inner y x ys xs (k .0) (sym same) from))
   where
     first : (x ≡ y) ⊎ List·Memᴰ x ys → (y ≡ x) ⊎ List·Memᴰ y xs → x ≡ y
     first (inl p) q = p
@@ -132,7 +138,8 @@ ascending-same (x ∷ xs) (y ∷ ys) h k to from = joined (ascending-same xs ys 
     past v w z vs ws below e m (inl p) = let a = below-each v vs below z m in absurd (omega arith)
     past v w z vs ws below e m (inr p) = p
 
-    inner : (v w : ℕ) (vs ws : List ℕ) → Below v vs → v ≡ w → ((z : ℕ) → List·Memᴰ z (v ∷ vs) → List·Memᴰ z (w ∷ ws)) → (z : ℕ) → List·Memᴰ z vs → List·Memᴰ z ws
+    inner : (v w : ℕ) (vs ws : List ℕ) → Below v vs → v ≡ w → ((z : ℕ) → List·Memᴰ z (v ∷ vs) → List·Memᴰ z (w ∷ ws)) → (z : ℕ) → List·Memᴰ z vs
+        → List·Memᴰ z ws
     inner v w vs ws below e all z m = past v w z vs ws below e m (List·Memᴰ·cases-cons (all z (List·Memᴰ·tail m)))
 
     joined : xs ≡ ys → x ∷ xs ≡ y ∷ ys
@@ -145,7 +152,11 @@ module _ {A : Type 0} (number : A → ℕ) where
   ascending-keep test (x ∷ xs) h = go (test x) (ascending-keep test xs (h .1))
     where
       inside : (y : ℕ) → List·Memᴰ y (map number (keep test xs)) → number x < y
-      inside y m = let p = Memᴰ·of-map number (keep test xs) m in let q = p .2 in let b = below-member number (number x) xs (h .0) (p .0) (keep-member test xs (p .0) (p .1) .0) in omega arith
+      inside y m =
+          let p = Memᴰ·of-map number (keep test xs) m in
+          let q = p .2 in
+          let b = below-member number (number x) xs (h .0) (p .0) (keep-member test xs (p .0) (p .1) .0) in
+          omega arith
 
       go : (b : Bool) → Ascending (map number (keep test xs)) → Ascending (map number (cond b (x ∷ keep test xs) (keep test xs)))
       go true rest = (member-below (number x) (map number (keep test xs)) inside, rest)
@@ -158,7 +169,8 @@ module _ {A : Type 0} (number : A → ℕ) where
   choose-none f n (x ∷ xs) h = let first = h .0 in rw (ne-eqb (number x) n (λ e. omega arith)) (choose-none f n xs (h .1))
 
   -- what is chosen by a member's number is that member's
-  pub choose-one : {B : Type 0} (f : A → List B) (xs : List A) → Ascending (map number xs) → (x : A) → List·Memᴰ x xs → flatMap (λ y. cond (eqb (number y) (number x)) (f y) []) xs ≡ f x
+  pub choose-one : {B : Type 0} (f : A → List B) (xs : List A) → Ascending (map number xs) → (x : A) → List·Memᴰ x xs
+      → flatMap (λ y. cond (eqb (number y) (number x)) (f y) []) xs ≡ f x
   unfolding flatMap Ascending
   choose-one f [] h x m = absurd (List·Memᴰ·not-nil m)
   choose-one {B} f (z ∷ xs) h x m = go (List·Memᴰ·cases-cons m) (λ (i : List·Memᴰ x xs). choose-one f xs (h .1) x i)
@@ -181,7 +193,9 @@ Distinct (x ∷ xs) = (List·Memᴰ x xs → ⊥) × Distinct xs
 pub distinct-append : (xs ys : List ℕ) → Distinct xs → Distinct ys → ((x : ℕ) → List·Memᴰ x xs → List·Memᴰ x ys → ⊥) → Distinct (xs ++ ys)
 unfolding Distinct
 distinct-append [] ys h k apart = k
-distinct-append (x ∷ xs) ys h k apart = (λ (m : List·Memᴰ x (xs ++ ys)). once (List·Memᴰ·append-cases xs m), distinct-append xs ys (h .1) k (λ (z : ℕ) (m : List·Memᴰ z xs). apart z (List·Memᴰ·tail m)))
+distinct-append (x ∷ xs) ys h k apart =
+    let rest = distinct-append xs ys (h .1) k (λ (z : ℕ) (m : List·Memᴰ z xs). apart z (List·Memᴰ·tail m)) in
+    (λ (m : List·Memᴰ x (xs ++ ys)). once (List·Memᴰ·append-cases xs m), rest)
   where
     once : List·Memᴰ x xs ⊎ List·Memᴰ x ys → ⊥
     once (inl m) = h .0 m
@@ -203,6 +217,7 @@ unfolding keep Distinct
 distinct-count [] h n m = absurd (List·Memᴰ·not-nil m)
 distinct-count (x ∷ xs) h n m = go (List·Memᴰ·cases-cons m) (λ (i : List·Memᴰ n xs). distinct-count xs (h .1) n i)
   where
-    go : (n ≡ x) ⊎ List·Memᴰ n xs → (List·Memᴰ n xs → length (keep (λ y. eqb y n) xs) ≡ 1) → length (cond (eqb x n) (x ∷ keep (λ y. eqb y n) xs) (keep (λ y. eqb y n) xs)) ≡ 1
+    go : (n ≡ x) ⊎ List·Memᴰ n xs → (List·Memᴰ n xs → length (keep (λ y. eqb y n) xs) ≡ 1)
+        → length (cond (eqb x n) (x ∷ keep (λ y. eqb y n) xs) (keep (λ y. eqb y n) xs)) ≡ 1
     go (inl same) rest = rw (eq-eqb x n (sym same)) (let none = absent-count xs n (λ (i : List·Memᴰ n xs). h .0 (Memᴰ·cast (sym same) i)) in omega arith)
     go (inr inside) rest = rw (ne-eqb x n (λ e. h .0 (Memᴰ·cast e inside))) (rest inside)

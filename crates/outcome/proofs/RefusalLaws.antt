@@ -41,5 +41,6 @@ module _ (Kind : ℕ → Type 0) where
   refuses-bind (answer a) next r s = s a
   refuses-bind (refused number place) next r s = refuses-refused number place (r .among number place refl)
 
-  pub refuses-rule : {A : Type 0} (b : Bool) (number place : ℕ) (next : Outcome A) → Kind number → Refuses Kind next → Refuses Kind (must b number place >> next)
+  pub refuses-rule : {A : Type 0} (b : Bool) (number place : ℕ) (next : Outcome A) → Kind number → Refuses Kind next
+      → Refuses Kind (must b number place >> next)
   refuses-rule b number place next k r = refuses-stage (must b number place) next (refuses-must b number place k) r

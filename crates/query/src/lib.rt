@@ -60,7 +60,8 @@ pub fn may_match(
     stop: &[u8],
     prefix: &[u8],
 ) -> bool
-    ensures { λ r. ⌜ r ≡ mayMatch (now (lower .entry)) (given «upper_given» (now (upper .entry))) (queryOf (now (start .entry)) «stop_given» (now (stop .entry)) (now (prefix .entry))) ⌝ }
+    ensures { λ r. ⌜ r ≡ mayMatch (now (lower .entry)) (given «upper_given» (now (upper .entry)))
+        (queryOf (now (start .entry)) «stop_given» (now (stop .entry)) (now (prefix .entry))) ⌝ }
 {
     if !reaches(lower, upper_given, upper, stop_given, stop) {
         return false;

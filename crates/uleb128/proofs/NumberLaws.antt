@@ -26,7 +26,8 @@ pub continuing-high : (b : ℕ) (s : List ℕ) → 128 ≤ b → continuing (b �
 unfolding continuing
 continuing-high b s h = rw (le-leb 128 b h)
 
-pub passed-more : (s : List ℕ) (n : ℕ) → n < length s → 128 ≤ getD s n 0 → continuing s ≡ n + continuing (drop n s) → continuing s ≡ n + 1 + continuing (drop (n + 1) s)
+pub passed-more : (s : List ℕ) (n : ℕ) → n < length s → 128 ≤ getD s n 0 → continuing s ≡ n + continuing (drop n s)
+    → continuing s ≡ n + 1 + continuing (drop (n + 1) s)
 passed-more s n h high p =
     let here : continuing (drop n s) ≡ suc (continuing (drop (suc n) s)) = rw (drop-cons s n 0) (continuing-high _ _ high) in
     rw (add-one n) (omega arith)
@@ -116,7 +117,8 @@ reading⇒IsNumber s v u h = wide (leb 9 (continuing s)) refl h
     rest : Reading
     rest = number (sevens (take (n + 1) s)) (n + 1)
 
-    long : (c : Bool) → leb 9 n ≡ false → leb (length s) n ≡ false → (ltb 0 n && eqb (getD s n 0) 0) ≡ c → cond c (refused 12) rest ≡ number v u → IsNumber s v u
+    long : (c : Bool) → leb 9 n ≡ false → leb (length s) n ≡ false → (ltb 0 n && eqb (getD s n 0) 0) ≡ c → cond c (refused 12) rest ≡ number v u
+        → IsNumber s v u
     long true p q r e = absurd (let z : _≡_ {A = ℕ} 0 1 = cc in omega arith)
     long false p q r e =
         record {
@@ -127,11 +129,13 @@ reading⇒IsNumber s v u h = wide (leb 9 (continuing s)) refl h
           value = cc;
         }
 
-    cut : (c : Bool) → leb 9 n ≡ false → leb (length s) n ≡ c → cond c cutOff (cond (ltb 0 n && eqb (getD s n 0) 0) (refused 12) rest) ≡ number v u → IsNumber s v u
+    cut : (c : Bool) → leb 9 n ≡ false → leb (length s) n ≡ c → cond c cutOff (cond (ltb 0 n && eqb (getD s n 0) 0) (refused 12) rest) ≡ number v u
+        → IsNumber s v u
     cut true p q e = absurd (let z : _≡_ {A = ℕ} 0 1 = cc in omega arith)
     cut false p q e = long (ltb 0 n && eqb (getD s n 0) 0) p q refl e
 
-    wide : (c : Bool) → leb 9 n ≡ c → cond c (refused 11) (cond (leb (length s) n) cutOff (cond (ltb 0 n && eqb (getD s n 0) 0) (refused 12) rest)) ≡ number v u → IsNumber s v u
+    wide : (c : Bool) → leb 9 n ≡ c
+        → cond c (refused 11) (cond (leb (length s) n) cutOff (cond (ltb 0 n && eqb (getD s n 0) 0) (refused 12) rest)) ≡ number v u → IsNumber s v u
     wide true p e = absurd (let z : _≡_ {A = ℕ} 0 1 = cc in omega arith)
     wide false p e = cut (leb (length s) n) p refl e
 

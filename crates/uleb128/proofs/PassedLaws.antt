@@ -11,7 +11,8 @@ use native.Mathlib.Omega.{arith}
 use lib.Dec.{ltb, eqb}
 use lib.ListN.{length, take, drop, getD}
 use Rattle.uleb128.specs.Number.{number, cutOff, refused, reading, continuing, sevens}
-use Rattle.uleb128.proofs.NumberLaws.{passed-none, passed-more, passed-ends, passed-all, sevens-more, reading-wide, reading-cut, reading-long, reading-number, shortest-one, shortest-last}
+use Rattle.uleb128.proofs.NumberLaws.{passed-none, passed-more, passed-ends, passed-all, sevens-more, reading-wide, reading-cut, reading-long}
+use Rattle.uleb128.proofs.NumberLaws.{reading-number, shortest-one, shortest-last}
 
 -- a digit below 128 on top of a value below the scale
 pub digit-fits : (value scale digit : ℕ) → value < scale → digit < 128 → value + digit * scale < 128 * scale
@@ -63,7 +64,11 @@ module _ (s : List ℕ) (value scale n : ℕ) (p : Passed s value scale n) where
         few = few;
         high = passed-more s n here high (p .high);
         scaled = scaled;
-        sum = ap (λ (v : ℕ). v + (b - 128) * scale) (p .sum) ∙ ap (λ (d : ℕ). sevens (take n s) + d * scale) (sym low) ∙ ap (λ (k : ℕ). sevens (take n s) + b % 128 * k) (p .scaled) ∙ sym (sevens-more s n here);
+        sum =
+            ap (λ (v : ℕ). v + (b - 128) * scale) (p .sum)
+            ∙ ap (λ (d : ℕ). sevens (take n s) + d * scale) (sym low)
+            ∙ ap (λ (k : ℕ). sevens (take n s) + b % 128 * k) (p .scaled)
+            ∙ sym (sevens-more s n here);
         below = omega arith;
         small = omega arith;
       }
@@ -75,7 +80,10 @@ module _ (s : List ℕ) (value scale n : ℕ) (p : Passed s value scale n) where
       let shortest : (ltb 0 n && eqb b 0) ≡ false = ⊎-elim (shortest-one s n) (shortest-last s n) last in
       let same : b % 128 ≡ b = omega arith in
       let sum : sevens (take (n + 1) s) ≡ value + b * scale =
-      sevens-more s n here ∙ ap (λ (d : ℕ). sevens (take n s) + d * 128 ^ n) same ∙ ap (λ (k : ℕ). sevens (take n s) + b * k) (sym (p .scaled)) ∙ ap (λ (v : ℕ). v + b * scale) (sym (p .sum)) in
+      sevens-more s n here
+      ∙ ap (λ (d : ℕ). sevens (take n s) + d * 128 ^ n) same
+      ∙ ap (λ (k : ℕ). sevens (take n s) + b * k) (sym (p .scaled))
+      ∙ ap (λ (v : ℕ). v + b * scale) (sym (p .sum)) in
       reading-number s n (omega arith) here shortest (passed-ends s n here low (p .high)) ∙ ap (λ (v : ℕ). number v (n + 1)) sum
 
   pub passed-long : n < length s → 0 < n → getD s n 0 ≡ 0 → reading s ≡ refused 12

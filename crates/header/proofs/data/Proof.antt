@@ -33,7 +33,9 @@ room : (c : tie.Else2) → holdsMetadata (c .before .before .before .before .bef
 room c = sym (c .before .holds-metadata .ensures) ∙ not-false _ (c .if2 .left)
 
 fields-requires : tie.Need-fields-requires
-fields-requires c κs = (c .before .before .before .before .before .pre, room c)
+fields-requires c κs =
+    let pre = c .before .before .before .before .before .pre in
+    (pre, room c)
 
 returns-3 : tie.Need-returns-3
 returns-3 c =

@@ -87,7 +87,9 @@ unfolding fieldAt part
 total c = sym (c .before .le64-at .ensures) ∙ c .if2 .left
 
 -- the test of the metadata, over the part that is lent
-metadata : (c : tie.After-is-metadata) → let file = c .before .before .before .before .before .before .before .before .before .before .args .file .now in c .is-metadata .result ≡ isMetadata (part file 96 (M file))
+metadata : (c : tie.After-is-metadata)
+    → let file = c .before .before .before .before .before .before .before .before .before .before .args .file .now in
+    c .is-metadata .result ≡ isMetadata (part file 96 (M file))
 unfolding M fieldAt part
 metadata c =
     let args = c .before .before .before .before .before .before .before .before .before .before .args in
