@@ -18,7 +18,7 @@ use Rattle.block.specs.Block.{Block, blockIn}
 use Rattle.query.specs.Query.{Query}
 use Rattle.matching.specs.Matching.{matching, recordsFrom}
 use Rattle.matching.specs.ResultList.{roomFor, numbersOf, Stored, putAll}
-use Rattle.matching.proofs.ResultListLaws.{roomFor-mono, holding, stored-after, count-putAll, length-putAll}
+use Rattle.matching.proofs.ResultListLaws.{roomFor-mono, stored-after, count-putAll, length-putAll}
 use Rattle.matching.proofs.FrameRecordsLaws.{inside⇒records}
 use Rattle.search.specs.declared.child.Bound.{Bound}
 use Rattle.search.specs.declared.walk.Progress.{Progress}
@@ -52,7 +52,8 @@ addMatches-27 room [] s few many =
 addMatches-27 room (r ∷ rs) s few many = go (leb (roomFor (length (s .matches) + 1)) room) refl (addMatches-27 room rs (withMatch r s))
   where
     go : (b : Bool) → leb (roomFor (length (s .matches) + 1)) room ≡ b
-        → (roomFor (length (withMatch r s .matches)) ≤ room → room < roomFor (length (withMatch r s .matches) + length rs) → addMatches room rs (withMatch r s) ≡ refused 27 0)
+        → (roomFor (length (withMatch r s .matches)) ≤ room → room < roomFor (length (withMatch r s .matches) + length rs)
+        → addMatches room rs (withMatch r s) ≡ refused 27 0)
         → addMatches room (r ∷ rs) s ≡ refused 27 0
     go true e rest =
         let fits = leb-true (roomFor (length (s .matches) + 1)) room e in
@@ -78,13 +79,16 @@ module _ (q : Query) (first : List ℕ) {file : List ℕ} {f : Frame} {p : Progr
 
   -- what is said of adding the matches is said of the walk
   leaf-said : (r : WalkOutcome) → StaysWithin r (length openedList) (length first)
-      → ((b : Block) (s : Walked) → blockIn file f ≡ answer b → ListsHold openedList first p s → Reaches r openedList list (addMatches (length first) (matching q (b .records)) s)) → Said r
+      → ((b : Block) (s : Walked) → blockIn file f ≡ answer b → ListsHold openedList first p s
+      → Reaches r openedList list (addMatches (length first) (matching q (b .records)) s))
+      → Said r
   unfolding walkOf
   leaf-said r stays found =
       record {
         stays = stays;
         reaches = λ b s e h.
-            subst (λ (l : ℕ). Reaches r openedList list (walkOf file q (length openedList) (length first) from l b (boundOf file above) s)) (sym (asks .leaf)) (found b s e h);
+            subst (λ (l : ℕ). Reaches r openedList list (walkOf file q (length openedList) (length first) from l b (boundOf file above) s))
+            (sym (asks .leaf)) (found b s e h);
       }
 
   module _ (b : Block) (s : Walked) (inside : blockIn file f ≡ answer b) (h : ListsHold openedList first p s) where
@@ -94,7 +98,8 @@ module _ (q : Query) (first : List ℕ) {file : List ℕ} {f : Frame} {p : Progr
     put-records : record { count = many; list = list } ≡ putAll (record { count = length (s .matches); list = first }) found
     put-records =
         is (f .start)
-        ∙ ap₂ (λ (n : ℕ) (rs : List Text). putAll (record { count = n; list = first }) (matching q rs)) (h .matched) (inside⇒records file f b inside (asks .leaf))
+        ∙ ap₂ (λ (n : ℕ) (rs : List Text). putAll (record { count = n; list = first }) (matching q rs)) (h .matched)
+        (inside⇒records file f b inside (asks .leaf))
 
     found-many : many ≡ length (s .matches) + length found
     found-many = ap (λ (t : Stored). t .count) put-records ∙ count-putAll _ found
@@ -118,7 +123,9 @@ module _ (q : Query) (first : List ℕ) {file : List ℕ} {f : Frame} {p : Progr
             opens = h .opens;
             finds =
                 ap (λ (t : Stored). t .list)
-                (put-records ∙ ap (λ (l : List ℕ). putAll (record { count = length (s .matches); list = l }) found) (h .finds) ∙ stored-after (length first) (s .matches) found fits)
+                (put-records
+                ∙ ap (λ (l : List ℕ). putAll (record { count = length (s .matches); list = l }) found) (h .finds)
+                ∙ stored-after (length first) (s .matches) found fits)
                 ∙ ap (λ (n : ℕ). padded n (numbersOf (s .matches ++ found))) (sym long);
             many = h .many;
             matched = found-many ∙ sym (length-append (s .matches) found);

@@ -62,7 +62,8 @@ module _ {w : Walking} {openedNow resultsNow : List ℕ} {at : ℕ} {p : Progres
       -- the entry with this key, upper bound and block, before these
       visit : Walked → List Entry → List ℕ → Option (List ℕ) → Named → Outcome Walked
       visit t after key upper n =
-          cond (mayMatch key upper (w .query)) (downFrom (w .file) (w .query) (places w) (room w) (w .from) n (w .frame .level - 1) upper t) (answer t) >>= Gives w after
+          cond (mayMatch key upper (w .query)) (downFrom (w .file) (w .query) (places w) (room w) (w .from) n (w .frame .level - 1) upper t) (answer t)
+          >>= Gives w after
 
       there : (l : Led w openedNow resultsNow at p all s) → IsChild (w .file) (w .frame) (w .above) c next (l .left) → AtEntry all s
       there l x =
@@ -131,7 +132,8 @@ module _ {w : Walking} {openedNow resultsNow : List ℕ} {at : ℕ} {p : Progres
             down-refused (sym tested ∙ yes) all s x (r .number) (r .place)
             (bind-refused (openBlock (w .file) (places w) (w .from) (c .named) (x .found)) _ (r .number) (r .place)
             (ap (λ (k : ℕ). openBlock (w .file) k (w .from) (c .named) (x .found)) (sym (on .long))
-            ∙ said⇒refused (w .file) (length openedNow) (w .from) (c .named) (r .number) (r .place) (x .found) (sym (ap openingSaid is) ∙ said (x .found) (x .held .many))))
+            ∙ said⇒refused (w .file) (length openedNow) (w .from) (c .named) (r .number) (r .place) (x .found)
+            (sym (ap openingSaid is) ∙ said (x .found) (x .held .many))))
 
     -- it is opened
     module _ {g : Frame} (is : opening ≡ Sound g) where
@@ -198,7 +200,8 @@ module _ {w : Walking} {openedNow resultsNow : List ℕ} {at : ℕ} {p : Progres
           }
 
       -- what the walk down from it says
-      module _ {r : WalkOutcome} {openedThen resultsThen : List ℕ} (walked : WalkSaid (w .file) (w .query) (w .from) g (c .upper) one-more list resultsNow r openedThen resultsThen) where
+      module _ {r : WalkOutcome} {openedThen resultsThen : List ℕ}
+          (walked : WalkSaid (w .file) (w .query) (w .from) g (c .upper) one-more list resultsNow r openedThen resultsThen) where
         down : (t : Walked) → ListsHold openedNow resultsNow p t → Reaches r openedThen resultsThen (Down t)
         unfolding downFrom
         down t h =
@@ -229,7 +232,8 @@ module _ {w : Walking} {openedNow resultsNow : List ℕ} {at : ℕ} {p : Progres
                 (subst (λ (k : WalkOutcome). Reaches k openedThen resultsThen (Down (x .found))) stop (down (x .found) (x .held)))
 
         -- it goes on
-        pub onward-more : {p₁ : Progress} → r ≡ Going p₁ → length openedThen ≡ length list → length resultsThen ≡ length resultsNow → Onward w openedThen resultsThen next p₁
+        pub onward-more : {p₁ : Progress} → r ≡ Going p₁ → length openedThen ≡ length list → length resultsThen ≡ length resultsNow
+            → Onward w openedThen resultsThen next p₁
         unfolding Reaches StaysWithin
         onward-more {p₁} went long wide =
             record {
@@ -250,7 +254,8 @@ module _ {w : Walking} {openedNow resultsNow : List ℕ} {at : ℕ} {p : Progres
                 let found = room .found in
                 record { opened = omega arith; found = omega arith }
 
-            led : (all : List Entry) (s : Walked) (x : AtEntry all s) → (t : Walked) × (Down (x .found) ≡ answer t) × ListsHold openedThen resultsThen p₁ t
+            led : (all : List Entry) (s : Walked) (x : AtEntry all s)
+                → (t : Walked) × (Down (x .found) ≡ answer t) × ListsHold openedThen resultsThen p₁ t
                 → Led w openedThen resultsThen next p₁ all s
             led all s x (t, walkedTo, held) =
                 record {

@@ -63,7 +63,8 @@ module _ (file : List ℕ) (q : Query) (places room from : ℕ) where
       walk-suc (f .level) b above s index ∙ ap (λ (g : Frame). over (g .start) (f .level - 1) above (b .entries) s) (block-frame file f b e index ordinary)
 
 -- what a way through its entries says is what the walk down from an index block says
-pub walk-said : {file : List ℕ} {q : Query} {from : ℕ} {f : Frame} {above : Bound} {p₀ : Progress} {opened₀ results₀ : List ℕ} {r : WalkOutcome} {openedNow resultsNow : List ℕ}
+pub walk-said : {file : List ℕ} {q : Query} {from : ℕ} {f : Frame} {above : Bound} {p₀ : Progress} {opened₀ results₀ : List ℕ}
+    {r : WalkOutcome} {openedNow resultsNow : List ℕ}
     → WalkAsks file f above p₀ (length opened₀) (length results₀) → (f .level ≡ 0 → ⊥) → StaysWithin r (length opened₀) (length results₀)
     → ((all : List Entry) (s : Walked) → entriesFrom file f (f .body + 1) ≡ answer all → ListsHold opened₀ results₀ p₀ s
     → Reaches r openedNow resultsNow (through file q (length opened₀) (length results₀) from f (boundOf file above) all s))

@@ -32,12 +32,32 @@ walk-below t = and 6 walk-kinds.ps (falls 6 walk-kinds.ps _<_ μ-walk t) walk.Pr
 
 -- what the calls are known by
 abbrev calls : ℕ → walk-lts.Claims
-calls t = (find-reads.Asked, find-reads.Learnt, child-at-reads.Asked, child-at-reads.Learnt, admits-reads.Asked, admits-reads.Learnt, open-block-reads.Asked, open-block-reads.Learnt, walk-below t, walk.Post)
+calls t = (
+  find-reads.Asked,
+  find-reads.Learnt,
+  child-at-reads.Asked,
+  child-at-reads.Learnt,
+  admits-reads.Asked,
+  admits-reads.Learnt,
+  open-block-reads.Asked,
+  open-block-reads.Learnt,
+  walk-below t,
+  walk.Post,
+)
 
 abbrev walk-Inv-loop : walk-lts.InvT-loop
 walk-Inv-loop file from f above start stop-given stop prefix opened₀ results₀ at₀ so-far₀ opened results at so-far =
     Onward
-    (record { file = file; query = queryOf start stop-given stop prefix; from = from; frame = f; above = above; opened = opened₀; results = results₀; before = so-far₀ })
+    (record {
+      file = file;
+      query = queryOf start stop-given stop prefix;
+      from = from;
+      frame = f;
+      above = above;
+      opened = opened₀;
+      results = results₀;
+      before = so-far₀;
+    })
     opened results at so-far
 
 abbrev walk-μ-loop : walk-lts.MeasureT-loop
