@@ -30,7 +30,7 @@ pub record Held {A : Type 0} (stepAt : ℕ → List ℕ → ℕ → Outcome (Ste
   pub some : 0 < length xs
   -- their byte strings rise
   pub sorted : rising (map (λ x. textOf x .bytes) xs) ≡ true
-  -- each stands behind the level byte and before the CRC
+  -- each stands after the level byte and before the CRC
   pub stand : (x : A) → List·Memᴰ x xs → Stands file (f .body) (f .end) (textOf x)
   -- they stand at ascending offsets
   pub ascend : AscendingIn (f .body + 1) (f .end + 1) (map (λ x. textOf x .at) xs)
@@ -192,7 +192,7 @@ module _ (file : List ℕ) (at : ℕ) (b : Block) (e : blockAt file at ≡ answe
       go (is-index more level) = (more, level)
       go (is-reserved level) = absurd (none (reserved-no-entries level))
 
-  -- a record, or a key, stands behind the level byte and before the CRC, and is what the file has there
+  -- a record, or a key, stands after the level byte and before the CRC, and is what the file has there
   pub record-in-block : (r : Text) → List·Memᴰ r (b .records) → Stands file (b .frame .body) (b .frame .end) r
   record-in-block r m = data-held (record⇒data r m) .stand r m
 

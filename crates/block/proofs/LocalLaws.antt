@@ -53,17 +53,17 @@ module _ (s t : List ℕ) (sized : length s ≡ length t) where
   entry-agree place at e =
       bind-same (textAt place s at) (textAt place t at) _ _ (text-agree place at e)
       (λ key p.
-      let k = behind-key key p in
+      let k = after-key key p in
       bind-same (numberAt 15 place s (key .next)) (numberAt 15 place t (key .next)) _ _ (number-agree 15 place (key .next) k)
       (λ offset q.
       ap (λ o. o >>= λ size. answer (record { item = record { key = key .item; offset = offset .item; size = size .item }; next = size .next }))
-      (number-agree 15 place (offset .next) (behind-offset (key .next) offset q k))))
+      (number-agree 15 place (offset .next) (after-offset (key .next) offset q k))))
     where
-      behind-key : (key : Step Text) → textAt place s at ≡ answer key → drop (key .next) s ≡ drop (key .next) t
-      behind-key key p = let q = text⇒Placed place s at key p in let f = q .forward in let ends = q .ends in drop-later s t at (key .next) (omega arith) e
+      after-key : (key : Step Text) → textAt place s at ≡ answer key → drop (key .next) s ≡ drop (key .next) t
+      after-key key p = let q = text⇒Placed place s at key p in let f = q .forward in let ends = q .ends in drop-later s t at (key .next) (omega arith) e
 
-      behind-offset : (from : ℕ) (n : Step ℕ) → numberAt 15 place s from ≡ answer n → drop from s ≡ drop from t → drop (n .next) s ≡ drop (n .next) t
-      behind-offset from n p k = let f = numbered 15 place s from n p .forward in drop-later s t from (n .next) (omega arith) k
+      after-offset : (from : ℕ) (n : Step ℕ) → numberAt 15 place s from ≡ answer n → drop from s ≡ drop from t → drop (n .next) s ≡ drop (n .next) t
+      after-offset from n p k = let f = numbered 15 place s from n p .forward in drop-later s t from (n .next) (omega arith) k
 
 -- ways to read items that agree from an offset on
 payload-agree : {A : Type 0} (step other : ℕ → Outcome (Step A)) (textOf : A → Text) (unsorted place end at : ℕ) → ((a : ℕ) (x : Step A) → step a ≡ answer x → a < x .next)

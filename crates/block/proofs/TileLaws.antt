@@ -60,17 +60,17 @@ tiles-within from end (c ∷ bs) h b m = go (List·Memᴰ·cases-cons m) (λ (i 
         subst (λ (d : Block). (from ≤ d .frame .start) × (d .frame .start + d .frame .size ≤ end)) (sym same) (omega arith, omega arith)
     go (inr inside) rest = let r = rest inside in (omega arith, r .1)
 
--- what stands behind other blocks tiles the rest
-pub tiles-behind : (from end : ℕ) (xs ys : List Block) → Tiles from end (xs ++ ys) → (middle : ℕ) × Tiles from middle xs × Tiles middle end ys
+-- what stands after other blocks tiles the rest
+pub tiles-after : (from end : ℕ) (xs ys : List Block) → Tiles from end (xs ++ ys) → (middle : ℕ) × Tiles from middle xs × Tiles middle end ys
 unfolding Tiles
-tiles-behind from end [] ys h = (from, refl, h)
-tiles-behind from end (x ∷ xs) ys h = let rest = tiles-behind (from + x .frame .size) end xs ys (h .2) in (rest .0, (h .0, h .1, rest .1), rest .2)
+tiles-after from end [] ys h = (from, refl, h)
+tiles-after from end (x ∷ xs) ys h = let rest = tiles-after (from + x .frame .size) end xs ys (h .2) in (rest .0, (h .0, h .1, rest .1), rest .2)
 
--- a later block begins at or behind the end of an earlier one
+-- a later block begins at or after the end of an earlier one
 pub tiles-apart : (from end : ℕ) (xs : List Block) (b : Block) (ys : List Block) → Tiles from end (xs ++ (b ∷ ys)) → (c : Block) → List·Memᴰ c ys → b .frame .start + b .frame .size ≤ c .frame .start
 unfolding Tiles
 tiles-apart from end xs b ys h c m =
-    let rest = tiles-behind from end xs (b ∷ ys) h .2 in
+    let rest = tiles-after from end xs (b ∷ ys) h .2 in
     let starts = rest .0 in
     let later = tiles-within _ end ys (rest .2) c m .0 in
     omega arith
@@ -79,7 +79,7 @@ tiles-apart from end xs b ys h c m =
 pub tiles-neighbours : (from end : ℕ) (xs : List Block) (b c : Block) (ys : List Block) → Tiles from end (xs ++ (b ∷ c ∷ ys)) → (c .frame .start ≡ b .frame .start + b .frame .size) × (b .frame .start < c .frame .start)
 unfolding Tiles
 tiles-neighbours from end xs b c ys h =
-    let rest = tiles-behind from end xs (b ∷ c ∷ ys) h .2 in
+    let rest = tiles-after from end xs (b ∷ c ∷ ys) h .2 in
     let starts = rest .0 in
     let some = rest .1 in
     let next = rest .2 .0 in
@@ -116,7 +116,7 @@ block-record-file bs b r m n = member-flatMap (λ c. c .records) bs b r m n
 
 -- ---- the blocks that were read
 
--- a block that was read where it says that it begins, at or behind `from` and within the file
+-- a block that was read where it says that it begins, at or after `from` and within the file
 pub record ReadBlock (file : List ℕ) (from : ℕ) (b : Block) : Type 0 where
   pub read : blockAt file (b .frame .start) ≡ answer b
   pub after : from ≤ b .frame .start

@@ -23,7 +23,7 @@ order [] (y ∷ ys) = Ordering·lt
 order (x ∷ xs) [] = Ordering·gt
 order (x ∷ xs) (y ∷ ys) = orElse (compare x y) (order xs ys)
 
--- the paper's answer: minus one, zero or plus one
+-- as a signed answer: minus one, zero or plus one
 unfoldable pub signed : Ordering → ℤ
 signed Ordering·lt = negsuc 0
 signed Ordering·eq = pos 0

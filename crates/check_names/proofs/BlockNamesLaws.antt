@@ -20,7 +20,7 @@ use Rattle.block.specs.Survey.{ordinary}
 use Rattle.block.specs.Laid.{laidItems, laidFrom}
 use Rattle.tree.specs.Stages.{each, entriesFit}
 use Rattle.check_names.specs.Starts.{startsOf, startAt}
-use Rattle.check_names.specs.Names.{entriesOf, Kept, EntriesSeen, AllSeen}
+use Rattle.check_names.specs.Names.{entriesOf, WordsKept, EntriesSeen, AllSeen}
 use Rattle.check_names.proofs.LaidNamesLaws.{LaidBlock, data-entries, index-entries}
 use Rattle.check_names.proofs.StartsLaws.{AtIndex, length-starts, ordinary-laid, ordinary-level-of}
 use Rattle.check_names.proofs.WordLaws.{kept-block, kept-start-at}
@@ -28,7 +28,7 @@ use Rattle.check_names.proofs.EntriesLaws.{none-seen}
 
 -- ---- the entries of one block
 
-module _ (file : List ℕ) (first : ℕ) (seen : List Entry) (work : List ℕ) (n : ℕ) (k : Kept file first seen work n)
+module _ (file : List ℕ) (first : ℕ) (seen : List Entry) (work : List ℕ) (n : ℕ) (k : WordsKept file first seen work n)
     (b : Block) (m : List·Memᴰ b (ordinary (laidFrom file first))) (start : ℕ) (at : b .frame .start ≡ start) where
   laid : LaidBlock file b
   laid = ordinary-laid file first b m
@@ -50,7 +50,7 @@ module _ (file : List ℕ) (first : ℕ) (seen : List Entry) (work : List ℕ) (
 
     -- those of an index block are the items of its payload
     pub block-index : (f .level ≡ 0 → ⊥) → (later : List ℕ) (r : Bool)
-        → ((first place : ℕ) (seen : List Entry) → Kept file first seen work n → EntriesSeen file first (f .level) seen
+        → ((first place : ℕ) (seen : List Entry) → WordsKept file first seen work n → EntriesSeen file first (f .level) seen
         (soundFrom (entryAt place (take (f .end) file)) (f .end) (f .end - (f .body + 1)) (f .body + 1)) later n r)
         → EntriesSeen file first (b .frame .level) seen (b .entries) later n r
     unfolding laidItems
@@ -91,19 +91,19 @@ module _ (file work₀ : List ℕ) (n : ℕ) where
   -- the blocks so far break no rule, and their entries are seen
   pub record Passed (first : ℕ) (work : List ℕ) (i : ℕ) : Type 0 where
     pub leads : each (rule first) 19 (blocks first) ≡ each (rule first) 19 (drop i (blocks first))
-    pub kept : Kept file first (entriesOf (take i (blocks first))) work n
+    pub kept : WordsKept file first (entriesOf (take i (blocks first))) work n
 
   pub record Passing (work : List ℕ) (i : ℕ) : Type 0 where
     pub within : i ≤ n
     pub long : length work ≡ length work₀
-    pub passed : (first : ℕ) → Kept file first [] work₀ n → Passed first work i
+    pub passed : (first : ℕ) → WordsKept file first [] work₀ n → Passed first work i
 
   pub passing-start : Passing work₀ 0
   unfolding entriesOf flatMap
   passing-start = record { within = omega arith; long = refl; passed = λ first k. record { leads = refl; kept = k } }
 
   module _ (work : List ℕ) (i : ℕ) (p : Passing work i) where
-    pub passing-end : n ≤ i → (first : ℕ) → Kept file first [] work₀ n → AllSeen file first work n (record { number = 0; place = 0 })
+    pub passing-end : n ≤ i → (first : ℕ) → WordsKept file first [] work₀ n → AllSeen file first work n (record { number = 0; place = 0 })
     passing-end past first k =
         let q = p .passed first k in
         let many = k .many in
@@ -111,14 +111,14 @@ module _ (file work₀ : List ℕ) (n : ℕ) where
         let all : length (blocks first) ≤ i = omega arith in
         record {
           fault = no-fault ∙ sym (q .leads ∙ each-none (rule first) 19 i (blocks first) all);
-          kept = λ z. subst (λ (l : List Block). Kept file first (entriesOf l) work n) (take-all i (blocks first) all) (q .kept);
+          kept = λ z. subst (λ (l : List Block). WordsKept file first (entriesOf l) work n) (take-all i (blocks first) all) (q .kept);
         }
 
     module _ (inside : i < n) (later : List ℕ) (r : Bool)
-        (seen : (first : ℕ) (seen : List Entry) (b : Block) → Kept file first seen work n → List·Memᴰ b (blocks first)
+        (seen : (first : ℕ) (seen : List Entry) (b : Block) → WordsKept file first seen work n → List·Memᴰ b (blocks first)
         → b .frame .start ≡ getD work i 0 % 2 ^ 30 → EntriesSeen file first (b .frame .level) seen (b .entries) later n r) where
       -- the block at the index
-      module _ (first : ℕ) (k : Kept file first [] work₀ n) where
+      module _ (first : ℕ) (k : WordsKept file first [] work₀ n) where
         abbrev done : List Entry
         done = entriesOf (take i (blocks first))
 
@@ -143,7 +143,7 @@ module _ (file work₀ : List ℕ) (n : ℕ) where
       unfolding entriesFit
       passing-more right same = record { within = omega arith; long = same ∙ p .long; passed = one }
         where
-          one : (first : ℕ) → Kept file first [] work₀ n → Passed first later (i + 1)
+          one : (first : ℕ) → WordsKept file first [] work₀ n → Passed first later (i + 1)
           one first k =
               let b = its-block first k in
               let q = its-entries first k in
@@ -151,10 +151,10 @@ module _ (file work₀ : List ℕ) (n : ℕ) where
                 leads =
                     p .passed first k .leads
                     ∙ each-kept (rule first) 19 (drop i (blocks first)) (drop (i + 1) (blocks first)) (b .block) (b .rest) (sym (q .fit) ∙ right);
-                kept = subst (λ (l : List Entry). Kept file first l later n) (sym (one-more first k)) (q .kept right);
+                kept = subst (λ (l : List Entry). WordsKept file first l later n) (sym (one-more first k)) (q .kept right);
               }
 
-      pub passing-broken : r ≡ false → (first : ℕ) → Kept file first [] work₀ n
+      pub passing-broken : r ≡ false → (first : ℕ) → WordsKept file first [] work₀ n
           → AllSeen file first later n (record { number = 19; place = getD work i 0 % 2 ^ 30 })
       unfolding entriesFit refusalOf
       passing-broken wrong first k =

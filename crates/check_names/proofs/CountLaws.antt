@@ -18,7 +18,7 @@ use Rattle.block.specs.Laid.{laidFrom}
 use Rattle.tree.specs.Tree.{namings}
 use Rattle.tree.specs.Stages.{each, namedRightly}
 use Rattle.check_names.specs.Starts.{startsOf, startAt}
-use Rattle.check_names.specs.Names.{entriesOf, timesNamed, upToTwo, Kept}
+use Rattle.check_names.specs.Names.{entriesOf, timesNamed, upToTwo, WordsKept}
 use Rattle.check_names.proofs.LaidNamesLaws.{laid-member, reserved-entries}
 use Rattle.check_names.proofs.StartsLaws.{AtIndex, length-starts}
 use Rattle.check_names.proofs.WordLaws.{kept-block, kept-start-at, kept-count}
@@ -62,21 +62,21 @@ module _ (work : List ℕ) (n root : ℕ) where
   -- the blocks so far are named rightly
   pub record Counting (i : ℕ) : Type 0 where
     pub within : i ≤ n
-    pub leads : (file : List ℕ) (first : ℕ) → Kept file first (entriesOf (blocks file first)) work n
+    pub leads : (file : List ℕ) (first : ℕ) → WordsKept file first (entriesOf (blocks file first)) work n
         → each (rule file first) 20 (blocks file first) ≡ each (rule file first) 20 (drop i (blocks file first))
 
   pub counting-start : Counting 0
   counting-start = record { within = omega arith; leads = λ file first k. refl }
 
   module _ (i : ℕ) (p : Counting i) where
-    pub counting-end : n ≤ i → (file : List ℕ) (first : ℕ) → Kept file first (entriesOf (blocks file first)) work n
+    pub counting-end : n ≤ i → (file : List ℕ) (first : ℕ) → WordsKept file first (entriesOf (blocks file first)) work n
         → refusalOf (record { number = 0; place = 0 }) ≡ each (rule file first) 20 (blocks file first)
     counting-end past file first k =
         let many = k .many in
         let long = length-starts (laidFrom file first) in
         no-fault ∙ sym (p .leads file first k ∙ each-none (rule file first) 20 i (blocks file first) (omega arith))
 
-    module _ (inside : i < n) (file : List ℕ) (first : ℕ) (k : Kept file first (entriesOf (blocks file first)) work n) where
+    module _ (inside : i < n) (file : List ℕ) (first : ℕ) (k : WordsKept file first (entriesOf (blocks file first)) work n) where
       its-block : AtIndex (blocks file first) i
       its-block = kept-block file first (entriesOf (blocks file first)) work n k i inside
 

@@ -13,19 +13,19 @@ use Rattle.payload.specs.Payload.{Entry, entryAt}
 use Rattle.payload.proofs.PayloadLaws.{entry⇒Entered}
 use Rattle.block.specs.Laid.{laidFrom}
 use Rattle.tree.specs.Tree.{names}
-use Rattle.check_names.specs.Names.{marked, Kept, Named, EntriesSeen}
+use Rattle.check_names.specs.Names.{marked, WordsKept, Named, EntriesSeen}
 use Rattle.check_names.proofs.SoundItemsLaws.{SoundProgress, sound-progress-start, sound-progress-more, sound-progress-next}
 use Rattle.check_names.proofs.SoundItemsLaws.{sound-progress-end, sound-progress-refused}
 use Rattle.check_names.proofs.WordLaws.{kept-mark}
 use Rattle.check_names.proofs.EntryLaws.{all-append}
 
 -- no entries, nothing seen
-pub none-seen : (file : List ℕ) (from level : ℕ) (seen es : List Entry) (work : List ℕ) (n : ℕ) → Kept file from seen work n → es ≡ []
+pub none-seen : (file : List ℕ) (from level : ℕ) (seen es : List Entry) (work : List ℕ) (n : ℕ) → WordsKept file from seen work n → es ≡ []
     → EntriesSeen file from level seen es work n true
 unfolding all
 none-seen file from level seen es work n k none =
     subst (λ (l : List Entry). EntriesSeen file from level seen l work n true) (sym none)
-    (record { fit = refl; kept = λ t. subst (λ (l : List Entry). Kept file from l work n) (sym (append-nil seen)) k })
+    (record { fit = refl; kept = λ t. subst (λ (l : List Entry). WordsKept file from l work n) (sym (append-nil seen)) k })
 
 -- ---- the loop
 
@@ -42,11 +42,11 @@ module _ (file : List ℕ) (level from end : ℕ) (work₀ : List ℕ) (n : ℕ)
     pub done : List Entry
     pub progress : SoundProgress (stepAt place) end from at done
     pub fit : all (names (laidFrom file first) level) done ≡ true
-    pub kept : Kept file first (seen ++ done) work n
+    pub kept : WordsKept file first (seen ++ done) work n
 
   pub record Marked (work : List ℕ) (at : ℕ) : Type 0 where
     pub long : length work ≡ length work₀
-    pub marking : (first place : ℕ) (seen : List Entry) → Kept file first seen work₀ n → Marking first place seen work at
+    pub marking : (first place : ℕ) (seen : List Entry) → WordsKept file first seen work₀ n → Marking first place seen work at
 
   pub marked-start : Marked work₀ from
   unfolding all
@@ -58,7 +58,7 @@ module _ (file : List ℕ) (level from end : ℕ) (work₀ : List ℕ) (n : ℕ)
               done = [];
               progress = sound-progress-start (stepAt place) end from;
               fit = refl;
-              kept = subst (λ (l : List Entry). Kept file first l work₀ n) (sym (append-nil seen)) k;
+              kept = subst (λ (l : List Entry). WordsKept file first l work₀ n) (sym (append-nil seen)) k;
             };
       }
 
@@ -69,25 +69,25 @@ module _ (file : List ℕ) (level from end : ℕ) (work₀ : List ℕ) (n : ℕ)
     marked-all first place seen m whole =
         subst (λ (l : List Entry). EntriesSeen file first level seen l work n true) (sym whole) (record { fit = sym (m .fit); kept = λ t. m .kept })
 
-    pub marked-end : end ≤ at → (first place : ℕ) (seen : List Entry) → Kept file first seen work₀ n
+    pub marked-end : end ≤ at → (first place : ℕ) (seen : List Entry) → WordsKept file first seen work₀ n
         → EntriesSeen file first level seen (entries place) work n true
     marked-end past first place seen k =
         let m = p .marking first place seen k in
         marked-all first place seen m (sound-progress-end (stepAt place) end from at (m .done) (m .progress) past)
 
     pub marked-refused : at < end → (number : ℕ) → ((place : ℕ) → stepAt place at ≡ refused number place)
-        → (first place : ℕ) (seen : List Entry) → Kept file first seen work₀ n → EntriesSeen file first level seen (entries place) work n true
+        → (first place : ℕ) (seen : List Entry) → WordsKept file first seen work₀ n → EntriesSeen file first level seen (entries place) work n true
     marked-refused inside number refuses first place seen k =
         let m = p .marking first place seen k in
         marked-all first place seen m (sound-progress-refused (stepAt place) end from at (m .done) (m .progress) inside number place (refuses place))
 
     module _ (inside : at < end) (s : Step Entry) (reads : (place : ℕ) → stepAt place at ≡ answer s) (i : ℕ)
-        (named : (first : ℕ) (seen : List Entry) → Kept file first seen work n → Named (laidFrom file first) level (s .item) n i) where
+        (named : (first : ℕ) (seen : List Entry) → WordsKept file first seen work n → Named (laidFrom file first) level (s .item) n i) where
       forward : at < s .next
       forward = entry⇒Entered 0 (take end file) at s (reads 0) .forward
 
       -- the entry names no fitting block
-      pub marked-unfit : n ≤ i → (first place : ℕ) (seen : List Entry) → Kept file first seen work₀ n
+      pub marked-unfit : n ≤ i → (first place : ℕ) (seen : List Entry) → WordsKept file first seen work₀ n
           → EntriesSeen file first level seen (entries place) work n false
       unfolding all
       marked-unfit past first place seen k = go (p .marking first place seen k)
@@ -124,6 +124,6 @@ module _ (file : List ℕ) (level from end : ℕ) (work₀ : List ℕ) (n : ℕ)
                 progress = sound-progress-more (stepAt place) end from at (m .done) (m .progress) s inside (reads place) forward;
                 fit = all-append test (m .done) (s .item ∷ []) ∙ right;
                 kept =
-                    subst (λ (l : List Entry). Kept file first l later n) (append-assoc seen (m .done) (s .item ∷ []))
+                    subst (λ (l : List Entry). WordsKept file first l later n) (append-assoc seen (m .done) (s .item ∷ []))
                     (kept-mark file first (seen ++ m .done) work n (m .kept) room (s .item) i low (good .placed low) later is);
               }

@@ -20,7 +20,7 @@ use Rattle.block.specs.Laid.{laidFrom}
 use Rattle.tree.specs.Tree.{names}
 use Rattle.lists.proofs.ListsLaws.{member-any}
 use Rattle.check_names.specs.Starts.{startsOf, StartsRise, Located}
-use Rattle.check_names.specs.Names.{Kept, Named}
+use Rattle.check_names.specs.Names.{WordsKept, Named}
 use Rattle.check_names.proofs.StartsLaws.{AtIndex, index-of, length-starts, ordinary-laid, ordinary-unique}
 use Rattle.check_names.proofs.WordLaws.{kept-block, kept-start-at, kept-rise}
 
@@ -67,7 +67,7 @@ names-false bs level e none =
 
 -- ---- the test of the code
 
-module _ (file : List ℕ) (from : ℕ) (seen : List Entry) (work : List ℕ) (n : ℕ) (k : Kept file from seen work n) (e : Entry) (level i : ℕ)
+module _ (file : List ℕ) (from : ℕ) (seen : List Entry) (work : List ℕ) (n : ℕ) (k : WordsKept file from seen work n) (e : Entry) (level i : ℕ)
     (s : StartsRise work n → Located work n (e .offset) i) where
   abbrev bs : List Block
   bs = laidFrom file from

@@ -16,7 +16,7 @@ use Rattle.block.specs.Survey.{ordinary}
 use Rattle.block.specs.Laid.{laidFrom}
 use Rattle.block.proofs.LaidLaws.{blocks⇒laid}
 use Rattle.tree.specs.Stages.{each, entriesFit, namedRightly, namingOf}
-use Rattle.check_names.specs.Names.{namesOf, entriesOf, Kept, AllSeen}
+use Rattle.check_names.specs.Names.{namesOf, entriesOf, WordsKept, AllSeen}
 
 module _ (file : List ℕ) (from root places : ℕ) where
   abbrev bs : List Block
@@ -61,7 +61,7 @@ module _ (file : List ℕ) (from root places : ℕ) where
 
         -- 20 decides
         pub names-counted : r .number ≡ 0 → (q : Refusal)
-            → (Kept file from (entriesOf (ordinary bs)) work n → refusalOf q ≡ each (namedRightly bs root) 20 (ordinary bs))
+            → (WordsKept file from (entriesOf (ordinary bs)) work n → refusalOf q ≡ each (namedRightly bs root) 20 (ordinary bs))
             → refusalOf q ≡ namesOf file from root places
         unfolding namingOf refusalOf
         names-counted none q counted =

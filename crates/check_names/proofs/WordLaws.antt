@@ -15,7 +15,7 @@ use Rattle.payload.specs.Payload.{Entry}
 use Rattle.block.specs.Survey.{ordinary}
 use Rattle.block.specs.Laid.{laidFrom}
 use Rattle.check_names.specs.Starts.{startsOf, Begins, startAt, StartsRise}
-use Rattle.check_names.specs.Names.{timesNamed, upToTwo, wordOf, marked, Kept}
+use Rattle.check_names.specs.Names.{timesNamed, upToTwo, wordOf, marked, WordsKept}
 use Rattle.check_names.proofs.StartsLaws.{AtIndex, at-index, length-starts, starts-ascend, ordinary-laid}
 
 -- ---- one word
@@ -81,13 +81,13 @@ module _ (file : List ℕ) (from : ℕ) where
   starts = startsOf (laidFrom file from)
 
   -- at first no entry was seen
-  pub kept-start : (work : List ℕ) (n : ℕ) → length file ≤ 2 ^ 30 → n ≡ length (ordinary (laidFrom file from)) → Begins work starts → Kept file from [] work n
+  pub kept-start : (work : List ℕ) (n : ℕ) → length file ≤ 2 ^ 30 → n ≡ length (ordinary (laidFrom file from)) → Begins work starts → WordsKept file from [] work n
   unfolding Begins wordOf timesNamed keep upToTwo
   kept-start work n short many begun =
       let long : length starts ≡ n = length-starts (laidFrom file from) ∙ sym many in
       record { short = short; many = long; words = λ i h. begun i (omega arith) ∙ omega arith }
 
-  module _ (seen : List Entry) (work : List ℕ) (n : ℕ) (k : Kept file from seen work n) where
+  module _ (seen : List Entry) (work : List ℕ) (n : ℕ) (k : WordsKept file from seen work n) where
     -- the block at an index
     pub kept-block : (i : ℕ) → i < n → AtIndex (ordinary (laidFrom file from)) i
     kept-block i h = let many = k .many in let long = length-starts (laidFrom file from) in at-index (ordinary (laidFrom file from)) i (omega arith)
@@ -128,9 +128,9 @@ module _ (file : List ℕ) (from : ℕ) where
 
     -- one entry more: the word of the block it names is marked
     pub kept-mark : n ≤ length work → (e : Entry) (i : ℕ) → i < n → getD starts i 0 ≡ e .offset
-        → (later : List ℕ) → later ≡ set work i (marked (getD work i 0)) → Kept file from (seen ++ (e ∷ [])) later n
+        → (later : List ℕ) → later ≡ set work i (marked (getD work i 0)) → WordsKept file from (seen ++ (e ∷ [])) later n
     kept-mark room e i h named later is =
-        subst (λ (l : List ℕ). Kept file from (seen ++ (e ∷ [])) l n) (sym is)
+        subst (λ (l : List ℕ). WordsKept file from (seen ++ (e ∷ [])) l n) (sym is)
         (record { short = k .short; many = k .many; words = λ j l. go j l (eqb j i) refl })
       where
         go : (j : ℕ) → j < n → (b : Bool) → eqb j i ≡ b → getD (set work i (marked (getD work i 0))) j 0 ≡ wordOf (seen ++ (e ∷ [])) (getD starts j 0)

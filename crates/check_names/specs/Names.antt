@@ -49,7 +49,7 @@ unfoldable pub marked : ℕ → ℕ
 marked word = cond (ltb (word / 2 ^ 30) 2) (word + 2 ^ 30) word
 
 -- the first n words are those of the file's ordinary blocks, where these entries were seen
-pub record Kept (file : List ℕ) (from : ℕ) (seen : List Entry) (work : List ℕ) (n : ℕ) : Type 0 where
+pub record WordsKept (file : List ℕ) (from : ℕ) (seen : List Entry) (work : List ℕ) (n : ℕ) : Type 0 where
   pub short : length file ≤ 2 ^ 30
   pub many : length (startsOf (laidFrom file from)) ≡ n
   pub words : (i : ℕ) → i < n → getD work i 0 ≡ wordOf seen (getD (startsOf (laidFrom file from)) i 0)
@@ -65,9 +65,9 @@ pub record Named (bs : List Block) (level : ℕ) (e : Entry) (n r : ℕ) : Type 
 -- for some entries of a block of this level: whether all name a fitting block; if so, all are seen
 pub record EntriesSeen (file : List ℕ) (from level : ℕ) (seen es : List Entry) (work : List ℕ) (n : ℕ) (r : Bool) : Type 0 where
   pub fit : r ≡ all (names (laidFrom file from) level) es
-  pub kept : r ≡ true → Kept file from (seen ++ es) work n
+  pub kept : r ≡ true → WordsKept file from (seen ++ es) work n
 
 -- for all blocks: 19; if all fit, all entries are seen
 pub record AllSeen (file : List ℕ) (from : ℕ) (work : List ℕ) (n : ℕ) (r : Refusal) : Type 0 where
   pub fault : refusalOf r ≡ each (entriesFit (laidFrom file from)) 19 (ordinary (laidFrom file from))
-  pub kept : r .number ≡ 0 → Kept file from (entriesOf (ordinary (laidFrom file from))) work n
+  pub kept : r .number ≡ 0 → WordsKept file from (entriesOf (ordinary (laidFrom file from))) work n

@@ -12,7 +12,7 @@ ghost use Rattle.block.specs.Block.{Block};
 ghost use Rattle.block.specs.Survey.{ordinary};
 ghost use Rattle.block.specs.Laid.{laidFrom};
 ghost use Rattle.tree.specs.Stages.{each, namedRightly};
-ghost use Rattle.check_names.specs.Names.{namesOf, entriesOf, marked, Kept, Named, EntriesSeen, AllSeen};
+ghost use Rattle.check_names.specs.Names.{namesOf, entriesOf, marked, WordsKept, Named, EntriesSeen, AllSeen};
 use crate::starts::NAMED;
 use crate::starts::fill;
 use crate::starts::find;
@@ -37,7 +37,7 @@ fn mark(work: &mut [u64], i: usize)
 // The index of the word whose block an entry names, or n where it names no block that fits.
 fn named(file: &[u8], work: &[u64], n: usize, level: u8, offset: u64, size: u64) -> usize
     requires { ⌜ n ≤ length (now work) ⌝ }
-    ensures { λ r. ⌜ ((from : ℕ) (seen : List Entry) (key : Text) → Kept (now (file .entry)) from seen (now (work .entry)) n
+    ensures { λ r. ⌜ ((from : ℕ) (seen : List Entry) (key : Text) → WordsKept (now (file .entry)) from seen (now (work .entry)) n
         → Named (laidFrom (now (file .entry)) from) level (record { key = key; offset = offset; size = size }) n r) ⌝ }
 {
     let i = find(work, n, offset);
@@ -62,7 +62,7 @@ fn named(file: &[u8], work: &[u64], n: usize, level: u8, offset: u64, size: u64)
 // Whether all entries of a payload, up to the first fault, name fitting blocks; each is marked.
 fn name_entries(file: &[u8], level: u8, from: usize, end: usize, work: &mut [u64], n: usize) -> bool
     requires { ⌜ (n ≤ length (now work)) × (end ≤ length (now file)) ⌝ }
-    ensures { λ r. ⌜ ((first place : ℕ) (seen : List Entry) → Kept (now (file .entry)) first seen (now (work .entry)) n
+    ensures { λ r. ⌜ ((first place : ℕ) (seen : List Entry) → WordsKept (now (file .entry)) first seen (now (work .entry)) n
         → EntriesSeen (now (file .entry)) first level seen (soundFrom (entryAt place (take end (now (file .entry)))) end (end - from) from)
         (now (work .exit)) n r) ⌝ }
 {
@@ -92,7 +92,7 @@ fn name_entries(file: &[u8], level: u8, from: usize, end: usize, work: &mut [u64
 // The same for the block at an offset, which has entries where it is an index block.
 fn name_block(file: &[u8], start: usize, work: &mut [u64], n: usize) -> bool
     requires { ⌜ n ≤ length (now work) ⌝ }
-    ensures { λ r. ⌜ ((first : ℕ) (seen : List Entry) (b : Block) → Kept (now (file .entry)) first seen (now (work .entry)) n
+    ensures { λ r. ⌜ ((first : ℕ) (seen : List Entry) (b : Block) → WordsKept (now (file .entry)) first seen (now (work .entry)) n
         → List·Memᴰ b (ordinary (laidFrom (now (file .entry)) first)) → b .frame .start ≡ start
         → EntriesSeen (now (file .entry)) first (b .frame .level) seen (b .entries) (now (work .exit)) n r) ⌝ }
 {
@@ -113,7 +113,7 @@ fn name_block(file: &[u8], start: usize, work: &mut [u64], n: usize) -> bool
 // 19: the first block in file order with an entry that names no fitting block.
 fn name_blocks(file: &[u8], work: &mut [u64], n: usize) -> Refusal
     requires { ⌜ n ≤ length (now work) ⌝ }
-    ensures { λ r. ⌜ ((first : ℕ) → Kept (now (file .entry)) first [] (now (work .entry)) n → AllSeen (now (file .entry)) first (now (work .exit)) n r) ⌝ }
+    ensures { λ r. ⌜ ((first : ℕ) → WordsKept (now (file .entry)) first [] (now (work .entry)) n → AllSeen (now (file .entry)) first (now (work .exit)) n r) ⌝ }
 {
     let mut i = 0;
     while i < n {
@@ -143,7 +143,7 @@ fn wanted(start: u64, root: u64) -> u64
 // 20: the first block in file order that is not named so often.
 fn count_names(work: &[u64], n: usize, root: u64) -> Refusal
     requires { ⌜ n ≤ length (now work) ⌝ }
-    ensures { λ r. ⌜ ((file : List ℕ) (first : ℕ) → Kept file first (entriesOf (ordinary (laidFrom file first))) (now (work .entry)) n
+    ensures { λ r. ⌜ ((file : List ℕ) (first : ℕ) → WordsKept file first (entriesOf (ordinary (laidFrom file first))) (now (work .entry)) n
         → refusalOf r ≡ each (namedRightly (laidFrom file first) root) 20 (ordinary (laidFrom file first))) ⌝ }
 {
     let mut i = 0;

@@ -42,7 +42,7 @@ framed file at L = do
 unfoldable pub frameAt : List ℕ → ℕ → Outcome Frame
 frameAt file at = numberAt 10 at file at >>= framed file at
 
--- the CRC behind the bytes from `body` to `end` is theirs
+-- the CRC after the bytes from `body` to `end` is theirs
 unfoldable pub crcRight : List ℕ → (body end : ℕ) → Bool
 crcRight file body end = eqb (littleEndian (part file end 8)) (crc64 (part file body (end - body)))
 

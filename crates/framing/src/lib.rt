@@ -1,7 +1,8 @@
 // Numbers and frames at an offset.
 //
 // Every function is total: it reads at any offset of any bytes and answers what is there, or the number of the refusal. A refusal's
-// place is the start of the block at fault, which the caller knows; the contracts hold for every place.
+// place is the start of the block at fault, which the caller knows: the contract of
+// `number_at` holds for whatever place that is.
 ghost use Prim.Native.Nat.{ℕ, _+_, _≤_};
 ghost use mathlib.Core.Path.{_≡_};
 ghost use lib.ListN.{length};
@@ -90,7 +91,7 @@ fn framed(file: &[u8], at: usize, value: u64, next: usize) -> FrameOutcome
     })
 }
 
-// Whether the CRC behind the bytes from `body` to `end` is theirs.
+// Whether the CRC after the bytes from `body` to `end` is theirs.
 fn crc_right(file: &[u8], body: usize, end: usize) -> bool
     requires { ⌜ (body ≤ end) × (end ≤ length (now file)) ⌝ }
     ensures { λ r. ⌜ r ≡ frames.crcRight (now (file .entry)) body end ⌝ }

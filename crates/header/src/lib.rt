@@ -12,7 +12,7 @@ pub struct Header {
     pub root: u64,
     // The full size of the root block.
     pub rootsize: u64,
-    // The length of the metadata (the paper's M).
+    // The length of the metadata (M).
     pub metadata: u64,
 }
 

@@ -1,4 +1,4 @@
--- An answer, or a refusal: its number of the paper's table, and its place.
+-- An answer, or a refusal: its number (docs/FORMAT.md has the table), and its place.
 use Prim.Native.Nat.{ℕ}
 use mathlib.Core.Bool.{Bool, true, false}
 use mathlib.Core.List.{List}

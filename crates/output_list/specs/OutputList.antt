@@ -1,4 +1,4 @@
--- A lent list of 64-bit numbers (the paper's opened, result and work lists): the numbers put, in order, at its front, and
+-- A lent list of 64-bit numbers (an opened, result or work list): the numbers put, in order, at its front, and
 -- zeros after them.
 use Prim.Native.Nat.{ℕ, _+_, _-_, _*_}
 use mathlib.Core.Bool.{Bool, cond}

@@ -76,7 +76,7 @@ entry-any-place place p s at x e = again (entry⁻¹ place s at x e)
 
 -- ---- where a byte string stands
 
--- behind `from`, at most up to `end`, and with the bytes that stand there
+-- after `from`, at most up to `end`, and with the bytes that stand there
 pub record Stands (s : List ℕ) (from end : ℕ) (t : Text) : Type 0 where
   pub after : from < t .at
   pub before : t .at + length (t .bytes) ≤ end
@@ -132,7 +132,7 @@ module _ {A : Type 0} (step : ℕ → Outcome (Step A)) (textOf : A → Text) (s
       let rest = row-ascending (x .next) more r (within at x e) in
       (omega arith, ascending-wider (x .next + 1) (length s + 1) (textOf (x .item) .at + 1) (length s + 1) (map (λ y. textOf y .at) more) (omega arith) (omega arith) rest)
 
-  -- each stands behind the first offset and before the end
+  -- each stands after the first offset and before the end
   pub row-stands : (at : ℕ) (xs : List A) → Row step (length s) at xs → (x : A) → List·Memᴰ x xs → Stands s at (length s) (textOf x)
   row-stands at xs r x m = go (row-member step (length s) steps-forward at xs r x m)
     where

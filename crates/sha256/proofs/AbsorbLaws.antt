@@ -50,8 +50,8 @@ remainder-full s e = rw e (drop-of-length-le s {i = 64} (omega arith))
 over-full : (hash : Words) (s t : List ℕ) → length s ≡ 64 → over hash (s ++ t) ≡ over (over hash s) t
 over-full hash s t e = over-remainder hash s t ∙ (rw (remainder-full s e))
 
-remainder-behind : (s t : List ℕ) → length s ≡ 64 → remainder (s ++ t) ≡ remainder t
-remainder-behind s t e = sym (remainder-append s t) ∙ (rw (remainder-full s e))
+remainder-after : (s t : List ℕ) → length s ≡ 64 → remainder (s ++ t) ≡ remainder t
+remainder-after s t e = sym (remainder-append s t) ∙ (rw (remainder-full s e))
 
 -- the bytes that were kept, and as many of the piece as fill the block
 module _ (front piece : List ℕ) (fill : ℕ) (kept : length front ≡ fill) (few : fill ≤ 64) (enough : 64 - fill ≤ length piece) where
@@ -78,7 +78,7 @@ absorbed-block s piece block rest tail partial mid hash count all size et em eh 
     let kept = remainder (pending s ++ piece) in
     same hash (over (s .hash) (pending s ++ piece)) partial (kept ++ replicate (64 - length kept) 0) count ((s .count + length piece) % 2 ^ 64)
     (eh ∙ ap (λ (w : Words). over w rest) em ∙ sym (over-full (s .hash) block rest size) ∙ ap (over (s .hash)) (sym all))
-    (ep ∙ ap (λ (l : List ℕ). l ++ replicate (64 - length l) 0) (et ∙ sym (remainder-behind block rest size) ∙ ap remainder (sym all)))
+    (ep ∙ ap (λ (l : List ℕ). l ++ replicate (64 - length l) 0) (et ∙ sym (remainder-after block rest size) ∙ ap remainder (sym all)))
     ec
 
 -- the part of s from a to e, as it is lent
@@ -102,9 +102,9 @@ absorbed-long s piece block rest tail partial mid hash count full long eb er et 
     let fill = s .count % 64 in
     let front = pending-length s full in
     let whole : block ≡ pending s ++ take (64 - fill) piece = eb ∙ full-zeros (pending s) piece fill front (omega arith) long in
-    let behind : rest ≡ drop (64 - fill) piece = er ∙ part-from piece (64 - fill) in
+    let after : rest ≡ drop (64 - fill) piece = er ∙ part-from piece (64 - fill) in
     absorbed-block s piece block rest tail partial mid hash count
-    (full-rest (pending s) piece fill front (omega arith) long ∙ sym (ap₂ _++_ whole behind))
+    (full-rest (pending s) piece fill front (omega arith) long ∙ sym (ap₂ _++_ whole after))
     (ap length whole ∙ full-length (pending s) piece fill front (omega arith) long)
     (et ∙ part-from rest (length rest / 64 * 64))
     em

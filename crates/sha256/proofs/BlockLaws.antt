@@ -24,7 +24,7 @@ wordsOf-more (suc t) s =
     let later = rw (add-one t, drop-drop (4 * t) 4 s, places) at (wordsOf-more t (drop 4 s)) in
     rw (add-one (suc t)) (ap (λ (l : List ℕ). bigEndian (take 4 s) ∷ l) later)
 
--- storing it behind them
+-- storing it after them
 pub wordsOf-set : (w s : List ℕ) (t x : ℕ) → t < length w → take t w ≡ wordsOf t s
     → x ≡ bigEndian (take 4 (drop (4 * t) s)) → take (t + 1) (set w t x) ≡ wordsOf (t + 1) s
 wordsOf-set w s t x h before word = rw (wordsOf-more, ← before, ← word, add-one) (take-suc-set w t x h)
@@ -55,7 +55,7 @@ unfolding extended
 extended-length zero ws = sym (zero-add (length ws))
 extended-length (suc n) ws = rw (extended-length n (ws ++ (nextWord ws ∷ [])), length-append) (omega arith)
 
--- they come behind those before
+-- they come after the earlier ones
 extended-getD : (n : ℕ) (ws : List ℕ) (i : ℕ) → i < length ws → getD (extended n ws) i 0 ≡ getD ws i 0
 unfolding extended
 extended-getD zero ws i h = refl
@@ -198,7 +198,7 @@ over-blocks (suc n) hash s t h =
     ∙ rw (take-append-le 64 s t (omega arith), drop-append-le 64 s t (omega arith), ← places, ← drop-drop)
     (over-blocks n (compress hash (take 64 s)) (drop 64 s) t (omega arith))
 
--- what follows s is taken together with what is left of s behind its whole blocks
+-- what follows s is taken together with what is left of s after its whole blocks
 pub over-append : (hash : Words) (s t : List ℕ) → over hash (s ++ t) ≡ over (over hash s) (drop (length s / 64 * 64) s ++ t)
 unfolding over
 over-append hash s t = over-blocks (length s / 64) hash s t (omega arith)
@@ -229,7 +229,7 @@ unfolding wordBytes
 wordBytes-length [] = refl
 wordBytes-length (w ∷ ws) = rw (length-append, bigBytes-length, wordBytes-length ws) (omega arith)
 
--- storing it behind those before it
+-- storing it after the earlier ones
 pub wordBytes-set : (l ws : List ℕ) (i x : ℕ) → i < length l → i < 4 * length ws → take i l ≡ take i (wordBytes ws)
     → x ≡ getD (bigBytes 4 (getD ws (i / 4) 0)) (i % 4) 0 → take (i + 1) (set l i x) ≡ take (i + 1) (wordBytes ws)
 wordBytes-set l ws i x h k before byte =

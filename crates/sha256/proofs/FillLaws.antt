@@ -22,22 +22,22 @@ paste-more d at s i x l before hd hs e = rw (before, e, add-one) (paste-suc d at
 paste-all : (d : List ℕ) (at : ℕ) (s : List ℕ) (n : ℕ) → length s ≡ n → length d ≤ at + n → paste d at s n ≡ take at d ++ s
 paste-all d at s n e h = rw (drop-of-length-le d h, ← e, take-length) (append-nil (take at d ++ s))
 
--- Bytes with zeros behind
+-- Bytes with zeros after
 
 zeros-at : (n i : ℕ) → _≡_ {A = ℕ} (getD (replicate n 0) i 0) 0
 zeros-at zero i = refl
 zeros-at (suc n) zero = refl
 zeros-at (suc n) (suc i) = zeros-at n i
 
--- a piece that goes behind `fill` bytes of a block, and zeros to the block's end
+-- a piece that goes after `fill` bytes of a block, and zeros to the block's end
 abbrev pub zeroed : ℕ → List ℕ → List ℕ
 zeroed fill piece = piece ++ replicate (64 - (fill + length piece)) 0
 
 zeroed-length : (fill : ℕ) (piece : List ℕ) → fill + length piece ≤ 64 → length (zeroed fill piece) ≡ 64 - fill
 zeroed-length fill piece h = rw (length-append, length-replicate) (omega arith)
 
-zeroed-behind : (fill : ℕ) (piece : List ℕ) (i : ℕ) → length piece ≤ i → getD (zeroed fill piece) i 0 ≡ 0
-zeroed-behind fill piece i h =
+zeroed-after : (fill : ℕ) (piece : List ℕ) (i : ℕ) → length piece ≤ i → getD (zeroed fill piece) i 0 ≡ 0
+zeroed-after fill piece i h =
     rw (← add-sub-of-le h, getD-append-add) (zeros-at (64 - (fill + length piece)) (i - length piece))
 
 module _ (kept : List ℕ) (fill : ℕ) (piece : List ℕ) (room : length kept ≡ 64) (fits : fill + length piece ≤ 64) where
@@ -54,7 +54,7 @@ module _ (kept : List ℕ) (fill : ℕ) (piece : List ℕ) (room : length kept �
       → length piece ≤ i → set l (fill + i) 0 ≡ paste kept fill (zeroed fill piece) (i + 1)
   zeroed-zero i l inside before h =
       let long = zeroed-length fill piece fits in
-      paste-more kept fill (zeroed fill piece) i 0 l before (omega arith) (omega arith) (sym (zeroed-behind fill piece i h))
+      paste-more kept fill (zeroed fill piece) i 0 l before (omega arith) (omega arith) (sym (zeroed-after fill piece i h))
 
   -- up to the block's end
   pub zeroed-all : (i : ℕ) (l : List ℕ) → i ≡ 64 - fill → l ≡ paste kept fill (zeroed fill piece) i → l ≡ take fill kept ++ zeroed fill piece
@@ -69,7 +69,7 @@ zeros-take zero m h = refl
 zeros-take (suc n) zero h = absurd (not-suc-le-zero h)
 zeros-take (suc n) (suc m) h = ap (λ (l : List ℕ). 0 ∷ l) (zeros-take n m (le-of-suc-le-suc h))
 
--- behind the first byte z zeros are left, and then come the bits
+-- after the first byte z zeros are left, and then come the bits
 pub zeros-paste : (z : ℕ) (bits : List ℕ) → z ≤ 63 → length bits ≡ 8
     → take (z + 9) (paste (0x80 ∷ replicate 71 0) (1 + z) bits 8) ≡ 0x80 ∷ replicate z 0 ++ bits
 zeros-paste z bits h e =

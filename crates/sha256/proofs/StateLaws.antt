@@ -13,7 +13,7 @@ use Rattle.sha256.specs.Sha256.{initial, compressBlocks, over, digest, p
 use Rattle.sha256.specs.State.{begun, pending, remainder, absorbed, finished, Holds, none, more}
 use Rattle.sha256.proofs.BlockLaws.{over-append, digest-length}
 
--- What is left behind the whole blocks
+-- What is left after the whole blocks
 
 pub remainder-length : (s : List ℕ) → length (remainder s) ≡ length s % 64
 unfolding remainder
@@ -51,7 +51,7 @@ pub record Held (m : List ℕ) (s : State) : Type 0 where
   pub rest : pending s ≡ remainder m
   pub count : s .count ≡ length m % 2 ^ 64
 
--- a piece behind the pending bytes is a piece behind the message
+-- a piece after the pending bytes is a piece after the message
 pub over-Held : (m : List ℕ) (s : State) → Held m s → (piece : List ℕ) → over (s .hash) (pending s ++ piece) ≡ over initial (m ++ piece)
 over-Held m s h piece =
     ap (λ (w : Words). over w (pending s ++ piece)) (h .hash)

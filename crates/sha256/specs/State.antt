@@ -13,11 +13,11 @@ begun = record { hash = initial; partial = replicate 64 0; count = 0 }
 unfoldable pub pending : State → List ℕ
 pending s = take (s .count % 64) (s .partial)
 
--- what is left of a byte string behind its whole blocks
+-- what is left of a byte string after its whole blocks
 unfoldable pub remainder : List ℕ → List ℕ
 remainder s = drop (length s / 64 * 64) s
 
--- the state after a piece more: whole blocks go into the hash value, the remainder is kept, with zeros behind
+-- the state after a piece more: whole blocks go into the hash value, the remainder is kept, with zeros after
 unfoldable pub absorbed : State → List ℕ → State
 absorbed s piece =
     let all = pending s ++ piece in

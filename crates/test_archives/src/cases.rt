@@ -81,7 +81,16 @@ pub fn case_at(stored: &[u8], at: usize) -> CaseOutcome
     let numbers_at = prefix.offset + prefix.length;
     let call = byte_at(stored, call_at);
     let stop_given = byte_at(stored, given_at) != 0;
-    case_with(stored, numbers_at, name, call, start, stop_given, stop, prefix)
+    case_with(
+        stored,
+        numbers_at,
+        name,
+        call,
+        start,
+        stop_given,
+        stop,
+        prefix,
+    )
 }
 
 // The case with these strings, whose numbers stand at a position.

@@ -1,5 +1,5 @@
-// Runs the published vectors of CRC-64, SHA-256 and uleb128 and prints what the proved code gives. The file `stdout` beside
-// src/ has the published values.
+// Runs the stored vectors of CRC-64, SHA-256 and uleb128 and prints what the proved code gives. The file `stdout` beside
+// src/ has the values they must give: published ones, and five CRCs made with liblzma (docs/DECISIONS.md).
 ghost use mathlib.Core.Path.{_≡_};
 ghost use Prim.Native.Nat.{min};
 use libc::STDOUT_FILENO;

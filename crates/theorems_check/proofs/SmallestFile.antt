@@ -1,4 +1,4 @@
--- The paper's smallest file keeps the rules: one data block with one empty record, and the root with one entry.
+-- The smallest file of docs/FORMAT.md keeps the rules: one data block with one empty record, and the root with one entry.
 -- Assumes nothing.
 use mathlib.Core.Path.{_≡_, refl}
 use mathlib.Core.List.{List, [], _∷_, flatMap}

@@ -1,4 +1,4 @@
--- The rules of the format, each in the paper's own terms and in no order: what a file of the format is. Nothing here passes over the
+-- The rules of the format, each in the terms of docs/FORMAT.md and in no order: what a file of the format is. Nothing here passes over the
 -- file or scans a payload: blocks tile the file, and items fill a payload. Shared with the check are the value of a number, CRC, SHA, the
 -- order of byte strings, and the descriptions of the tree: `blockLevel`, `namings`, `leaves`, `under`, `recordsOf`, `payloads`.
 use Prim.Native.Nat.{ℕ, _+_, _-_, _^_, _≤_, _<_}

@@ -1,4 +1,4 @@
--- The paper's examples marked P hold: the checker computes both sides of the table.
+-- The examples P1 to P14 of docs/FORMAT.md hold: the checker computes both sides of the table.
 -- Assumes nothing.
 use mathlib.Core.Path.{refl}
 use Rattle.uleb128.specs.Number.{reading, continuing, sevens}

@@ -1,4 +1,4 @@
--- The paper's examples marked P, as one table: a question, and the answer that the paper gives.
+-- The examples P1 to P14 of docs/FORMAT.md as one table: a question, and its answer.
 use Prim.Native.Nat.{ℕ, _-_, _^_}
 use mathlib.Core.List.{List, [], _∷_, map}
 use mathlib.Core.Path.{_≡_}
@@ -58,6 +58,6 @@ table =
     ∷ (openingOf (0xff ∷ []) none (record { start = []; stop = none; prefix = 0xff ∷ 0xff ∷ [] }) gives isOpened true)
     ∷ []
 
--- the definitions answer every question of the table as the paper does
+-- the definitions answer every question of the table so
 unfoldable pub Confirmed : Type 0
 Confirmed = map (λ e. answered (e .question)) table ≡ map (λ e. e .answer) table

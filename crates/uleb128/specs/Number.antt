@@ -13,7 +13,7 @@ pub data Reading : Type 0 where
   number : ℕ → ℕ → Reading
   -- the part ends first
   cutOff : Reading
-  -- the refusal with this number of the paper
+  -- the refusal with this number
   refused : ℕ → Reading
 
 -- how many bytes from 80 hex up stand at the front

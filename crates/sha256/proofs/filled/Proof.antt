@@ -1,4 +1,4 @@
--- The loop's invariant: from `fill` on, the first `i` bytes are those of the piece with zeros behind, and the others are as they were.
+-- The loop's invariant: from `fill` on, the first `i` bytes are those of the piece with zeros after, and the others are as they were.
 use mathlib.Core.Path.{_≡_, _∙_}
 use mathlib.Core.Logic.{⊎-elim}
 use Prim.Native.Nat.{_≤_, _-_}

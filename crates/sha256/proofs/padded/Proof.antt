@@ -1,4 +1,4 @@
--- The loop's invariant: behind the byte 0x80 and the zeros stand the first `i` bytes of `bits`.
+-- The loop's invariant: after the byte 0x80 and the zeros stand the first `i` bytes of `bits`.
 use mathlib.Core.Path.{_≡_, refl, ap, _∙_}
 use mathlib.Core.List.{_∷_}
 use Prim.Native.Nat.{_≤_, _+_, _-_}
