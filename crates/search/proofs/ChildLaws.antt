@@ -10,7 +10,7 @@ use lib.Seq.{length-take-le}
 use Rattle.outcome.specs.Outcome.{Outcome, answer, refused}
 use Rattle.outcome.proofs.OutcomeLaws.{answer-injective, refused-not-answer, bind⁻¹}
 use Rattle.items.specs.Items.{Step, itemsFrom}
-use Rattle.items.proofs.ItemsLaws.{Row, row-end, row-more, items⇒row, row⇒items, items-end}
+use Rattle.items.proofs.ItemsLaws.{Row, row-end, row-more, items⇒row, row⇒items}
 use Rattle.part.specs.declared.Part.{Part}
 use Rattle.part.specs.Part.{part}
 use Rattle.part.proofs.PartLaws.{part-take, lent-part}
@@ -66,8 +66,11 @@ module _ (file : List ℕ) (f : Frame) where
       go : (l : List Entry) → Entries at l → (after : List Entry) × (l ≡ x .item ∷ after) × (entriesFrom file f (x .next) ≡ answer after)
       go l (row-end past) = absurd (omega arith)
       go l (row-more y more h e r) =
-          let same = answer-injective y x (sym e ∙ read) in
-          (more, ap (λ (z : Step Entry). z .item ∷ more) same, subst (λ (z : Step Entry). entriesFrom file f (z .next) ≡ answer more) same (of-row (y .next) more r))
+          let same = answer-injective y x (sym e ∙ read) in (
+            more,
+            ap (λ (z : Step Entry). z .item ∷ more) same,
+            subst (λ (z : Step Entry). entriesFrom file f (z .next) ≡ answer more) same (of-row (y .next) more r),
+          )
 
   -- those of a block that passed its tests
   module _ (b : Block) (e : blockIn file f ≡ answer b) (index : f .level ≡ 0 → ⊥) (ordinary : f .level ≤ 63) where
@@ -98,13 +101,7 @@ module _ (file : List ℕ) (f : Frame) where
   textOf p = record { item = textIn (take (f .end) file) (p .offset) (p .length); next = p .offset + p .length }
 
   module _ (next : ℕ) (above : Bound) where
-    -- no entry is left: the upper bound of the index block
-    pub next-none : f .end ≤ next → (es : List Entry) → entriesFrom file f next ≡ answer es → boundOf file above ≡ nextKey es (boundOf file above)
-    unfolding entriesFrom nextKey
-    next-none h es e =
-        ap (λ (l : List Entry). nextKey l (boundOf file above)) (answer-injective [] es (sym (items-end entryIn (f .end) (f .end - next) next h) ∙ e))
-
-    -- its key can't be read: then there is none
+    -- no key can be read: no entry is left
     pub next-refused : (number place : ℕ) → keyIn next ≡ refused number place
         → (es : List Entry) → entriesFrom file f next ≡ answer es → boundOf file above ≡ nextKey es (boundOf file above)
     unfolding nextKey
@@ -116,37 +113,42 @@ module _ (file : List ℕ) (f : Frame) where
             let r = entry⁻¹ (f .start) (take (f .end) file) next x read in
             absurd (refused-not-answer (r .key) number place (sym unread ∙ r .key-read))
 
-    -- its key was read
+    -- one was read: it is that of the next entry
     module _ (key : Part) (inside : f .end ≤ length file) (read : keyIn next ≡ answer (textOf key)) where
-      key-ends : key .offset + key .length ≤ f .end
+      key-ends : (next < key .offset) × (key .offset + key .length ≤ f .end)
       unfolding textIn
       key-ends =
-          let within = text⇒Placed (f .start) (take (f .end) file) next _ read .within in
+          let placed = text⇒Placed (f .start) (take (f .end) file) next _ read in
+          let within = placed .within in
           let long = length-take-le (f .end) file inside in
-          omega arith
+          (placed .forward, omega arith)
 
       pub next-within : PartWithin file key
       unfolding PartWithin
-      next-within = let ends = key-ends in omega arith
+      next-within = let ends = key-ends .1 in omega arith
 
-      pub next-found : next < f .end → (es : List Entry) → entriesFrom file f next ≡ answer es
+      pub next-found : (es : List Entry) → entriesFrom file f next ≡ answer es
           → boundOf file (record { given = true; key = key }) ≡ nextKey es (boundOf file above)
       unfolding nextKey boundOf given textIn
-      next-found before es e = go es (in-row next es e)
+      next-found es e = go es (in-row next es e)
         where
           go : (l : List Entry) → Entries next l → boundOf file (record { given = true; key = key }) ≡ nextKey l (boundOf file above)
-          go l (row-end past) = absurd (omega arith)
+          go l (row-end past) = let bounds = key-ends in let forward = bounds .0 in let ends = bounds .1 in absurd (omega arith)
           go l (row-more x more h entered rest) =
               let r = entry⁻¹ (f .start) (take (f .end) file) next x entered in
               ap (given true)
-              (sym (part-take file (f .end) (key .offset) (key .length) key-ends)
+              (sym (part-take file (f .end) (key .offset) (key .length) (key-ends .1))
               ∙ ap (λ (k : Step Text). k .item .bytes) (answer-injective (textOf key) (r .key) (sym read ∙ r .key-read))
               ∙ ap (λ (y : Step Entry). y .item .key .bytes) (r .entry-is))
 
   -- ---- an entry that was read
 
+  -- the entry with this key, offset and size
+  abbrev entryOf : Part → (offset size : ℕ) → Entry
+  entryOf key offset size = record { key = textIn (take (f .end) file) (key .offset) (key .length); offset = offset; size = size }
+
   module _ (at : ℕ) (above : Bound) (inside : f .end ≤ length file) (key : Part) (offset size next : ℕ)
-      (read : entryIn at ≡ answer (record { item = record { key = textIn (take (f .end) file) (key .offset) (key .length); offset = offset; size = size }; next = next }))
+      (read : entryIn at ≡ answer (record { item = entryOf key offset size; next = next }))
       (keyed : key .offset + key .length ≤ length (take (f .end) file)) (upper : Bound) (named : Named) where
     abbrev child : Child
     child = record { key = key; upper = upper; named = named }
@@ -176,7 +178,7 @@ module _ (file : List ℕ) (f : Frame) where
           let within = entered .within in
           let some = entries-next at _ (omega arith) read es e in
           record {
-            entry = record { key = textIn (take (f .end) file) (key .offset) (key .length); offset = offset; size = size };
+            entry = entryOf key offset size;
             after = some .0;
             split = some .1;
             rest = some .2;

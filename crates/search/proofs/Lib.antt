@@ -4,4 +4,5 @@ pub mod ChildLaws
 pub mod FindLaws
 pub mod WalkLaws
 pub mod OnwardLaws
+pub mod StepLaws
 pub mod SearchLaws

@@ -182,7 +182,8 @@ module _ (file : List ℕ) (places from : ℕ) (n : Named) where
       subst (IsOpened (length (s .opened))) (answer-injective (all .0 .frame) f (all .2)) (opened⇒IsOpened s (all .0) (all .1))
 
   -- what an opening says after `used` blocks, whatever was opened and found
-  pub said⇒IsOpened : (used : ℕ) (f : Frame) → ((s : Walked) → used ≡ length (s .opened) → answer f ≡ frameOf (openBlock file places from n s)) → IsOpened used f
+  pub said⇒IsOpened : (used : ℕ) (f : Frame) → ((s : Walked) → used ≡ length (s .opened) → answer f ≡ frameOf (openBlock file places from n s))
+      → IsOpened used f
   said⇒IsOpened used f said =
       subst (λ (k : ℕ). IsOpened k f) (length-replicate used 0) (frame⇒IsOpened some f (said some (sym (length-replicate used 0))))
     where

@@ -1,4 +1,4 @@
--- Laws of the walk down from a block: an index block is a way through its entries, a data block adds its matches.
+-- Laws of the walk down from an index block: it is a way through its entries.
 -- Assumes nothing.
 use mathlib.Core.Path.{_≡_, refl, sym, ap, _∙_, subst}
 use mathlib.Core.Bool.{cond}
@@ -13,13 +13,12 @@ use Rattle.payload.specs.Payload.{Entry}
 use Rattle.block.specs.Block.{Block, blockIn}
 use Rattle.query.specs.Query.{Query}
 use Rattle.query.specs.Opening.{mayMatch}
-use Rattle.matching.specs.Matching.{matching}
 use Rattle.search.specs.declared.opening.Named.{Named}
 use Rattle.search.specs.declared.child.Bound.{Bound}
 use Rattle.search.specs.declared.walk.Progress.{Progress}
 use Rattle.search.specs.declared.walk.WalkOutcome.{WalkOutcome}
-use Rattle.search.specs.Search.{Walked, withOpened, nextKey, childNamed, openBlock, addMatches, walkOver, walkOf}
-use Rattle.search.specs.Steps.{boundOf, entriesFrom, ListsHold, Reaches}
+use Rattle.search.specs.Search.{Walked, withOpened, nextKey, childNamed, openBlock, walkOver, walkOf}
+use Rattle.search.specs.Steps.{boundOf, entriesFrom, StaysWithin, WalkAsks, ListsHold, Reaches, WalkSaid}
 use Rattle.search.proofs.ChildLaws.{block-frame, block-entries}
 
 -- ---- through the entries of an index block
@@ -63,28 +62,18 @@ module _ (file : List ℕ) (q : Query) (places room from : ℕ) where
   walk-through f b e index ordinary above s =
       walk-suc (f .level) b above s index ∙ ap (λ (g : Frame). over (g .start) (f .level - 1) above (b .entries) s) (block-frame file f b e index ordinary)
 
--- what a way through its entries says of the walk down from an index block
-pub walk-ends : (file : List ℕ) (q : Query) (from : ℕ) (f : Frame) (above : Bound) (opened₀ results₀ : List ℕ) (p₀ : Progress)
-    → (f .level ≡ 0 → ⊥) → f .level ≤ 63 → f .end ≤ length file
-    → (r : WalkOutcome) (openedNow resultsNow : List ℕ)
+-- what a way through its entries says is what the walk down from an index block says
+pub walk-said : {file : List ℕ} {q : Query} {from : ℕ} {f : Frame} {above : Bound} {p₀ : Progress} {opened₀ results₀ : List ℕ}
+    {r : WalkOutcome} {openedNow resultsNow : List ℕ}
+    → WalkAsks file f above p₀ (length opened₀) (length results₀) → (f .level ≡ 0 → ⊥) → StaysWithin r (length opened₀) (length results₀)
     → ((all : List Entry) (s : Walked) → entriesFrom file f (f .body + 1) ≡ answer all → ListsHold opened₀ results₀ p₀ s
     → Reaches r openedNow resultsNow (through file q (length opened₀) (length results₀) from f (boundOf file above) all s))
-    → (b : Block) (s : Walked) → blockIn file f ≡ answer b → ListsHold opened₀ results₀ p₀ s
-    → Reaches r openedNow resultsNow (walkOf file q (length opened₀) (length results₀) from (f .level) b (boundOf file above) s)
-walk-ends file q from f above opened₀ results₀ p₀ index ordinary inside r openedNow resultsNow ends b s e h =
-    subst (Reaches r openedNow resultsNow)
-    (sym (walk-through file q (length opened₀) (length results₀) from f b e index ordinary (boundOf file above) s))
-    (ends (b .entries) s (block-entries file f b e index ordinary inside) h)
-
--- ---- a data block
-
-pub walk-leaf : (file : List ℕ) (q : Query) (from : ℕ) (f : Frame) (above : Option (List ℕ)) (opened₀ results₀ : List ℕ) (p₀ : Progress)
-    → f .level ≡ 0 → (r : WalkOutcome) (resultsNow : List ℕ)
-    → ((openedList : List ℕ) (b : Block) (s : Walked) → blockIn file f ≡ answer b → f .level ≡ 0 → ListsHold openedList results₀ p₀ s
-    → Reaches r openedList resultsNow (addMatches (length results₀) (matching q (b .records)) s))
-    → (b : Block) (s : Walked) → blockIn file f ≡ answer b → ListsHold opened₀ results₀ p₀ s
-    → Reaches r opened₀ resultsNow (walkOf file q (length opened₀) (length results₀) from (f .level) b above s)
-unfolding walkOf
-walk-leaf file q from f above opened₀ results₀ p₀ zeroth r resultsNow found b s e h =
-    subst (λ (l : ℕ). Reaches r opened₀ resultsNow (walkOf file q (length opened₀) (length results₀) from l b above s)) (sym zeroth)
-    (found opened₀ b s e zeroth h)
+    → WalkSaid file q from f above p₀ opened₀ results₀ r openedNow resultsNow
+walk-said {file} {q} {from} {f} {above} {p₀} {opened₀} {results₀} {r} {openedNow} {resultsNow} asks index stays ends =
+    record {
+      stays = stays;
+      reaches = λ b s e h.
+          subst (Reaches r openedNow resultsNow)
+          (sym (walk-through file q (length opened₀) (length results₀) from f b e index (asks .ordinary) (boundOf file above) s))
+          (ends (b .entries) s (block-entries file f b e index (asks .ordinary) (asks .frame .end)) h);
+    }

@@ -6,7 +6,6 @@ use mathlib.Core.Option.{Option, none, some}
 use lib.Dec.{leb, ltb, eqb}
 use lib.ListN.{length}
 use Rattle.outcome.specs.Outcome.{Outcome, answer, _>>=_, _>>_, must, numberOf, placeOf, countOf, listOf}
-use Rattle.header.specs.declared.Header.{Header}
 use Rattle.header.specs.Header.{headerOf, blocksFrom}
 use Rattle.framing.specs.declared.Frame.{Frame}
 use Rattle.framing.specs.Frame.{soundFrameAt}
@@ -37,7 +36,7 @@ withMatch r s = record { opened = s .opened; matches = s .matches ++ (r ∷ []) 
 -- entry has the upper bound of the index block that it stands in.
 unfoldable pub nextKey : List Entry → Option (List ℕ) → Option (List ℕ)
 nextKey [] above = above
-nextKey (next ∷ back) above = some (next .key .bytes)
+nextKey (next ∷ after) above = some (next .key .bytes)
 
 -- A block as the header or an entry names it is a `Named`: its offset and full size, the least and the largest level that it may have,
 -- and the refusal for a wrong offset, size or level.
@@ -74,7 +73,8 @@ addMatches room (r ∷ rs) s = must (leb (roomFor (length (s .matches) + 1)) roo
 
 -- the entries of an index block in order: the block of an entry is visited where its bounds admit a match; `above` is the index block's
 -- upper bound
-unfoldable pub walkOver : Query → (visit : Entry → Option (List ℕ) → Walked → Outcome Walked) (above : Option (List ℕ)) → List Entry → Walked → Outcome Walked
+unfoldable pub walkOver : Query → (visit : Entry → Option (List ℕ) → Walked → Outcome Walked) (above : Option (List ℕ))
+    → List Entry → Walked → Outcome Walked
 walkOver q visit above [] s = answer s
 walkOver q visit above (e ∷ es) s =
     cond (mayMatch (e .key .bytes) (nextKey es above) q) (visit e (nextKey es above) s) (answer s) >>= walkOver q visit above es
@@ -86,7 +86,8 @@ module _ (file : List ℕ) (q : Query) (places room from : ℕ) where
   walkOf zero b upper s = addMatches room (matching q (b .records)) s
   walkOf (suc level) b upper s =
       walkOver q
-      (λ e bound t. openBlock file places from (childNamed (b .frame .start) level (e .offset) (e .size)) t >>= λ c. walkOf level c bound (withOpened (e .offset) t))
+      (λ e bound t. openBlock file places from (childNamed (b .frame .start) level (e .offset) (e .size)) t
+      >>= λ c. walkOf level c bound (withOpened (e .offset) t))
       upper (b .entries) s
 
   -- down from the root, which has no upper bound

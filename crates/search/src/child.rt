@@ -84,9 +84,6 @@ fn next_key(file: &[u8], f: Frame, next: usize, above: Bound) -> Bound
         → steps.boundOf (now (file .entry)) r ≡ nextKey es (steps.boundOf (now (file .entry)) above)) ⌝ }
 {
     let end = f.end;
-    if end <= next {
-        return above;
-    }
     let text = text_at(&file[..end], next);
     match text {
         TextOutcome::Refused(_) => above,

@@ -1,6 +1,7 @@
 // The index search: the walk down from the root, on any bytes.
 ghost use mathlib.Core.Path.{_≡_};
 ghost use lib.ListN.{length};
+ghost use Rattle.output_list.specs.OutputList.{zeros};
 ghost use Rattle.header.specs.Header.{blocksFrom};
 ghost use Rattle.query.specs.Query.{queryOf};
 ghost use Rattle.search.specs.Search.{walkFrom, searchOf, searchAnswer, openedList, resultList};
@@ -51,8 +52,7 @@ pub fn search(
         (queryOf (now (start .entry)) «stop_given» (now (stop .entry)) (now (prefix .entry)))
         (length (now (opened .entry))) (length (now (results .entry)))) ⌝ }
 {
-    output_list::clear(opened);
-    output_list::clear(results);
+    clear_both(opened, results);
     let reached = search_file(file, start, stop_given, stop, prefix, opened, results);
     match reached {
         WalkOutcome::Answer(p) => Found {
@@ -62,8 +62,7 @@ pub fn search(
             opened: p.used as u64,
         },
         WalkOutcome::Refused(r) => {
-            output_list::clear(opened);
-            output_list::clear(results);
+            clear_both(opened, results);
             Found {
                 number: r.number,
                 place: r.place,
@@ -72,6 +71,14 @@ pub fn search(
             }
         },
     }
+}
+
+// Every place of both lists becomes 0.
+fn clear_both(opened: &mut [u64], results: &mut [u64])
+    ensures { λ _. ⌜ (now (opened .exit) ≡ zeros (length (now (opened .entry)))) × (now (results .exit) ≡ zeros (length (now (results .entry)))) ⌝ }
+{
+    output_list::clear(opened);
+    output_list::clear(results);
 }
 
 // The search with both lists all zeros before; after a refusal they hold anything.

@@ -1,13 +1,8 @@
 // The walk down from an opened block.
 ghost use Prim.Native.Nat.{ℕ, _≤_};
-ghost use mathlib.Core.Path.{_≡_};
 ghost use mathlib.Core.List.{List};
 ghost use lib.ListN.{length};
-ghost use Rattle.outcome.specs.Outcome.{answer};
-ghost use Rattle.block.specs.Block.{Block, blockIn};
 ghost use Rattle.query.specs.Query.{queryOf};
-ghost use Rattle.matching.specs.Matching.{matching};
-ghost use Rattle.search.specs.Search.{Walked, addMatches, walkOf};
 ghost use Rattle.search.specs.Steps as steps;
 use crate::child::Bound;
 use crate::child::ChildOutcome;
@@ -31,8 +26,8 @@ pub enum WalkOutcome {
     Refused(Refusal),
 }
 
-// Walks down from an opened block with the upper bound `above`, after what was opened and found before. A block's level is one more than
-// that of the blocks that its entries name, so the walk ends.
+// Walks down from an opened block with the upper bound `above`, after what was opened and found before. It calls itself on each block that
+// it opens, one level below.
 pub fn walk(
     file: &[u8],
     from: usize,
@@ -47,12 +42,8 @@ pub fn walk(
     p: Progress,
 ) -> WalkOutcome
     requires { ⌜ steps.WalkAsks (now file) f above p (length (now opened)) (length (now results)) ⌝ }
-    ensures { λ r. ⌜ steps.StaysWithin r (length (now (opened .entry))) (length (now (results .entry))) ⌝ }
-    ensures { λ r. ⌜ ((b : Block) (s : Walked) → blockIn (now (file .entry)) f ≡ answer b
-        → steps.ListsHold (now (opened .entry)) (now (results .entry)) p s
-        → steps.Reaches r (now (opened .exit)) (now (results .exit)) (walkOf (now (file .entry))
-        (queryOf (now (start .entry)) «stop_given» (now (stop .entry)) (now (prefix .entry)))
-        (length (now (opened .entry))) (length (now (results .entry))) from (f .level) b (steps.boundOf (now (file .entry)) above) s)) ⌝ }
+    ensures { λ r. ⌜ steps.WalkSaid (now (file .entry)) (queryOf (now (start .entry)) «stop_given» (now (stop .entry)) (now (prefix .entry)))
+        from f above p (now (opened .entry)) (now (results .entry)) r (now (opened .exit)) (now (results .exit)) ⌝ }
 {
     if f.level == 0 {
         return find(file, f, start, stop_given, stop, prefix, results, p);
@@ -69,33 +60,32 @@ pub fn walk(
             continue;
         }
         let opening = open_block(file, from, child.named, opened, so_far.used);
-        match opening {
+        let c = match opening {
+            OpenOutcome::Answer(c) => c,
             OpenOutcome::Refused(r) => return WalkOutcome::Refused(r),
-            OpenOutcome::Answer(c) => {
-                so_far.used += 1;
-                let reached = walk(
-                    file,
-                    from,
-                    c,
-                    child.upper,
-                    start,
-                    stop_given,
-                    stop,
-                    prefix,
-                    opened,
-                    results,
-                    so_far,
-                );
-                let WalkOutcome::Answer(p) = reached else {
-                    return reached;
-                };
-                so_far = p;
-            },
-        }
+        };
+        so_far.used += 1;
+        let reached = walk(
+            file,
+            from,
+            c,
+            child.upper,
+            start,
+            stop_given,
+            stop,
+            prefix,
+            opened,
+            results,
+            so_far,
+        );
+        let WalkOutcome::Answer(p) = reached else {
+            return reached;
+        };
+        so_far = p;
     }
 }
 
-// Puts the matching records of a data block on the result list; 27 where a match finds no room left.
+// The same for a data block: puts its matching records on the result list; 27 where a match finds no room left.
 fn find(
     file: &[u8],
     f: Frame,
@@ -107,12 +97,9 @@ fn find(
     p: Progress,
 ) -> WalkOutcome
     requires { ⌜ steps.FindAsks (now file) f p (length (now results)) ⌝ }
-    ensures { λ r. ⌜ ((openedList : List ℕ) → p .used ≤ length openedList
-        → steps.StaysWithin r (length openedList) (length (now (results .entry)))) ⌝ }
-    ensures { λ r. ⌜ ((openedList : List ℕ) (b : Block) (s : Walked) → blockIn (now (file .entry)) f ≡ answer b → f .level ≡ 0
-        → steps.ListsHold openedList (now (results .entry)) p s
-        → steps.Reaches r openedList (now (results .exit)) (addMatches (length (now (results .entry)))
-        (matching (queryOf (now (start .entry)) «stop_given» (now (stop .entry)) (now (prefix .entry))) (b .records)) s)) ⌝ }
+    ensures { λ r. ⌜ ((openedList : List ℕ) (from : ℕ) (above : Bound) → p .used ≤ length openedList
+        → steps.WalkSaid (now (file .entry)) (queryOf (now (start .entry)) «stop_given» (now (stop .entry)) (now (prefix .entry)))
+        from f above p openedList (now (results .entry)) r openedList (now (results .exit))) ⌝ }
 {
     let first = f.body + 1;
     let end = f.end;

@@ -55,7 +55,7 @@ returns-2 c =
     let made2 = c .before .before .before .before .before .before .before .before .made2 in
     let search-tree = c .before .before .before .before .search-tree in
     header-accepts (now (args .file)) (queryOf (now (args .start)) (args .stop-given) (now (args .stop)) (now (args .prefix))) (length (now
-    (args .opened))) (length (now (args .results))) _ _ _ (sym (read .ensures) ∙ ap headerSaid (made2 .given .1)) _ (search-tree .ensures)
+    (args .opened))) (length (now (args .results))) _ _ (sym (read .ensures) ∙ ap headerSaid (made2 .given .1)) _ (search-tree .ensures)
 
 pub search-file-spec : {M : Type 1} → statement M
 search-file-spec =

@@ -1,9 +1,7 @@
 -- `search_tree` meets its contract: the root, and the walk down from it.
 -- Assumes nothing.
 use denote.Ref.{now}
-use mathlib.Core.Path.{refl}
 use native.Mathlib.Omega.{arith}
-use lib.ListN.{length}
 use Rattle.header.specs.Header.{blocksFrom}
 use Rattle.query.specs.Query.{queryOf}
 use Rattle.search.proofs.SearchLaws.{root-refused, root-asks, root-walked}
@@ -40,10 +38,9 @@ walk-requires c κs =
     let root2 = c .before .before .before .before .root2 in
     let unbounded = c .before .before .unbounded in
     let pre = c .before .before .before .before .before .before .before .before .before .before .before .before .before .before .before .before .before .pre in
-    root-asks (now (args .file)) (queryOf (now (args .start)) (args .stop-given) (now (args .stop)) (now (args .prefix))) (length (now
-    (args .opened))) (length (now (args .results))) _ (args .h .root) (args .h .rootsize) _ (root-named .ensures) _ (open-block .ensures .0)
-    _ (root2 .given .1) (now (args .opened)) _ (now (args .results)) refl (open-block .ensures .1) _ (unbounded .ensures (now (args .file)))
-    (pre .small)
+    root-asks (now (args .file)) (queryOf (now (args .start)) (args .stop-given) (now (args .stop)) (now (args .prefix))) _ (args .h .root)
+    (args .h .rootsize) (now (args .opened)) (now (args .results)) (root-named .ensures) (open-block .ensures .0) (root2 .given .1)
+    (open-block .ensures .1) (unbounded .ensures (now (args .file))) (pre .small)
 
 same-length : tie.Need-same-length
 same-length c = search needs
@@ -54,9 +51,9 @@ returns c =
     let args = c .before .before .before .before .before .before .before .before .before .before .before .before .before .before .args in
     let root-named = c .before .before .before .before .before .before .before .root-named in
     let open-block = c .before .before .before .before .before .open-block in
-    root-refused (now (args .file)) (queryOf (now (args .start)) (args .stop-given) (now (args .stop)) (now (args .prefix))) (length (now
-    (args .opened))) (length (now (args .results))) _ (args .h .root) (args .h .rootsize) _ (root-named .ensures) _ (open-block .ensures .0)
-    _ (c .before .root .given .1) _ _
+    root-refused (now (args .file)) (queryOf (now (args .start)) (args .stop-given) (now (args .stop)) (now (args .prefix))) _
+    (args .h .root) (args .h .rootsize) (now (args .opened)) (now (args .results)) (root-named .ensures) (open-block .ensures .0)
+    (c .before .root .given .1) _ _
 
 same-length-2 : tie.Need-same-length-2
 same-length-2 c = search needs
@@ -74,10 +71,9 @@ returns-2 c =
     let unbounded = c .before .before .before .before .before .before .before .unbounded in
     let pre = c .before .before .before .before .before .before .before .before .before .before .before .before .before .before .before .before .before .before .before .before .before .before .pre in
     let walk = c .before .before .before .before .walk in
-    root-walked (now (args .file)) (queryOf (now (args .start)) (args .stop-given) (now (args .stop)) (now (args .prefix))) (length (now
-    (args .opened))) (length (now (args .results))) _ (args .h .root) (args .h .rootsize) _ (root-named .ensures) _ (open-block .ensures .0)
-    _ (root2 .given .1) (now (args .opened)) _ (now (args .results)) refl (open-block .ensures .1) _ (unbounded .ensures (now (args .file)))
-    (pre .clear) refl _ _ _ (walk .ensures .1)
+    root-walked (now (args .file)) (queryOf (now (args .start)) (args .stop-given) (now (args .stop)) (now (args .prefix))) _
+    (args .h .root) (args .h .rootsize) (now (args .opened)) (now (args .results)) (root-named .ensures) (open-block .ensures .0)
+    (root2 .given .1) (open-block .ensures .1) (unbounded .ensures (now (args .file))) (pre .clear) (walk .ensures)
 
 pub search-tree-spec : {M : Type 1} → statement M
 search-tree-spec =

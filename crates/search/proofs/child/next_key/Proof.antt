@@ -5,21 +5,15 @@ use denote.Ref.{now}
 use lib.ListN.{take}
 use lib.Seq.{length-take-le}
 use Rattle.payload.specs.Answers.{textSaid}
-use Rattle.search.proofs.ChildLaws.{next-none, next-refused, next-within, next-found}
+use Rattle.search.proofs.ChildLaws.{next-refused, next-within, next-found}
 use borrow.Author.Needs.{needs}
 use Rattle.search.proofs.child.next_key.Statement.{statement}
 use Rattle.search.proofs.child.next_key.Tie as tie
 
-returns : tie.Need-returns
-returns c =
-    let pre = c .before .before .pre in
-    let args = c .before .before .args in
-    (pre .bound, next-none (now (args .file)) (args .f) (args .next) (args .above) (c .if1 .taken))
-
 slice-aggregate-text-at : tie.Need-slice-aggregate-text-at
 slice-aggregate-text-at c =
-    let args = c .before .before .before .args in
-    let pre = c .before .before .before .pre in
+    let args = c .before .before .args in
+    let pre = c .before .before .pre in
     sym (length-take-le (args .f .end) (now (args .file)) (pre .end))
 
 text-at-requires : tie.Need-text-at-requires
@@ -31,39 +25,31 @@ enum-told c = search needs
 enum-known-text : tie.Need-enum-known-text
 enum-known-text c = search needs
 
-returns-2 : tie.Need-returns-2
+returns : tie.Need-returns
 unfolding textSaid
-returns-2 c =
-    let pre = c .before .before .before .before .before .before .pre in
-    let args = c .before .before .before .before .before .before .args in
+returns c =
+    let pre = c .before .before .before .before .before .pre in
+    let args = c .before .before .before .before .before .args in
     let text-at = c .before .before .text-at in (
       pre .bound,
       next-refused (now (args .file)) (args .f) (args .next) (args .above) _ _ (sym (text-at .ensures (args .f .start)) ∙ ap
           (textSaid (args .f .start) (take (args .f .end) (now (args .file)))) (c .enum-told .given .1)),
     )
 
-returns-3 : tie.Need-returns-3
+returns-2 : tie.Need-returns-2
 unfolding textSaid
-returns-3 c =
+returns-2 c =
     let text-at = c .before .before .before .text-at in
-    let args = c .before .before .before .before .before .before .before .args in
-    let pre = c .before .before .before .before .before .before .before .pre in
-    let if1 = c .before .before .before .before .before .if1 in
+    let args = c .before .before .before .before .before .before .args in
+    let pre = c .before .before .before .before .before .before .pre in
     let read = sym (text-at .ensures (args .f .start)) ∙ ap (textSaid (args .f .start) (take (args .f .end) (now (args .file))))
     (c .before .text .given .1) in (
       next-within (now (args .file)) (args .f) (args .next) (args .above) _ (pre .end) read,
       next-found (now
-          (args .file)) (args .f) (args .next) (args .above) _ (pre .end) read (if1 .left),
+          (args .file)) (args .f) (args .next) (args .above) _ (pre .end) read,
     )
 
 pub next-key-spec : {M : Type 1} → statement M
 next-key-spec =
     tie.close
-    (tie.spec
-    returns
-    slice-aggregate-text-at
-    text-at-requires
-    enum-told
-    enum-known-text
-    returns-2
-    returns-3)
+    (tie.spec slice-aggregate-text-at text-at-requires enum-told enum-known-text returns returns-2)

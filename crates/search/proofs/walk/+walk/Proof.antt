@@ -1,6 +1,6 @@
 -- `walk` meets its contract: the cycle of one function, whose measure is the block's level. The loop's invariant: going on from here
 -- gives what going through all entries gives. Assumes nothing.
-use mathlib.Core.Path.{sym, _∙_}
+use mathlib.Core.Path.{_∙_}
 use Prim.Native.Nat.{ℕ, _-_, _<_}
 use native.Mathlib.Omega.{arith}
 use borrow.Author.Needs.{needs}
@@ -9,8 +9,8 @@ use borrow.Fn.Kinds.{In}
 use borrow.Fn.PlainCycle.{Measures, is, falls, and}
 use denote.Ref.{now}
 use Rattle.query.specs.Query.{queryOf}
-use Rattle.search.proofs.WalkLaws.{walk-ends, walk-leaf}
-use Rattle.search.proofs.OnwardLaws.{stopped-stays, told-within, Onward, onward-start, onward-stays, onward-end, onward-passed, onward-unopened, child-place, child-asks, onward-stopped, onward-more}
+use Rattle.search.proofs.OnwardLaws.{Onward, onward-start, onward-index, onward-end}
+use Rattle.search.proofs.StepLaws.{told-within, onward-passed, onward-unopened, child-place, child-asks, onward-stopped, onward-more}
 use Rattle.search.proofs.walk.walk.Reads as walk
 use Rattle.search.proofs.walk.walk.Kinds as walk-kinds
 use Rattle.search.proofs.walk.+walk.Lts-walk as walk-lts
@@ -32,11 +32,33 @@ walk-below t = and 6 walk-kinds.ps (falls 6 walk-kinds.ps _<_ μ-walk t) walk.Pr
 
 -- what the calls are known by
 abbrev calls : ℕ → walk-lts.Claims
-calls t = (find-reads.Asked, find-reads.Learnt, child-at-reads.Asked, child-at-reads.Learnt, admits-reads.Asked, admits-reads.Learnt, open-block-reads.Asked, open-block-reads.Learnt, walk-below t, walk.Post)
+calls t = (
+  find-reads.Asked,
+  find-reads.Learnt,
+  child-at-reads.Asked,
+  child-at-reads.Learnt,
+  admits-reads.Asked,
+  admits-reads.Learnt,
+  open-block-reads.Asked,
+  open-block-reads.Learnt,
+  walk-below t,
+  walk.Post,
+)
 
 abbrev walk-Inv-loop : walk-lts.InvT-loop
 walk-Inv-loop file from f above start stop-given stop prefix opened₀ results₀ at₀ so-far₀ opened results at so-far =
-    Onward file (queryOf start stop-given stop prefix) from f above opened₀ results₀ so-far₀ opened results at so-far
+    Onward
+    (record {
+      file = file;
+      query = queryOf start stop-given stop prefix;
+      from = from;
+      frame = f;
+      above = above;
+      opened = opened₀;
+      results = results₀;
+      before = so-far₀;
+    })
+    opened results at so-far
 
 abbrev walk-μ-loop : walk-lts.MeasureT-loop
 walk-μ-loop file from f above start stop-given stop prefix opened₀ results₀ at₀ so-far₀ opened results at so-far = f .end - at
@@ -44,7 +66,7 @@ walk-μ-loop file from f above start stop-given stop prefix opened₀ results₀
 walk-find-requires : (t : ℕ) → walk-lts.Need-find-requires (calls t) (walk-at t) walk.Post walk-Inv-loop walk-μ-loop
 walk-find-requires t c κs =
     let pre = c .before .before .before .before .before .before .before .before .before .pre in
-    record { small = pre .1 .small; frame = pre .1 .frame; fits = pre .1 .fits .found }
+    record { small = pre .1 .small; frame = pre .1 .frame; leaf = c .before .if1 .taken; fits = pre .1 .fits .found }
 
 walk-same-length : (t : ℕ) → walk-lts.Need-same-length (calls t) (walk-at t) walk.Post walk-Inv-loop walk-μ-loop
 walk-same-length t c = search needs
@@ -54,12 +76,7 @@ walk-returns t c =
     let find = c .before .before .find in
     let args = c .before .before .before .before .before .before .before .before .before .before .before .before .args in
     let pre = c .before .before .before .before .before .before .before .before .before .before .before .before .pre in
-    let if1 = c .before .before .before .before .if1 in (
-      find .ensures .0 (now (args .opened)) (pre .1 .fits .opened),
-      walk-leaf (now (args .file)) (queryOf (now (args .start))
-          (args .stop-given) (now (args .stop)) (now (args .prefix))) (args .from) (args .f) _ (now (args .opened)) (now (args .results))
-          (args .p) (if1 .taken) _ _ (find .ensures .1),
-    )
+    find .ensures (now (args .opened)) (args .from) (args .above) (pre .1 .fits .opened)
 
 walk-add-at : (t : ℕ) → walk-lts.Need-add-at (calls t) (walk-at t) walk.Post walk-Inv-loop walk-μ-loop
 walk-add-at t c =
@@ -69,13 +86,10 @@ walk-add-at t c =
 walk-loop-holds : (t : ℕ) → walk-lts.Need-loop-holds (calls t) (walk-at t) walk.Post walk-Inv-loop walk-μ-loop
 walk-loop-holds t c =
     let pre = c .before .before .before .before .before .before .before .before .before .pre in
-    onward-start _ _ _ _ _ _ _ _ (pre .1 .fits)
+    onward-start _ (pre .1) (c .before .if1 .left)
 
 walk-child-at-requires : (t : ℕ) → walk-lts.Need-child-at-requires (calls t) (walk-at t) walk.Post walk-Inv-loop walk-μ-loop
-walk-child-at-requires t c κs =
-    let if1 = c .before .before .if1 in
-    let pre = c .before .before .before .before .before .before .before .before .before .before .pre in
-    let some = if1 .left in record { index = omega arith; end = pre .1 .frame .end; bound = pre .1 .bound }
+walk-child-at-requires t c κs = onward-index (c .loop .inv)
 
 walk-enum-known-entry : (t : ℕ) → walk-lts.Need-enum-known-entry (calls t) (walk-at t) walk.Post walk-Inv-loop walk-μ-loop
 walk-enum-known-entry t c = search needs
@@ -92,47 +106,37 @@ walk-same-length-3 t c = search needs
 walk-returns-2 : (t : ℕ) → walk-lts.Need-returns-2 (calls t) (walk-at t) walk.Post walk-Inv-loop walk-μ-loop
 walk-returns-2 t c =
     let loop = c .before .before .before .loop in
-    let args = c .before .before .before .before .before .before .before .before .before .before .before .before .before .args in
-    let if1 = c .before .before .before .before .before .if1 in
-    let pre = c .before .before .before .before .before .before .before .before .before .before .before .before .before .pre in
-    let child-at = c .before .before .child-at in (
-      onward-stays _ _ _ _ _ _ _ _ _ _ _ _ (loop .inv),
-      walk-ends (now (args .file)) (queryOf (now (args .start)) (args .stop-given) (now
-          (args .stop)) (now (args .prefix))) (args .from) (args .f) (args .above) (now (args .opened)) (now (args .results)) (args .p)
-          (if1 .left) (pre .1 .ordinary) (pre .1 .frame .end) _ _ _ (onward-end _ _ _ _ _ _ _ _ _ _ _ _ (loop .inv) _ (child-at .ensures .0)
-          (child-at .ensures .1) (c .enum-told .given .1)),
-    )
+    let child-at = c .before .before .child-at in
+    onward-end (loop .inv) (child-at .ensures .1) (c .enum-told .given .1)
 
 walk-admits-requires : (t : ℕ) → walk-lts.Need-admits-requires (calls t) (walk-at t) walk.Post walk-Inv-loop walk-μ-loop
 walk-admits-requires t c κs =
-    let args = c .before .before .before .before .before .before .before .before .before .before .before .before .before .before .args in
     let child-at = c .before .before .before .child-at in
-    let within = told-within (now (args .file)) (args .f) _ _ _ _ (c .before .entry .given .1) (child-at .ensures .0) in (
-      within .key,
-      within .upper,
-    )
+    let within = told-within (c .before .entry .given .1) (child-at .ensures .0) in (within .key, within .upper)
 
 walk-loop-less : (t : ℕ) → walk-lts.Need-loop-less (calls t) (walk-at t) walk.Post walk-Inv-loop walk-μ-loop
 walk-loop-less t c =
-    let args = c .before .before .before .before .before .before .before .before .before .before .before .before .before .before .before .before .args in
     let entry = c .before .before .before .entry in
     let child-at = c .before .before .before .before .before .child-at in
-    let within = told-within (now (args .file)) (args .f) _ _ _ _ (entry .given .1) (child-at .ensures .0) in let forward = within .forward
-    in let before = within .before in omega arith
+    let within = told-within (entry .given .1) (child-at .ensures .0) in let forward = within .forward in let before = within .before in
+    omega arith
 
 walk-loop-again : (t : ℕ) → walk-lts.Need-loop-again (calls t) (walk-at t) walk.Post walk-Inv-loop walk-μ-loop
 walk-loop-again t c =
     let loop = c .before .before .before .before .before .before .loop in
     let child-at = c .before .before .before .before .before .child-at in
     let entry = c .before .before .before .entry in
-    onward-passed _ _ _ _ _ _ _ _ _ _ _ _ (loop .inv) _ (child-at .ensures .0) (child-at .ensures .1) _ _ (entry .given .1) (sym
-    (c .before .admits .ensures) ∙ not-true _ (c .if2 .taken))
+    onward-passed (loop .inv) (child-at .ensures .1) (entry .given .1) (child-at .ensures .0) (c .before .admits .ensures) (not-true _
+    (c .if2 .taken))
 
 walk-open-block-requires : (t : ℕ) → walk-lts.Need-open-block-requires (calls t) (walk-at t) walk.Post walk-Inv-loop walk-μ-loop
 walk-open-block-requires t c κs = search needs
 
 walk-enum-known-opening : (t : ℕ) → walk-lts.Need-enum-known-opening (calls t) (walk-at t) walk.Post walk-Inv-loop walk-μ-loop
 walk-enum-known-opening t c = search needs
+
+walk-enum-known-opening-2 : (t : ℕ) → walk-lts.Need-enum-known-opening-2 (calls t) (walk-at t) walk.Post walk-Inv-loop walk-μ-loop
+walk-enum-known-opening-2 t c = search needs
 
 walk-same-length-4 : (t : ℕ) → walk-lts.Need-same-length-4 (calls t) (walk-at t) walk.Post walk-Inv-loop walk-μ-loop
 walk-same-length-4 t c =
@@ -147,25 +151,14 @@ walk-same-length-5 t c =
 
 walk-returns-3 : (t : ℕ) → walk-lts.Need-returns-3 (calls t) (walk-at t) walk.Post walk-Inv-loop walk-μ-loop
 walk-returns-3 t c =
-    let args = c .before .before .before .before .before .before .before .before .before .before .before .before .before .before .before .before .before .before .before .before .before .before .before .args in
-    let if1 = c .before .before .before .before .before .before .before .before .before .before .before .before .before .before .before .if1 in
-    let pre = c .before .before .before .before .before .before .before .before .before .before .before .before .before .before .before .before .before .before .before .before .before .before .before .pre in
     let loop = c .before .before .before .before .before .before .before .before .before .before .before .before .before .loop in
     let child-at = c .before .before .before .before .before .before .before .before .before .before .before .before .child-at in
     let entry = c .before .before .before .before .before .before .before .before .before .before .entry in
     let admits = c .before .before .before .before .before .before .before .before .admits in
     let if2 = c .before .before .before .before .before .before .before .if2 in
-    let open-block = c .before .before .before .before .before .open-block in (
-      stopped-stays _ _ _,
-      walk-ends (now (args .file)) (queryOf (now (args .start)) (args .stop-given) (now (args .stop)) (now
-          (args .prefix))) (args .from) (args .f) (args .above) (now (args .opened)) (now (args .results)) (args .p) (if1 .left)
-          (pre .1 .ordinary) (pre .1 .frame .end) _ _ _ (onward-unopened _ _ _ _ _ _ _ _ _ _ _ _ (loop .inv) _ (child-at .ensures .0)
-          (child-at .ensures .1) _ _ (entry .given .1) (sym (admits .ensures) ∙ not-false _ (if2 .left)) _ (open-block .ensures .0) _
-          (open-block .ensures .1) _ (c .before .opening .given .1) _ _),
-    )
-
-walk-enum-known-opening-2 : (t : ℕ) → walk-lts.Need-enum-known-opening-2 (calls t) (walk-at t) walk.Post walk-Inv-loop walk-μ-loop
-walk-enum-known-opening-2 t c = search needs
+    let open-block = c .before .before .before .before .before .open-block in
+    onward-unopened (loop .inv) (child-at .ensures .1) (entry .given .1) (child-at .ensures .0) (admits .ensures) (not-false _ (if2 .left))
+    (open-block .ensures .0) (open-block .ensures .1) (c .before .opening2 .given .1)
 
 walk-add-so-far : (t : ℕ) → walk-lts.Need-add-so-far (calls t) (walk-at t) walk.Post walk-Inv-loop walk-μ-loop
 walk-add-so-far t c =
@@ -175,26 +168,23 @@ walk-add-so-far t c =
     let admits = c .before .before .before .before .before .before .before .before .before .admits in
     let if2 = c .before .before .before .before .before .before .before .before .if2 in
     let open-block = c .before .before .before .before .before .before .open-block in
-    let opening2 = c .before .before .opening2 in
+    let opening = c .before .before .opening in
     let good = c .before .before .before .before .before .before .before .before .before .before .before .before .before .before .before .before .before .before .before .before .before .before .before .before .good in
-    let few = child-place _ _ _ _ _ _ _ _ _ _ _ _ (loop .inv) _ (child-at .ensures .0) (child-at .ensures .1) _ _ (entry .given .1) (sym
-    (admits .ensures) ∙ not-false _ (if2 .left)) _ (open-block .ensures .0) _ (open-block .ensures .1) _ (opening2 .given .1) in omega
-    (arith, good)
+    let few = child-place (loop .inv) (child-at .ensures .1) (entry .given .1) (child-at .ensures .0) (admits .ensures) (not-false _
+    (if2 .left)) (open-block .ensures .0) (open-block .ensures .1) (opening .given .1) in omega (arith, good)
 
 walk-walk-requires : (t : ℕ) → walk-lts.Need-walk-requires (calls t) (walk-at t) walk.Post walk-Inv-loop walk-μ-loop
 walk-walk-requires t c κs =
     let pre = c .before .before .before .before .before .before .before .before .before .before .before .before .before .before .before .before .before .before .before .before .before .before .before .before .before .before .pre in
-    let if1 = c .before .before .before .before .before .before .before .before .before .before .before .before .before .before .before .before .before .before .if1 in
     let loop = c .before .before .before .before .before .before .before .before .before .before .before .before .before .before .before .before .loop in
     let child-at = c .before .before .before .before .before .before .before .before .before .before .before .before .before .before .before .child-at in
     let entry = c .before .before .before .before .before .before .before .before .before .before .before .before .before .entry in
     let admits = c .before .before .before .before .before .before .before .before .before .before .before .admits in
     let if2 = c .before .before .before .before .before .before .before .before .before .before .if2 in
     let open-block = c .before .before .before .before .before .before .before .before .open-block in
-    let opening2 = c .before .before .before .before .opening2 in
-    let me = pre .0 in let some = if1 .left in let asks = child-asks _ _ _ _ _ _ _ _ _ _ _ _ (loop .inv) _ (child-at .ensures .0)
-    (child-at .ensures .1) _ _ (entry .given .1) (sym (admits .ensures) ∙ not-false _ (if2 .left)) _ (open-block .ensures .0) _
-    (open-block .ensures .1) _ (opening2 .given .1) (omega arith) (pre .1 .ordinary) (pre .1 .small) in let less = asks .0 in (
+    let opening = c .before .before .before .before .opening in
+    let me = pre .0 in let asks = child-asks (loop .inv) (child-at .ensures .1) (entry .given .1) (child-at .ensures .0) (admits .ensures)
+    (not-false _ (if2 .left)) (open-block .ensures .0) (open-block .ensures .1) (opening .given .1) in let less = asks .0 in (
       omega arith,
       asks .1,
     )
@@ -226,27 +216,17 @@ walk-returns-4 t c =
     let admits = c .before .before .before .before .before .before .before .before .before .before .before .before .before .before .before .before .before .before .admits in
     let if2 = c .before .before .before .before .before .before .before .before .before .before .before .before .before .before .before .before .before .if2 in
     let open-block = c .before .before .before .before .before .before .before .before .before .before .before .before .before .before .before .open-block in
-    let opening2 = c .before .before .before .before .before .before .before .before .before .before .before .opening2 in
+    let opening = c .before .before .before .before .before .before .before .before .before .before .before .opening in
     let walk = c .before .before .before .before .before .before .walk in
-    let args = c .before .before .before .before .before .before .before .before .before .before .before .before .before .before .before .before .before .before .before .before .before .before .before .before .before .before .before .before .before .before .before .before .before .args in
-    let if1 = c .before .before .before .before .before .before .before .before .before .before .before .before .before .before .before .before .before .before .before .before .before .before .before .before .before .if1 in
-    let pre = c .before .before .before .before .before .before .before .before .before .before .before .before .before .before .before .before .before .before .before .before .before .before .before .before .before .before .before .before .before .before .before .before .before .pre in
-    let stop = onward-stopped _ _ _ _ _ _ _ _ _ _ _ _ (loop .inv) _ (child-at .ensures .0) (child-at .ensures .1) _ _ (entry .given .1) (sym
-    (admits .ensures) ∙ not-false _ (if2 .left)) _ (open-block .ensures .0) _ (open-block .ensures .1) _ (opening2 .given .1) _ _ _
-    (walk .ensures .1) _ (c .enum-told2 .given .1) in (
-      stop .0,
-      walk-ends (now (args .file)) (queryOf (now (args .start)) (args .stop-given)
-          (now (args .stop)) (now (args .prefix))) (args .from) (args .f) (args .above) (now (args .opened)) (now (args .results)) (args .p)
-          (if1 .left) (pre .1 .ordinary) (pre .1 .frame .end) _ _ _ (stop .1),
-    )
+    onward-stopped (loop .inv) (child-at .ensures .1) (entry .given .1) (child-at .ensures .0) (admits .ensures) (not-false _ (if2 .left))
+    (open-block .ensures .0) (open-block .ensures .1) (opening .given .1) (walk .ensures) (c .enum-told2 .given .1)
 
 walk-loop-less-2 : (t : ℕ) → walk-lts.Need-loop-less-2 (calls t) (walk-at t) walk.Post walk-Inv-loop walk-μ-loop
 walk-loop-less-2 t c =
-    let args = c .before .before .before .before .before .before .before .before .before .before .before .before .before .before .before .before .before .before .before .before .before .before .before .before .before .before .before .before .before .before .before .before .before .before .args in
     let entry = c .before .before .before .before .before .before .before .before .before .before .before .before .before .before .before .before .before .before .before .before .before .entry in
     let child-at = c .before .before .before .before .before .before .before .before .before .before .before .before .before .before .before .before .before .before .before .before .before .before .before .child-at in
-    let within = told-within (now (args .file)) (args .f) _ _ _ _ (entry .given .1) (child-at .ensures .0) in let forward = within .forward
-    in let before = within .before in omega arith
+    let within = told-within (entry .given .1) (child-at .ensures .0) in let forward = within .forward in let before = within .before in
+    omega arith
 
 walk-loop-again-2 : (t : ℕ) → walk-lts.Need-loop-again-2 (calls t) (walk-at t) walk.Post walk-Inv-loop walk-μ-loop
 walk-loop-again-2 t c =
@@ -256,12 +236,11 @@ walk-loop-again-2 t c =
     let admits = c .before .before .before .before .before .before .before .before .before .before .before .before .before .before .before .before .before .before .before .admits in
     let if2 = c .before .before .before .before .before .before .before .before .before .before .before .before .before .before .before .before .before .before .if2 in
     let open-block = c .before .before .before .before .before .before .before .before .before .before .before .before .before .before .before .before .open-block in
-    let opening2 = c .before .before .before .before .before .before .before .before .before .before .before .before .opening2 in
+    let opening = c .before .before .before .before .before .before .before .before .before .before .before .before .opening in
     let walk = c .before .before .before .before .before .before .before .walk in
-    onward-more _ _ _ _ _ _ _ _ _ _ _ _ (loop .inv) _ (child-at .ensures .0) (child-at .ensures .1) _ _ (entry .given .1) (sym
-    (admits .ensures) ∙ not-false _ (if2 .left)) _ (open-block .ensures .0) _ (open-block .ensures .1) _ (opening2 .given .1) _ _ _
-    (walk .ensures .1) _ (c .before .reached .given .1) (walk .ensures .0) (walk .kept .1 .1 .1 .1 .1 .1 .1 .1 .0)
-    (walk .kept .1 .1 .1 .1 .1 .1 .1 .1 .1 .0)
+    onward-more (loop .inv) (child-at .ensures .1) (entry .given .1) (child-at .ensures .0) (admits .ensures) (not-false _ (if2 .left))
+    (open-block .ensures .0) (open-block .ensures .1) (opening .given .1) (walk .ensures) (c .before .reached .given .1)
+    (walk .kept .1 .1 .1 .1 .1 .1 .1 .1 .0) (walk .kept .1 .1 .1 .1 .1 .1 .1 .1 .1 .0)
 
 pub +walk-spec : {M : Type 1} → statement M
 +walk-spec = close μ-walk λ t. walk-lts.spec (calls t)
@@ -285,10 +264,10 @@ pub +walk-spec : {M : Type 1} → statement M
     (walk-loop-again t)
     (walk-open-block-requires t)
     (walk-enum-known-opening t)
+    (walk-enum-known-opening-2 t)
     (walk-same-length-4 t)
     (walk-same-length-5 t)
     (walk-returns-3 t)
-    (walk-enum-known-opening-2 t)
     (walk-add-so-far t)
     (walk-walk-requires t)
     (walk-enum-known-reached t)

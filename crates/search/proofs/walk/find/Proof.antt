@@ -1,14 +1,13 @@
 -- `find` meets its contract: the matching records of the payload, then the test for room.
 -- Assumes nothing.
-use mathlib.Core.Path.{sym, ap, _∙_}
+use mathlib.Core.Path.{sym, _∙_}
 use native.Mathlib.Omega.{arith}
 use denote.Ref.{now}
 use lib.Seq.{length-take-le}
-use borrow.Author.Tests.{not-true, not-false, leb-true, leb-false}
+use borrow.Author.Tests.{not-true, not-false}
 use Rattle.query.specs.Query.{queryOf}
 use Rattle.matching.proofs.ResultListLaws.{roomFor-some}
-use Rattle.search.specs.Steps.{StaysWithin}
-use Rattle.search.proofs.FindLaws.{find-within, find-overflow, find-fit}
+use Rattle.search.proofs.FindLaws.{find-overflow, find-fit}
 use borrow.Author.Needs.{needs}
 use Rattle.search.proofs.walk.find.Statement.{statement}
 use Rattle.search.proofs.walk.find.Tie as tie
@@ -37,32 +36,23 @@ same-length : tie.Need-same-length
 same-length c = search needs
 
 returns : tie.Need-returns
-unfolding StaysWithin
-returns c =
+returns c openedList from above used =
     let args = c .before .before .before .before .before .before .before .before .before .before .before .before .before .before .args in
+    let pre = c .before .before .before .before .before .before .before .before .before .before .before .before .before .before .pre in
     let collect-records = c .before .before .before .before .before .collect-records in
-    let pre = c .before .before .before .before .before .before .before .before .before .before .before .before .before .before .pre in (
-      λ openedList used. tt,
-      λ openedList b s inside level h. find-overflow (now (args .file)) (args .f) (queryOf (now (args .start))
-          (args .stop-given) (now (args .stop)) (now (args .prefix))) (now (args .results)) (args .p) _ _ (collect-records .ensures) openedList b
-          s inside level h (pre .fits) (leb-false _ _ (sym (c .before .has-room .ensures) ∙ not-true _ (c .if1 .taken))),
-    )
+    find-overflow (queryOf (now (args .start)) (args .stop-given) (now (args .stop)) (now (args .prefix))) (now (args .results)) pre
+    (collect-records .ensures) openedList from above used (sym (c .before .has-room .ensures) ∙ not-true _ (c .if1 .taken))
 
 same-length-2 : tie.Need-same-length-2
 same-length-2 c = search needs
 
 returns-2 : tie.Need-returns-2
-returns-2 c =
+returns-2 c openedList from above used =
     let args = c .before .before .before .before .before .before .before .before .before .before .before .before .before .before .args in
+    let pre = c .before .before .before .before .before .before .before .before .before .before .before .before .before .before .pre in
     let collect-records = c .before .before .before .before .before .collect-records in
-    let fits = leb-true _ _ (sym (c .before .has-room .ensures) ∙ not-false _ (c .if1 .left)) in (
-      find-within (now (args .file)) (args .f)
-          (queryOf (now (args .start)) (args .stop-given) (now (args .stop)) (now (args .prefix))) (now (args .results)) (args .p) _ _
-          (collect-records .ensures) fits,
-      λ openedList b s inside level h. find-fit (now (args .file)) (args .f) (queryOf (now (args .start))
-          (args .stop-given) (now (args .stop)) (now (args .prefix))) (now (args .results)) (args .p) _ _ (collect-records .ensures) openedList b
-          s inside level h fits,
-    )
+    find-fit (queryOf (now (args .start)) (args .stop-given) (now (args .stop)) (now (args .prefix))) (now (args .results)) pre
+    (collect-records .ensures) openedList from above used (sym (c .before .has-room .ensures) ∙ not-false _ (c .if1 .left))
 
 pub find-spec : {M : Type 1} → statement M
 find-spec =
