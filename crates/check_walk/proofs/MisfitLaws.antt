@@ -1,7 +1,7 @@
 -- 24: the keys that the walk finds not to fit are those that the key rule refuses, where the records of the file rise.
 -- Assumes nothing.
 use mathlib.Core.Path.{_≡_, refl, sym, ap, _∙_, subst}
-use mathlib.Core.Bool.{Bool, true, false, _&&_, cond}
+use mathlib.Core.Bool.{Bool, true, false, _&&_, cond, and-comm}
 use mathlib.Core.List.{List, [], _∷_, _++_, map, flatMap, append-nil}
 use Prim.Native.Nat.{ℕ, zero, suc}
 use native.Mathlib.Omega.{arith}
@@ -56,7 +56,8 @@ unfolding risingFrom
 rising-left d [] ys h = refl
 rising-left d (x ∷ xs) ys h = go (atMost d (x .bytes)) h (rising-left (x .bytes) xs ys)
   where
-    go : (b : Bool) → (b && risingFrom (x .bytes) (map (λ r. r .bytes) (xs ++ ys))) ≡ true → (risingFrom (x .bytes) (map (λ r. r .bytes) (xs ++ ys)) ≡ true → risingFrom (x .bytes) (map (λ r. r .bytes) xs) ≡ true)
+    go : (b : Bool) → (b && risingFrom (x .bytes) (map (λ r. r .bytes) (xs ++ ys))) ≡ true
+        → (risingFrom (x .bytes) (map (λ r. r .bytes) (xs ++ ys)) ≡ true → risingFrom (x .bytes) (map (λ r. r .bytes) xs) ≡ true)
         → (b && risingFrom (x .bytes) (map (λ r. r .bytes) xs)) ≡ true
     go true k rest = rest k
     go false k rest = k
@@ -73,12 +74,6 @@ all-last key d (x ∷ xs) h = same-tests (all (λ r. atMost (r .bytes) key) (x �
     back : atMost (lastBytes (x .bytes) xs) key ≡ true → all (λ r. atMost (r .bytes) key) (x ∷ xs) ≡ true
     back e = member-all (λ r. atMost (r .bytes) key) (x ∷ xs) (λ r m. atMost-trans (r .bytes) (lastBytes (x .bytes) xs) key (from-each d (x ∷ xs) h r m) e)
 
-and-swap : (a b : Bool) → (a && b) ≡ (b && a)
-and-swap true true = refl
-and-swap true false = refl
-and-swap false true = refl
-and-swap false false = refl
-
 -- the test that the walk makes is the key rule's
 test-same : (file key : List ℕ) (met own : Span) (before : List Text) (first : Text) (rest : List Text) → risingFrom [] (map (λ r. r .bytes) before) ≡ true
     → bytesIn file (met .last) ≡ lastBytes [] before → (d : List ℕ) → Spans file d own (first ∷ rest)
@@ -88,7 +83,7 @@ test-same file key met own before first rest rise last d spans =
     ap (λ (l : List ℕ). atMost l key && atMost key (bytesIn file (own .first))) last
     ∙ ap (λ (l : List ℕ). atMost (lastBytes [] before) key && atMost key l) (spans .1)
     ∙ ap (λ (b : Bool). b && atMost key (first .bytes)) (sym (all-last key [] before rise))
-    ∙ and-swap (all (λ r. atMost (r .bytes) key) before) (atMost key (first .bytes))
+    ∙ and-comm (all (λ r. atMost (r .bytes) key) before) (atMost key (first .bytes))
 
 least-cond : (fits : Bool) (m at : ℕ) → cond fits m (earlier m at) ≡ leastOf m (cond fits [] (at ∷ []))
 unfolding leastOf
@@ -99,7 +94,8 @@ least-cond false m at = refl
 
 module _ (file : List ℕ) (from : ℕ) (bs : List Block) (read : blocksAt file from ≡ answer bs) (root : ℕ) (t : Tree bs root)
     (walked : Ascending (leaves bs (blockLevel bs root) root)) (placed : Ascending (map (λ r. r .at) (recordsOf bs))) (rise : risingFrom [] (map (λ r. r .bytes) (recordsOf bs)) ≡ true) where
-  way-met : (level at : ℕ) → Way bs root level at → (before : Keys) → Met file bs (bytesIn file (before .span .last)) (before .unordered) (leaves bs level at) (keysOf file level at before)
+  way-met : (level at : ℕ) → Way bs root level at → (before : Keys)
+      → Met file bs (bytesIn file (before .span .last)) (before .unordered) (leaves bs level at) (keysOf file level at before)
   way-met level at w before = go (way-block bs root t level at w)
     where
       go : MetBlock bs root t level at → Met file bs (bytesIn file (before .span .last)) (before .unordered) (leaves bs level at) (keysOf file level at before)
@@ -112,7 +108,8 @@ module _ (file : List ℕ) (from : ℕ) (bs : List Block) (read : blocksAt file 
   unfolding under
   way-test level at w key met last = go (under-some bs root t level at w)
     where
-      go : (first : Text) × (rest : List Text) × (under bs level at ≡ first ∷ rest) → fitsBetween file key (met .span) (keysOf file level at met .span) ≡ keyFits bs key (under bs level at)
+      go : (first : Text) × (rest : List Text) × (under bs level at ≡ first ∷ rest)
+          → fitsBetween file key (met .span) (keysOf file level at met .span) ≡ keyFits bs key (under bs level at)
       go (first, rest, own) =
           test-same file key (met .span) (keysOf file level at met .span) (pre bs root level at w) first rest
           (rising-left [] (pre bs root level at w) _ (subst (λ (rs : List Text). risingFrom [] (map (λ r. r .bytes) rs) ≡ true) (records-cut bs root t walked level at w) rise))

@@ -6,6 +6,7 @@ ghost use Rattle.byte_string.specs.Order.{atMost};
 ghost use Rattle.check_walk.specs.Lookup.{bytesIn, recordsIn};
 ghost use Rattle.check_walk.specs.Keys as defs;
 use crate::lookup::payload_at;
+use byte_string::at_most;
 use part::Part;
 use payload::EntryOutcome;
 use payload::TextOutcome;
@@ -72,7 +73,7 @@ fn span_at(file: &[u8], at: usize) -> Span
 }
 
 // Whether a byte string of the file is at most another.
-fn at_most(file: &[u8], x: Part, y: Part) -> bool
+fn part_at_most(file: &[u8], x: Part, y: Part) -> bool
     requires { ⌜ (x .offset + x .length ≤ length (now file)) × (y .offset + y .length ≤ length (now file)) ⌝ }
     ensures { λ r. ⌜ r ≡ atMost (bytesIn (now (file .entry)) x) (bytesIn (now (file .entry)) y) ⌝ }
 {
@@ -80,7 +81,7 @@ fn at_most(file: &[u8], x: Part, y: Part) -> bool
     let b = a + x.length;
     let c = y.offset;
     let d = c + y.length;
-    byte_string::at_most(&file[a..b], &file[c..d])
+    at_most(&file[a..b], &file[c..d])
 }
 
 // A data block: it is out of order where its first record is below the last one before.
@@ -100,7 +101,7 @@ fn leaf_keys(file: &[u8], at: usize, before: Keys) -> Keys
     let met = before.span;
     let last = met.last;
     let first = own.first;
-    if at_most(file, last, first) {
+    if part_at_most(file, last, first) {
         return Keys {
             span: own,
             unordered: 0,
@@ -121,8 +122,8 @@ fn fits_between(file: &[u8], key: Part, before: Span, child: Span) -> bool
 {
     let last = before.last;
     let first = child.first;
-    if at_most(file, last, key) {
-        return at_most(file, key, first);
+    if part_at_most(file, last, key) {
+        return part_at_most(file, key, first);
     }
     false
 }

@@ -15,6 +15,7 @@ use check_walk::check_walk;
 use header::Header;
 use header::HeaderOutcome;
 use outcome::Refusal;
+use output_list::clear;
 
 // Number and place of a refusal, both 0 without one, and how many ordinary blocks and records the file has, both 0 after one.
 #[repr(C)]
@@ -42,7 +43,7 @@ pub fn check(file: &[u8], work: &mut [u64]) -> Checked
     ensures { λ r. ⌜ now (work .exit) ≡ zeros (length (now (work .entry))) ⌝ }
 {
     let found = check_file(file, work);
-    output_list::clear(work);
+    clear(work);
     found
 }
 

@@ -5,27 +5,27 @@ use Rattle.check_walk.proofs.KeyLaws.{both-true, both-false}
 use Rattle.check_walk.proofs.keys.fits_between.Statement.{statement}
 use Rattle.check_walk.proofs.keys.fits_between.Tie as tie
 
-at-most-requires : tie.Need-at-most-requires
+part-at-most-requires : tie.Need-part-at-most-requires
 unfolding Within
-at-most-requires c κs =
+part-at-most-requires c κs =
     let pre = c .before .before .before .pre in
     (pre .1 .1, pre .0)
 
-at-most-requires-2 : tie.Need-at-most-requires-2
+part-at-most-requires-2 : tie.Need-part-at-most-requires-2
 unfolding Within
-at-most-requires-2 c κs =
+part-at-most-requires-2 c κs =
     let pre = c .before .before .before .before .before .pre in
     (pre .0, pre .2 .0)
 
 returns : tie.Need-returns
 unfolding fitsBetween
 returns c =
-    let at-most = c .before .before .at-most in
-    both-true _ _ _ (sym (at-most .ensures) ∙ c .before .if1 .taken) (c .at-most2 .ensures)
+    let part-at-most = c .before .before .part-at-most in
+    both-true _ _ _ (sym (part-at-most .ensures) ∙ c .before .if1 .taken) (c .part-at-most2 .ensures)
 
 returns-2 : tie.Need-returns-2
 unfolding fitsBetween
-returns-2 c = both-false _ _ (sym (c .before .at-most .ensures) ∙ c .if1 .left)
+returns-2 c = both-false _ _ (sym (c .before .part-at-most .ensures) ∙ c .if1 .left)
 
 pub fits-between-spec : {M : Type 1} → statement M
-fits-between-spec = tie.close (tie.spec at-most-requires at-most-requires-2 returns returns-2)
+fits-between-spec = tie.close (tie.spec part-at-most-requires part-at-most-requires-2 returns returns-2)

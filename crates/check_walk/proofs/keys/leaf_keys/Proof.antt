@@ -15,9 +15,9 @@ returns c =
     let span-at = c .before .before .span-at in
     leaf-before (now (args .file)) (args .at) (args .before) _ (span-at .ensures) (c .if1 .taken)
 
-at-most-requires : tie.Need-at-most-requires
+part-at-most-requires : tie.Need-part-at-most-requires
 unfolding Within
-at-most-requires c κs =
+part-at-most-requires c κs =
     let pre = c .before .before .before .before .before .before .before .pre in
     let args = c .before .before .before .before .before .before .before .args in
     let span-at = c .before .before .before .before .before .span-at in
@@ -28,7 +28,7 @@ returns-2 c =
     let args = c .before .before .before .before .before .before .before .before .before .args in
     let span-at = c .before .before .before .before .before .before .before .span-at in
     let if1 = c .before .before .before .before .before .if1 in
-    leaf-ordered (now (args .file)) (args .at) (args .before) _ (span-at .ensures) (if1 .left) _ (c .before .at-most .ensures)
+    leaf-ordered (now (args .file)) (args .at) (args .before) _ (span-at .ensures) (if1 .left) _ (c .before .part-at-most .ensures)
     (c .if2 .taken)
 
 returns-3 : tie.Need-returns-3
@@ -36,8 +36,8 @@ returns-3 c =
     let args = c .before .before .before .before .before .before .before .before .before .args in
     let span-at = c .before .before .before .before .before .before .before .span-at in
     let if1 = c .before .before .before .before .before .if1 in
-    leaf-unordered (now (args .file)) (args .at) (args .before) _ (span-at .ensures) (if1 .left) _ (c .before .at-most .ensures)
+    leaf-unordered (now (args .file)) (args .at) (args .before) _ (span-at .ensures) (if1 .left) _ (c .before .part-at-most .ensures)
     (c .if2 .left)
 
 pub leaf-keys-spec : {M : Type 1} → statement M
-leaf-keys-spec = tie.close (tie.spec span-at-requires returns at-most-requires returns-2 returns-3)
+leaf-keys-spec = tie.close (tie.spec span-at-requires returns part-at-most-requires returns-2 returns-3)

@@ -1,9 +1,9 @@
--- `at_most` meets its contract: the parts that are lent are the byte strings. Assumes nothing.
+-- `part_at_most` meets its contract: the parts that are lent are the byte strings. Assumes nothing.
 use borrow.Author.Needs.{needs}
 use denote.Ref.{now}
 use Rattle.check_walk.proofs.KeyLaws.{lent-at-most}
-use Rattle.check_walk.proofs.keys.at_most.Statement.{statement}
-use Rattle.check_walk.proofs.keys.at_most.Tie as tie
+use Rattle.check_walk.proofs.keys.part_at_most.Statement.{statement}
+use Rattle.check_walk.proofs.keys.part_at_most.Tie as tie
 
 add-b : tie.Need-add-b
 add-b c = search needs
@@ -37,8 +37,8 @@ returns c =
     let args = c .before .before .before .before .before .before .args in
     lent-at-most (now (args .file)) (args .x) (args .y) _ (c .at-most .ensures)
 
-pub at-most-spec : {M : Type 1} → statement M
-at-most-spec =
+pub part-at-most-spec : {M : Type 1} → statement M
+part-at-most-spec =
     tie.close
     (tie.spec
     add-b
