@@ -80,7 +80,8 @@ module _ (file : List ℕ) (from at : ℕ) (s : State) (p : Passed file from at 
   pub passed-refused : at < length file → (number place : ℕ) → frameAt file at ≡ refused number place → Holds (payloads file (laidFrom file from)) s
   passed-refused h number place e = all-seen (going-refused _ _ _ _ at (p .seen) h (p .going) number place (laid-refused file at number place e))
 
-  pub passed-more : at < length file → (f : Frame) → frameAt file at ≡ answer f → (next : State) → next ≡ stateAfter file s f → Passed file from (at + f .size) next
+  pub passed-more : at < length file → (f : Frame) → frameAt file at ≡ answer f → (next : State) → next ≡ stateAfter file s f
+      → Passed file from (at + f .size) next
   unfolding laidIn
   passed-more h f e next same =
       let l = frame⇒Framed file at f e in
@@ -129,7 +130,8 @@ laid-short file (suc fuel) at = by-end (leb (length file) at) refl (laid-short f
     by-frame h (answer f) e ih =
         subst Short (sym (sound-step (laidAt file) (length file) fuel at (record { item = laidIn file f; next = at + f .size }) h (laid-found file at f e))) (both f (frame⇒Framed file at f e) (ih (at + f .size)))
       where
-        both : (f : Frame) → Framed file at f → length (payloads file (soundFrom (laidAt file) (length file) fuel (at + f .size))) ≤ length file - (at + f .size)
+        both : (f : Frame) → Framed file at f
+            → length (payloads file (soundFrom (laidAt file) (length file) fuel (at + f .size))) ≤ length file - (at + f .size)
             → Short (laidIn file f ∷ soundFrom (laidAt file) (length file) fuel (at + f .size))
         both f l rest =
             let own = payload-short file at f l in
@@ -173,7 +175,8 @@ module _ (file : List ℕ) (from : ℕ) where
   hash-long h = broken (leb (length file) (2 ^ 30)) 1 0 (hashRuleOf file (laidFrom file from)) (lt-leb _ _ h)
 
   -- the test decides
-  pub hash-tested : length file ≤ 2 ^ 30 → (right : Bool) → right ≡ begins (sha256 (payloads file (laidFrom file from))) (drop 40 file) → hashOf file from ≡ must right 25 0
+  pub hash-tested : length file ≤ 2 ^ 30 → (right : Bool) → right ≡ begins (sha256 (payloads file (laidFrom file from))) (drop 40 file)
+      → hashOf file from ≡ must right 25 0
   unfolding hashOf hashRuleOf
   hash-tested short right e = kept (leb (length file) (2 ^ 30)) 1 0 _ (le-leb _ _ short) ∙ ap (λ (b : Bool). must b 25 0) (sym e)
 

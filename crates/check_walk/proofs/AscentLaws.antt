@@ -46,7 +46,8 @@ pub ascent-leaf : (file : List ℕ) (level at least : ℕ) → level ≡ 0 → l
 unfolding ascentOf
 ascent-leaf file level at least e = ap (λ (l : ℕ). ascentOf file l at least) (sym e)
 
-pub ascent-index : (file : List ℕ) (level at least : ℕ) → (level ≡ 0 → ⊥) → ascentOf file level at least ≡ ascentOver (ascentOf file (level - 1)) (entriesIn file at) least
+pub ascent-index : (file : List ℕ) (level at least : ℕ) → (level ≡ 0 → ⊥)
+    → ascentOf file level at least ≡ ascentOver (ascentOf file (level - 1)) (entriesIn file at) least
 unfolding ascentOf
 ascent-index file zero at least h = absurd (h refl)
 ascent-index file (suc level) at least h = let one : level ≡ suc level - 1 = omega arith in ap (λ (l : ℕ). ascentOver (ascentOf file l) (entriesIn file at) least) one
@@ -62,11 +63,13 @@ pub over-end : (child : ℕ → ℕ → Outcome ℕ) (least : ℕ) → ascentOve
 unfolding ascentOver
 over-end child least = refl
 
-pub over-risen : (child : ℕ → ℕ → Outcome ℕ) (e : Entry) (least next : ℕ) → child (e .offset) least ≡ answer next → (more : List Entry) → ascentOver child (e ∷ more) least ≡ ascentOver child more next
+pub over-risen : (child : ℕ → ℕ → Outcome ℕ) (e : Entry) (least next : ℕ) → child (e .offset) least ≡ answer next → (more : List Entry)
+    → ascentOver child (e ∷ more) least ≡ ascentOver child more next
 unfolding ascentOver
 over-risen child e least next h more = bind-answer (child (e .offset) least) (ascentOver child more) next h
 
-pub over-fallen : (child : ℕ → ℕ → Outcome ℕ) (e : Entry) (least number place : ℕ) → child (e .offset) least ≡ refused number place → (more : List Entry) → ascentOver child (e ∷ more) least ≡ refused number place
+pub over-fallen : (child : ℕ → ℕ → Outcome ℕ) (e : Entry) (least number place : ℕ) → child (e .offset) least ≡ refused number place
+    → (more : List Entry) → ascentOver child (e ∷ more) least ≡ refused number place
 unfolding ascentOver
 over-fallen child e least number place h more = bind-refused (child (e .offset) least) (ascentOver child more) number place h
 
@@ -81,7 +84,8 @@ unfolding ascendingTo ascending _>>_ must
 ascendingTo-done least [] = refl
 ascendingTo-done least (at ∷ rest) = go (leb least at) (ascendingTo-done (suc at) rest)
   where
-    go : (b : Bool) → (ascendingTo (suc at) rest >> answer tt) ≡ ascending (suc at) rest → ((must b 22 at >> ascendingTo (suc at) rest) >> answer tt) ≡ (must b 22 at >> ascending (suc at) rest)
+    go : (b : Bool) → (ascendingTo (suc at) rest >> answer tt) ≡ ascending (suc at) rest
+        → ((must b 22 at >> ascendingTo (suc at) rest) >> answer tt) ≡ (must b 22 at >> ascending (suc at) rest)
     go true ih = ih
     go false ih = refl
 
@@ -118,7 +122,8 @@ over-leaves bs level child (e ∷ es) h least =
 
 module _ (file : List ℕ) (from : ℕ) (bs : List Block) (read : blocksAt file from ≡ answer bs) (root : ℕ) (t : Tree bs root) where
   -- the entries that the walk reads are the tree's
-  pub walk-entries : (b : Block) → List·Memᴰ b bs → 1 ≤ b .frame .level → b .frame .level ≤ 63 → entriesIn file (b .frame .start) ≡ blockEntries bs (b .frame .start)
+  pub walk-entries : (b : Block) → List·Memᴰ b bs → 1 ≤ b .frame .level → b .frame .level ≤ 63
+      → entriesIn file (b .frame .start) ≡ blockEntries bs (b .frame .start)
   walk-entries b m some few = entries-again file (b .frame .start) b (blocks-read file from bs read b m .read) some few ∙ sym (entries-at bs root t b m)
 
   ascentTo-leaves : (level : ℕ) (b : Block) → List·Memᴰ b bs → b .frame .level ≡ level → level ≤ 63 → (least : ℕ)

@@ -32,7 +32,8 @@ earlier-one : (m x : ℕ) → x ≢ 0 → (earlier m x ≢ 0) × ((earlier m x �
 unfolding earlier
 earlier-one m x h = go (eqb m 0) refl (ltb x m) refl
   where
-    go : (a : Bool) → eqb m 0 ≡ a → (b : Bool) → ltb x m ≡ b → (cond (a || b) x m ≢ 0) × ((cond (a || b) x m ≡ m) ⊎ (cond (a || b) x m ≡ x)) × (cond (a || b) x m ≤ x) × (m ≢ 0 → cond (a || b) x m ≤ m)
+    go : (a : Bool) → eqb m 0 ≡ a → (b : Bool) → ltb x m ≡ b
+        → (cond (a || b) x m ≢ 0) × ((cond (a || b) x m ≡ m) ⊎ (cond (a || b) x m ≡ x)) × (cond (a || b) x m ≤ x) × (m ≢ 0 → cond (a || b) x m ≤ m)
     go true p b q = (h, inr refl, omega arith, λ some. absurd (some (eqb-true m 0 p)))
     go false p true q = let less = ltb-true x m q in (h, inr refl, omega arith, λ some. omega arith)
     go false p false q = let more = ltb-false x m q in (eqb-false m 0 p, inl refl, omega arith, λ some. omega arith)
@@ -78,7 +79,8 @@ pub record First (rule : Block → Bool) (xs : List Block) (m : ℕ) : Type 0 wh
   pub broken-by : m ≢ 0 → (x : Block) × List·Memᴰ x xs × (x .frame .start ≡ m) × (rule x ≡ false)
   pub least : (x : Block) → List·Memᴰ x xs → rule x ≡ false → m ≤ x .frame .start
 
-pub each-first : (rule : Block → Bool) (number : ℕ) (xs : List Block) (m : ℕ) → Ascending (map (λ x. x .frame .start) xs) → ((x : Block) → List·Memᴰ x xs → x .frame .start ≢ 0) → First rule xs m
+pub each-first : (rule : Block → Bool) (number : ℕ) (xs : List Block) (m : ℕ) → Ascending (map (λ x. x .frame .start) xs)
+    → ((x : Block) → List·Memᴰ x xs → x .frame .start ≢ 0) → First rule xs m
     → each rule number xs ≡ placeSaid number m
 unfolding each Ascending
 each-first rule number [] m rise some f = go (eqb m 0) refl
@@ -94,7 +96,8 @@ each-first rule number (x ∷ xs) m rise some f = go (rule x) refl (each-first r
     rest : rule x ≡ true → First rule xs m
     rest e = record { none = λ z y i. f .none z y (List·Memᴰ·tail i); broken-by = λ h. by (f .broken-by h); least = λ y i k. f .least y (List·Memᴰ·tail i) k }
       where
-        by : (y : Block) × List·Memᴰ y (x ∷ xs) × (y .frame .start ≡ m) × (rule y ≡ false) → (y : Block) × List·Memᴰ y xs × (y .frame .start ≡ m) × (rule y ≡ false)
+        by : (y : Block) × List·Memᴰ y (x ∷ xs) × (y .frame .start ≡ m) × (rule y ≡ false)
+            → (y : Block) × List·Memᴰ y xs × (y .frame .start ≡ m) × (rule y ≡ false)
         by (y, i, s, k) = at (List·Memᴰ·cases-cons i)
           where
             at : (y ≡ x) ⊎ List·Memᴰ y xs → (z : Block) × List·Memᴰ z xs × (z .frame .start ≡ m) × (rule z ≡ false)
@@ -112,7 +115,8 @@ each-first rule number (x ∷ xs) m rise some f = go (rule x) refl (each-first r
         go true p = absurd (false-not-true (sym e ∙ f .none (eqb-true m 0 p) x (List·Memᴰ·head refl)))
         go false p = let w = f .broken-by (eqb-false m 0 p) in at (w .0) (List·Memᴰ·cases-cons (w .1)) (w .2)
 
-    go : (b : Bool) → rule x ≡ b → (First rule xs m → each rule number xs ≡ placeSaid number m) → (must (rule x) number (x .frame .start) >> each rule number xs) ≡ placeSaid number m
+    go : (b : Bool) → rule x ≡ b → (First rule xs m → each rule number xs ≡ placeSaid number m)
+        → (must (rule x) number (x .frame .start) >> each rule number xs) ≡ placeSaid number m
     go true e ih = kept (rule x) number (x .frame .start) (each rule number xs) e ∙ ih (rest e)
     go false e ih =
         broken (rule x) number (x .frame .start) (each rule number xs) e
@@ -126,7 +130,8 @@ unfolding all
 not-all test [] h = absurd (false-not-true (sym h))
 not-all {A} test (x ∷ xs) h = go (test x) refl h (not-all test xs)
   where
-    go : (b : Bool) → test x ≡ b → (b && all test xs) ≡ false → (all test xs ≡ false → (y : A) × List·Memᴰ y xs × (test y ≡ false)) → (y : A) × List·Memᴰ y (x ∷ xs) × (test y ≡ false)
+    go : (b : Bool) → test x ≡ b → (b && all test xs) ≡ false → (all test xs ≡ false → (y : A) × List·Memᴰ y xs × (test y ≡ false))
+        → (y : A) × List·Memᴰ y (x ∷ xs) × (test y ≡ false)
     go true e k rest = let r = rest k in (r .0, List·Memᴰ·tail (r .1), r .2)
     go false e k rest = (x, List·Memᴰ·head refl, e)
 
@@ -146,7 +151,8 @@ pub record Misfit (bs : List Block) (y : ℕ) : Type 0 where
   pub wrong : keysFit bs block ≡ false
 
 module _ (bs : List Block) (root : ℕ) (t : Tree bs root) where
-  at-entry : (level at : ℕ) → Met bs root t (suc level) at → (e : Entry) → List·Memᴰ e (blockEntries bs at) → (y : ℕ) → List·Memᴰ y (misfitOf bs level at e) → Misfit bs y
+  at-entry : (level at : ℕ) → Met bs root t (suc level) at → (e : Entry) → List·Memᴰ e (blockEntries bs at) → (y : ℕ)
+      → List·Memᴰ y (misfitOf bs level at e) → Misfit bs y
   unfolding keysFit
   at-entry level at b e i y n = go (keyFits bs (e .key .bytes) (under bs level (e .offset))) refl n
     where
@@ -187,7 +193,8 @@ module _ (bs : List Block) (root : ℕ) (t : Tree bs root) where
       (Memᴰ·append-left (misfitOf bs level upper e) (subst (λ (o : ℕ). List·Memᴰ y (misfits bs level o)) q n)))
 
   -- a block whose keys do not all fit is among its own misfits
-  own-misfit : (level : ℕ) (c : Block) → List·Memᴰ c bs → c .frame .level ≡ level → keysFit bs c ≡ false → List·Memᴰ (c .frame .start) (misfits bs level (c .frame .start))
+  own-misfit : (level : ℕ) (c : Block) → List·Memᴰ c bs → c .frame .level ≡ level → keysFit bs c ≡ false
+      → List·Memᴰ (c .frame .start) (misfits bs level (c .frame .start))
   unfolding keysFit misfits
   own-misfit zero c m here wrong = let f = not-all _ (c .entries) wrong in absurd (List·Memᴰ·not-nil (subst (List·Memᴰ (f .0)) (t .data-no-entries c m here) (f .1)))
   own-misfit (suc level) c m here wrong =
@@ -198,11 +205,13 @@ module _ (bs : List Block) (root : ℕ) (t : Tree bs root) where
       (Memᴰ·append-right (misfits bs level (f .0 .offset))
       (subst (λ (b : Bool). List·Memᴰ at (cond b [] (at ∷ []))) (sym (ap (λ (l : ℕ). keyFits bs (f .0 .key .bytes) (under bs l (f .0 .offset))) (sym lower) ∙ f .2)) (List·Memᴰ·head refl)))
 
-  pub wrong-misfits : (c : Block) → List·Memᴰ c bs → c .frame .level ≤ 63 → keysFit bs c ≡ false → List·Memᴰ (c .frame .start) (misfits bs (blockLevel bs root) root)
+  pub wrong-misfits : (c : Block) → List·Memᴰ c bs → c .frame .level ≤ 63 → keysFit bs c ≡ false
+      → List·Memᴰ (c .frame .start) (misfits bs (blockLevel bs root) root)
   wrong-misfits c m few wrong = misfits-within (c .frame .level) (c .frame .start) (block-way bs root t c m few) (c .frame .start) (own-misfit (c .frame .level) c m refl wrong)
 
   -- 24 over the ordinary blocks in file order
-  pub keys-first : ((b : Block) → List·Memᴰ b bs → b .frame .start ≢ 0) → each (keysFit bs) 24 (ordinary bs) ≡ placeSaid 24 (leastOf 0 (misfits bs (blockLevel bs root) root))
+  pub keys-first : ((b : Block) → List·Memᴰ b bs → b .frame .start ≢ 0)
+      → each (keysFit bs) 24 (ordinary bs) ≡ placeSaid 24 (leastOf 0 (misfits bs (blockLevel bs root) root))
   unfolding ordinary isOrdinary
   keys-first some =
       each-first (keysFit bs) 24 (ordinary bs) l (ascending-keep (λ b. b .frame .start) (λ b. isOrdinary (b .frame .level)) bs (t .rise))

@@ -142,7 +142,8 @@ pub keys-leaf : (file : List ℕ) (level at : ℕ) (before : Keys) → level ≡
 unfolding keysOf
 keys-leaf file level at before e = ap (λ (l : ℕ). keysOf file l at before) (sym e)
 
-pub keys-index : (file : List ℕ) (level at : ℕ) (before : Keys) → (level ≡ 0 → ⊥) → keysOf file level at before ≡ overKeys file at (keysOf file (level - 1)) (entriesIn file at) (keysEntering before)
+pub keys-index : (file : List ℕ) (level at : ℕ) (before : Keys) → (level ≡ 0 → ⊥)
+    → keysOf file level at before ≡ overKeys file at (keysOf file (level - 1)) (entriesIn file at) (keysEntering before)
 unfolding keysOf
 keys-index file zero at before h = absurd (h refl)
 keys-index file (suc level) at before h = let one : level ≡ suc level - 1 = omega arith in ap (λ (l : ℕ). overKeys file at (keysOf file l) (entriesIn file at) (keysEntering before)) one
@@ -165,7 +166,8 @@ over-keys-end file at child met = refl
 -- an entry whose key was read in what comes before the payload's end
 pub over-key : (file : List ℕ) (at end : ℕ) (child : ℕ → Keys → Keys) (key : Part) (offset size : ℕ) (met own next : Keys) → endOf key ≤ end
     → own ≡ child offset met → next ≡ entryKeys file at (bytesIn file key) met own
-    → (more : List Entry) → overKeys file at child (record { key = textIn (take end file) (key .offset) (key .length); offset = offset; size = size } ∷ more) met ≡ overKeys file at child more next
+    → (more : List Entry)
+    → overKeys file at child (record { key = textIn (take end file) (key .offset) (key .length); offset = offset; size = size } ∷ more) met ≡ overKeys file at child more next
 unfolding overKeys textIn bytesIn
 over-key file at end child key offset size met own next inside walked e more =
     ap (λ (k : List ℕ). overKeys file at child more (entryKeys file at k met (child offset met))) (part-take file end (key .offset) (key .length) inside)
@@ -181,12 +183,14 @@ entering-within file before h = (omega arith, h .1)
 pub met-within : (file : List ℕ) (before met : Keys) → met ≡ keysEntering before → Within file (before .span) → Within file (met .span)
 met-within file before met e h = subst (λ (k : Keys). Within file (k .span)) (sym e) (entering-within file before h)
 
-pub entry-keys-within : (file : List ℕ) (at : ℕ) (key : List ℕ) (before child : Keys) → Within file (before .span) → Within file (child .span) → Within file (entryKeys file at key before child .span)
+pub entry-keys-within : (file : List ℕ) (at : ℕ) (key : List ℕ) (before child : Keys) → Within file (before .span) → Within file (child .span)
+    → Within file (entryKeys file at key before child .span)
 unfolding entryKeys
 entry-keys-within file at key before child h k = joined-within file (before .span) (child .span) h k
 
 -- records that were read lie within the file
-one-within : (file : List ℕ) (place end at : ℕ) (x : Step Text) → end ≤ length file → textAt place (take end file) at ≡ answer x → Within file (spanOne (x .item))
+one-within : (file : List ℕ) (place end at : ℕ) (x : Step Text) → end ≤ length file → textAt place (take end file) at ≡ answer x
+    → Within file (spanOne (x .item))
 unfolding spanOne Within
 one-within file place end at x inside e =
     let p = text⇒Placed place (take end file) at x e in
@@ -196,12 +200,14 @@ one-within file place end at x inside e =
     let all = length-take-le end file inside in
     (omega arith, omega arith)
 
-sound-within : (file : List ℕ) (place end : ℕ) → end ≤ length file → (fuel at : ℕ) (s : Span) → Within file s → Within file (spanOver (soundFrom (textAt place (take end file)) end fuel at) s)
+sound-within : (file : List ℕ) (place end : ℕ) → end ≤ length file → (fuel at : ℕ) (s : Span) → Within file s
+    → Within file (spanOver (soundFrom (textAt place (take end file)) end fuel at) s)
 unfolding soundFrom spanOver whereAnswered
 sound-within file place end inside zero at s h = h
 sound-within file place end inside (suc fuel) at s h = go (leb end at) (textAt place (take end file) at) refl (λ (a : ℕ) (t : Span). sound-within file place end inside fuel a t)
   where
-    go : (t : Bool) (o : Outcome (Step Text)) → textAt place (take end file) at ≡ o → ((a : ℕ) (t : Span) → Within file t → Within file (spanOver (soundFrom (textAt place (take end file)) end fuel a) t))
+    go : (t : Bool) (o : Outcome (Step Text)) → textAt place (take end file) at ≡ o
+        → ((a : ℕ) (t : Span) → Within file t → Within file (spanOver (soundFrom (textAt place (take end file)) end fuel a) t))
         → Within file (spanOver (cond t [] (whereAnswered o (λ x. x .item ∷ soundFrom (textAt place (take end file)) end fuel (x .next)))) s)
     go true o e ih = h
     go false (answer x) e ih = ih (x .next) (spanJoined s (spanOne (x .item))) (joined-within file s (spanOne (x .item)) h (one-within file place end at x inside e))

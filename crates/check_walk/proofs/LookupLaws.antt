@@ -27,7 +27,8 @@ endOf p = p .offset + p .length
 -- ---- the payload at an offset
 
 module _ (file : List ℕ) (at : ℕ) where
-  pub payload-found : (f : Frame) → frameAt file at ≡ answer f → payloadPart (frameAt file at) ≡ record { offset = f .body + 1; length = f .end - (f .body + 1) }
+  pub payload-found : (f : Frame) → frameAt file at ≡ answer f
+      → payloadPart (frameAt file at) ≡ record { offset = f .body + 1; length = f .end - (f .body + 1) }
   unfolding payloadPart
   payload-found f e = ap payloadPart e
 

@@ -56,7 +56,8 @@ unfolding risingFrom
 rising-left d [] ys h = refl
 rising-left d (x ∷ xs) ys h = go (atMost d (x .bytes)) h (rising-left (x .bytes) xs ys)
   where
-    go : (b : Bool) → (b && risingFrom (x .bytes) (map (λ r. r .bytes) (xs ++ ys))) ≡ true → (risingFrom (x .bytes) (map (λ r. r .bytes) (xs ++ ys)) ≡ true → risingFrom (x .bytes) (map (λ r. r .bytes) xs) ≡ true)
+    go : (b : Bool) → (b && risingFrom (x .bytes) (map (λ r. r .bytes) (xs ++ ys))) ≡ true
+        → (risingFrom (x .bytes) (map (λ r. r .bytes) (xs ++ ys)) ≡ true → risingFrom (x .bytes) (map (λ r. r .bytes) xs) ≡ true)
         → (b && risingFrom (x .bytes) (map (λ r. r .bytes) xs)) ≡ true
     go true k rest = rest k
     go false k rest = k
@@ -93,7 +94,8 @@ least-cond false m at = refl
 
 module _ (file : List ℕ) (from : ℕ) (bs : List Block) (read : blocksAt file from ≡ answer bs) (root : ℕ) (t : Tree bs root)
     (walked : Ascending (leaves bs (blockLevel bs root) root)) (placed : Ascending (map (λ r. r .at) (recordsOf bs))) (rise : risingFrom [] (map (λ r. r .bytes) (recordsOf bs)) ≡ true) where
-  way-met : (level at : ℕ) → Way bs root level at → (before : Keys) → Met file bs (bytesIn file (before .span .last)) (before .unordered) (leaves bs level at) (keysOf file level at before)
+  way-met : (level at : ℕ) → Way bs root level at → (before : Keys)
+      → Met file bs (bytesIn file (before .span .last)) (before .unordered) (leaves bs level at) (keysOf file level at before)
   way-met level at w before = go (way-block bs root t level at w)
     where
       go : MetBlock bs root t level at → Met file bs (bytesIn file (before .span .last)) (before .unordered) (leaves bs level at) (keysOf file level at before)
@@ -106,7 +108,8 @@ module _ (file : List ℕ) (from : ℕ) (bs : List Block) (read : blocksAt file 
   unfolding under
   way-test level at w key met last = go (under-some bs root t level at w)
     where
-      go : (first : Text) × (rest : List Text) × (under bs level at ≡ first ∷ rest) → fitsBetween file key (met .span) (keysOf file level at met .span) ≡ keyFits bs key (under bs level at)
+      go : (first : Text) × (rest : List Text) × (under bs level at ≡ first ∷ rest)
+          → fitsBetween file key (met .span) (keysOf file level at met .span) ≡ keyFits bs key (under bs level at)
       go (first, rest, own) =
           test-same file key (met .span) (keysOf file level at met .span) (pre bs root level at w) first rest
           (rising-left [] (pre bs root level at w) _ (subst (λ (rs : List Text). risingFrom [] (map (λ r. r .bytes) rs) ≡ true) (records-cut bs root t walked level at w) rise))

@@ -38,14 +38,16 @@ unfolding risingFrom lastBytes
 from-last x [] h = atMost-refl x
 from-last x (r ∷ rs) h = let p = both⁻¹ (atMost x (r .bytes)) (risingFrom (r .bytes) (map (λ q. q .bytes) rs)) h in atMost-trans x (r .bytes) (lastBytes (r .bytes) rs) (p .0) (from-last (r .bytes) rs (p .1))
 
-pub from-each : (x : List ℕ) (rs : List Text) → risingFrom x (map (λ r. r .bytes) rs) ≡ true → (r : Text) → List·Memᴰ r rs → atMost (r .bytes) (lastBytes x rs) ≡ true
+pub from-each : (x : List ℕ) (rs : List Text) → risingFrom x (map (λ r. r .bytes) rs) ≡ true → (r : Text) → List·Memᴰ r rs
+    → atMost (r .bytes) (lastBytes x rs) ≡ true
 unfolding risingFrom lastBytes
 from-each x [] h r m = absurd (List·Memᴰ·not-nil m)
 from-each x (q ∷ rs) h r m =
     let p = both⁻¹ (atMost x (q .bytes)) (risingFrom (q .bytes) (map (λ s. s .bytes) rs)) h in
     go (List·Memᴰ·cases-cons m) (p .1) (λ (i : List·Memᴰ r rs). from-each (q .bytes) rs (p .1) r i)
   where
-    go : (r ≡ q) ⊎ List·Memᴰ r rs → risingFrom (q .bytes) (map (λ s. s .bytes) rs) ≡ true → (List·Memᴰ r rs → atMost (r .bytes) (lastBytes (q .bytes) rs) ≡ true) → atMost (r .bytes) (lastBytes (q .bytes) rs) ≡ true
+    go : (r ≡ q) ⊎ List·Memᴰ r rs → risingFrom (q .bytes) (map (λ s. s .bytes) rs) ≡ true
+        → (List·Memᴰ r rs → atMost (r .bytes) (lastBytes (q .bytes) rs) ≡ true) → atMost (r .bytes) (lastBytes (q .bytes) rs) ≡ true
     go (inl same) k rest = ap (λ (s : Text). atMost (s .bytes) (lastBytes (q .bytes) rs)) same ∙ from-last (q .bytes) rs k
     go (inr inside) k rest = rest inside
 
@@ -127,7 +129,8 @@ neighboursOf-walk bs a (b ∷ ds) first rest =
     last : List ℕ
     last = lastBytes [] (a .records)
 
-    go : DataBlock bs b → (t : Bool) → firstFits last (b .records) ≡ t → neighboursOf b ds ≡ placeSaid 23 (outOf bs (lastBytes [] (b .records)) 0 (map (λ d. d .frame .start) ds))
+    go : DataBlock bs b → (t : Bool) → firstFits last (b .records) ≡ t
+        → neighboursOf b ds ≡ placeSaid 23 (outOf bs (lastBytes [] (b .records)) 0 (map (λ d. d .frame .start) ds))
         → (must t 23 (b .frame .start) >> neighboursOf b ds)
         ≡ placeSaid 23 (outOf bs (lastBytes last (blockRecords bs (b .frame .start))) (cond (not (firstFits last (blockRecords bs (b .frame .start)))) (b .frame .start) 0) (map (λ d. d .frame .start) ds))
     go here true e ih =
@@ -149,7 +152,8 @@ first-of-all [] = refl
 first-of-all (r ∷ rs) = nil-atMost (r .bytes)
 
 -- 23 over the data blocks in walk order
-pub neighbours-walk : (bs ds : List Block) → ((d : Block) → List·Memᴰ d ds → DataBlock bs d) → neighbours ds ≡ placeSaid 23 (outOf bs [] 0 (map (λ d. d .frame .start) ds))
+pub neighbours-walk : (bs ds : List Block) → ((d : Block) → List·Memᴰ d ds → DataBlock bs d)
+    → neighbours ds ≡ placeSaid 23 (outOf bs [] 0 (map (λ d. d .frame .start) ds))
 unfolding neighbours outOf
 neighbours-walk bs [] each = sym (said-none 23 0 refl)
 neighbours-walk bs (a ∷ ds) each =
@@ -160,7 +164,8 @@ neighbours-walk bs (a ∷ ds) each =
 
 -- ---- where no block is out of order all records rise
 
-rising-append : (d : List ℕ) (xs ys : List Text) → risingFrom d (map (λ r. r .bytes) xs) ≡ true → risingFrom (lastBytes d xs) (map (λ r. r .bytes) ys) ≡ true → risingFrom d (map (λ r. r .bytes) (xs ++ ys)) ≡ true
+rising-append : (d : List ℕ) (xs ys : List Text) → risingFrom d (map (λ r. r .bytes) xs) ≡ true
+    → risingFrom (lastBytes d xs) (map (λ r. r .bytes) ys) ≡ true → risingFrom d (map (λ r. r .bytes) (xs ++ ys)) ≡ true
 unfolding risingFrom lastBytes
 rising-append d [] ys h k = k
 rising-append d (x ∷ xs) ys h k =
@@ -172,7 +177,8 @@ unfolding firstFits rising risingFrom
 first-rising d [] h k = refl
 first-rising d (r ∷ rs) h k = ap (λ (b : Bool). b && risingFrom (r .bytes) (map (λ s. s .bytes) rs)) h ∙ k
 
-pub ordered-rising : (bs : List Block) (d : List ℕ) (xs : List ℕ) → ((x : ℕ) → List·Memᴰ x xs → (x ≢ 0) × (rising (map (λ r. r .bytes) (blockRecords bs x)) ≡ true)) → outOf bs d 0 xs ≡ 0
+pub ordered-rising : (bs : List Block) (d : List ℕ) (xs : List ℕ)
+    → ((x : ℕ) → List·Memᴰ x xs → (x ≢ 0) × (rising (map (λ r. r .bytes) (blockRecords bs x)) ≡ true)) → outOf bs d 0 xs ≡ 0
     → risingFrom d (map (λ r. r .bytes) (recordsAll bs xs)) ≡ true
 unfolding outOf flatMap risingFrom
 ordered-rising bs d [] each h = refl

@@ -98,7 +98,8 @@ module _ (file : List ℕ) (from root : ℕ) (bs : List Block) (ready : Ready fi
       ∙ ap (blockLevel bs) top-start
 
   -- 22
-  root-ascent : (level : ℕ) → level ≡ levelOf (frameAt file root) → (ascentOf file level root 0 >> answer tt) ≡ ascending 0 (leaves bs (blockLevel bs root) root)
+  root-ascent : (level : ℕ) → level ≡ levelOf (frameAt file root)
+      → (ascentOf file level root 0 >> answer tt) ≡ ascending 0 (leaves bs (blockLevel bs root) root)
   root-ascent level e =
       let here : top .frame .level ≡ blockLevel bs root = sym (level-at bs root tree top top-member) ∙ ap (blockLevel bs) top-start in
       ap (λ (l : ℕ). ascentOf file l root 0 >> answer tt) (e ∙ root-level ∙ sym here)
@@ -169,7 +170,8 @@ module _ (file : List ℕ) (from root : ℕ) (bs : List Block) (ready : Ready fi
     unfolding keysSaid
     keys-rules = go (eqb (keys .unordered) 0) refl
       where
-        go : (b : Bool) → eqb (keys .unordered) 0 ≡ b → keysSaid keys ≡ (neighbours (keep (λ c. isData (c .frame .level)) bs) >> each (keysFit bs) 24 (ordinary bs))
+        go : (b : Bool) → eqb (keys .unordered) 0 ≡ b
+            → keysSaid keys ≡ (neighbours (keep (λ c. isData (c .frame .level)) bs) >> each (keysFit bs) 24 (ordinary bs))
         go true p =
             ap (λ (o : Outcome (Unit {0})). o >> placeSaid 24 (keys .misfit)) (sym root-neighbours)
             ∙ ap (λ (o : Outcome (Unit {0})). neighbours (keep (λ c. isData (c .frame .level)) bs) >> o) (sym (root-keys (eqb-true (keys .unordered) 0 p)))

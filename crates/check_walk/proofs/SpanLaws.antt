@@ -39,7 +39,8 @@ unfolding Spans lastBytes
 spans-last file d s [] h = h .1
 spans-last file d s (r ∷ rs) h = h .2
 
-pub spans-joined : (file d : List ℕ) (a b : Span) (xs ys : List Text) → Spans file d a xs → Spans file (lastBytes d xs) b ys → Spans file d (spanJoined a b) (xs ++ ys)
+pub spans-joined : (file d : List ℕ) (a b : Span) (xs ys : List Text) → Spans file d a xs → Spans file (lastBytes d xs) b ys
+    → Spans file d (spanJoined a b) (xs ++ ys)
 unfolding Spans lastBytes
 spans-joined file d a b [] ys h k = subst (λ (s : Span). Spans file d s ys) (sym (joined-none a b (h .0))) k
 spans-joined file d a b (x ∷ xs) ys h k =
@@ -55,7 +56,8 @@ spans-one : (file d : List ℕ) (y : Text) → Placed file y → Spans file d (s
 unfolding Spans lastBytes spanOne bytesIn
 spans-one file d y p = (p .some, p .bytes-are, p .bytes-are)
 
-spans-over : (file d : List ℕ) (s : Span) (xs ys : List Text) → Spans file d s xs → ((y : Text) → List·Memᴰ y ys → Placed file y) → Spans file d (spanOver ys s) (xs ++ ys)
+spans-over : (file d : List ℕ) (s : Span) (xs ys : List Text) → Spans file d s xs → ((y : Text) → List·Memᴰ y ys → Placed file y)
+    → Spans file d (spanOver ys s) (xs ++ ys)
 unfolding spanOver
 spans-over file d s xs [] h placed = subst (Spans file d s) (sym (append-nil xs)) h
 spans-over file d s xs (y ∷ ys) h placed =
@@ -69,7 +71,8 @@ spans-any file c d s [] some h = absurd (omega arith)
 spans-any file c d s (r ∷ rs) some h = h
 
 -- the span of a data block
-pub block-spans : (file : List ℕ) (at : ℕ) (b : Block) → blockAt file at ≡ answer b → b .frame .level ≡ 0 → (d : List ℕ) → Spans file d (spanOver (recordsIn file at) noSpan) (b .records)
+pub block-spans : (file : List ℕ) (at : ℕ) (b : Block) → blockAt file at ≡ answer b → b .frame .level ≡ 0 → (d : List ℕ)
+    → Spans file d (spanOver (recordsIn file at) noSpan) (b .records)
 unfolding Spans noSpan noPart bytesIn part
 block-spans file at b read level d =
     spans-any file [] d (spanOver (recordsIn file at) noSpan) (b .records) (data-some file at b read level)

@@ -44,7 +44,8 @@ outOf bs d m (o ∷ os) = outOf bs (lastBytes d (blockRecords bs o)) (cond (eqb 
 abbrev pub recordsAll : List Block → List ℕ → List Text
 recordsAll bs = flatMap (λ o. blockRecords bs o)
 
-pub outOf-append : (bs : List Block) (d : List ℕ) (m : ℕ) (xs ys : List ℕ) → outOf bs d m (xs ++ ys) ≡ outOf bs (lastBytes d (recordsAll bs xs)) (outOf bs d m xs) ys
+pub outOf-append : (bs : List Block) (d : List ℕ) (m : ℕ) (xs ys : List ℕ)
+    → outOf bs d m (xs ++ ys) ≡ outOf bs (lastBytes d (recordsAll bs xs)) (outOf bs d m xs) ys
 unfolding outOf flatMap lastBytes
 outOf-append bs d m [] ys = refl
 outOf-append bs d m (x ∷ xs) ys =
@@ -59,7 +60,8 @@ pub record Met (file : List ℕ) (bs : List Block) (d : List ℕ) (m : ℕ) (xs 
   pub spans : Spans file d (k .span) (recordsAll bs xs)
   pub ordered : k .unordered ≡ outOf bs d m xs
 
-pub met-last : (file : List ℕ) (bs : List Block) (d : List ℕ) (m : ℕ) (xs : List ℕ) (k : Keys) → Met file bs d m xs k → bytesIn file (k .span .last) ≡ lastBytes d (recordsAll bs xs)
+pub met-last : (file : List ℕ) (bs : List Block) (d : List ℕ) (m : ℕ) (xs : List ℕ) (k : Keys) → Met file bs d m xs k
+    → bytesIn file (k .span .last) ≡ lastBytes d (recordsAll bs xs)
 met-last file bs d m xs k h = spans-last file d (k .span) (recordsAll bs xs) (h .spans)
 
 -- an entry more
@@ -85,12 +87,14 @@ met-over file bs d m level at walk (e ∷ es) h xs met k =
     subst (λ (l : List ℕ). Met file bs d m l (overKeys file at walk es next)) (append-assoc xs own (flatMap (λ x. leaves bs level (x .offset)) es))
     (met-over file bs d m level at walk es (λ x i. h x (List·Memᴰ·tail i)) (xs ++ own) next (met-entry file bs d m xs own at (e .key .bytes) met (walk (e .offset) met) k (h e (List·Memᴰ·head refl) met)))
 
-pub met-entering : (file : List ℕ) (bs : List Block) (before : Keys) → Met file bs (bytesIn file (before .span .last)) (before .unordered) [] (keysEntering before)
+pub met-entering : (file : List ℕ) (bs : List Block) (before : Keys)
+    → Met file bs (bytesIn file (before .span .last)) (before .unordered) [] (keysEntering before)
 unfolding keysEntering Spans noPart outOf flatMap
 met-entering file bs before = record { spans = (refl, refl); ordered = refl }
 
 module _ (file : List ℕ) (from : ℕ) (bs : List Block) (read : blocksAt file from ≡ answer bs) (root : ℕ) (t : Tree bs root) where
-  met-leaf : (b : Block) → List·Memᴰ b bs → b .frame .level ≡ 0 → (before : Keys) → Met file bs (bytesIn file (before .span .last)) (before .unordered) (b .frame .start ∷ []) (leafKeys file (b .frame .start) before)
+  met-leaf : (b : Block) → List·Memᴰ b bs → b .frame .level ≡ 0 → (before : Keys)
+      → Met file bs (bytesIn file (before .span .last)) (before .unordered) (b .frame .start ∷ []) (leafKeys file (b .frame .start) before)
   unfolding leafKeys outOf flatMap
   met-leaf b m level before =
       let d = bytesIn file (before .span .last) in

@@ -25,11 +25,13 @@ use Rattle.tree.proofs.StageLaws.{must⁻¹}
 
 -- ---- what is reported
 
-pub answer-of-refusal : (o : Outcome (List Block)) (number place : ℕ) → o ≡ refused number place → checkAnswer o ≡ record { number = number; place = place; blocks = 0; records = 0 }
+pub answer-of-refusal : (o : Outcome (List Block)) (number place : ℕ) → o ≡ refused number place
+    → checkAnswer o ≡ record { number = number; place = place; blocks = 0; records = 0 }
 unfolding checkAnswer numberOf placeOf countOf
 answer-of-refusal o number place e = rw e
 
-pub answer-of-blocks : (o : Outcome (List Block)) (bs : List Block) → o ≡ answer bs → checkAnswer o ≡ record { number = 0; place = 0; blocks = length (ordinary bs); records = length (recordsOf bs) }
+pub answer-of-blocks : (o : Outcome (List Block)) (bs : List Block) → o ≡ answer bs
+    → checkAnswer o ≡ record { number = 0; place = 0; blocks = length (ordinary bs); records = length (recordsOf bs) }
 unfolding checkAnswer numberOf placeOf countOf
 answer-of-blocks o bs e = rw e
 
@@ -155,7 +157,8 @@ check⁺ file places h bs r enough tree =
 -- ---- the ways out of the code
 
 -- a refusal
-pub told : (o : Outcome (List Block)) (number place : ℕ) → o ≡ refused number place → (r : Checked) → r ≡ record { number = number; place = place; blocks = 0; records = 0 } → r ≡ checkAnswer o
+pub told : (o : Outcome (List Block)) (number place : ℕ) → o ≡ refused number place → (r : Checked)
+    → r ≡ record { number = number; place = place; blocks = 0; records = 0 } → r ≡ checkAnswer o
 told o number place e r is = is ∙ sym (answer-of-refusal o number place e)
 
 module _ (file : List ℕ) (places : ℕ) (h : Header) (header : headerOf file ≡ answer h) where
@@ -191,14 +194,16 @@ module _ (file : List ℕ) (places : ℕ) (h : Header) (header : headerOf file �
 
     -- 18 to 25, as the code reports them
     module _ (one : s .root ≡ true) (f : Refusal) (is : refusalOf f ≡ laidTreeOf file (blocksFrom h) (h .root) places) where
-      decided : (bs : List Block) → blocksAt file (blocksFrom h) ≡ answer bs → surveyed (h .root) (h .rootsize) bs ≡ s → checkOf file places ≡ (refusalOf f >> answer bs)
+      decided : (bs : List Block) → blocksAt file (blocksFrom h) ≡ answer bs → surveyed (h .root) (h .rootsize) bs ≡ s
+          → checkOf file places ≡ (refusalOf f >> answer bs)
       decided bs blocks same =
           let root = root-is bs same ∙ one in
           check-room file places h bs header blocks root
           ∙ after-assoc (room places bs) (treeOf file h bs) (answer bs)
           ∙ ap (λ (o : Outcome (Unit {0})). o >> answer bs) (sym (is ∙ tree-accepted file h bs header blocks root places))
 
-      pub told-fault : f .number ≢ 0 → (r : Checked) → r ≡ record { number = f .number; place = f .place; blocks = 0; records = 0 } → r ≡ checkAnswer (checkOf file places)
+      pub told-fault : f .number ≢ 0 → (r : Checked) → r ≡ record { number = f .number; place = f .place; blocks = 0; records = 0 }
+          → r ≡ checkAnswer (checkOf file places)
       told-fault some =
           let (bs, blocks, same) = accepted in
           told (checkOf file places) (f .number) (f .place) (decided bs blocks same ∙ after-refused (refusalOf f) (answer bs) (f .number) (f .place) (fault-some f some))

@@ -93,7 +93,8 @@ module _ (file : List ℕ) (h : Header) (bs : List Block) (header : headerOf fil
       room : Outcome (Unit {0})
       room = must (leb (length (ordinary bs)) places) 18 0
 
-      later : (room >> namingOf bs (h .root)) ≡ answer tt → (walkedOf file (h .root) >> hashOf file (blocksFrom h)) ≡ (walkRulesOf bs (h .root) >> hashRuleOf file bs)
+      later : (room >> namingOf bs (h .root)) ≡ answer tt
+          → (walkedOf file (h .root) >> hashOf file (blocksFrom h)) ≡ (walkRulesOf bs (h .root) >> hashRuleOf file bs)
       later e =
           ap (λ (o : Outcome (Unit {0})). o >> hashOf file (blocksFrom h)) (walked-rules file (blocksFrom h) (h .root) bs (ready (passed⁻¹ room (namingOf bs (h .root)) tt e .1)))
           ∙ ap (λ (o : Outcome (Unit {0})). walkRulesOf bs (h .root) >> o) (hash-accepted file (blocksFrom h) short bs read)

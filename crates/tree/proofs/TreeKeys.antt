@@ -19,7 +19,8 @@ use Rattle.tree.proofs.TreeLaws.{Tree}
 use Rattle.tree.proofs.TreeWays.{Way, pre, post, records-cut}
 
 -- of records at ascending offsets, those before one of them are the ones that stand before it
-front-kept : (front : List Text) (first : Text) (back : List Text) → Ascending (map (λ r. r .at) (front ++ (first ∷ back))) → keep (λ r. ltb (r .at) (first .at)) (front ++ (first ∷ back)) ≡ front
+front-kept : (front : List Text) (first : Text) (back : List Text) → Ascending (map (λ r. r .at) (front ++ (first ∷ back)))
+    → keep (λ r. ltb (r .at) (first .at)) (front ++ (first ∷ back)) ≡ front
 front-kept front first back rise =
     keep-append before front (first ∷ back)
     ∙ ap (λ (l : List Text). l ++ keep before (first ∷ back)) (keep-all before front earlier)
@@ -44,7 +45,8 @@ front-kept front first back rise =
 
 module _ (bs : List Block) (root : ℕ) (t : Tree bs root) (walked : Ascending (leaves bs (blockLevel bs root) root)) (placed : Ascending (map (λ r. r .at) (recordsOf bs))) where
   -- the records of the file before the first one that a block leads to
-  pub before-first : (level at : ℕ) (w : Way bs root level at) (first : Text) (rest : List Text) → under bs level at ≡ first ∷ rest → recordsBefore bs (first .at) ≡ pre bs root level at w
+  pub before-first : (level at : ℕ) (w : Way bs root level at) (first : Text) (rest : List Text) → under bs level at ≡ first ∷ rest
+      → recordsBefore bs (first .at) ≡ pre bs root level at w
   unfolding recordsBefore
   before-first level at w first rest own =
       let cut = records-cut bs root t walked level at w ∙ ap (λ (l : List Text). pre bs root level at w ++ (l ++ post bs root level at w)) own in

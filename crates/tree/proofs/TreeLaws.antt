@@ -91,7 +91,8 @@ module _ (bs : List Block) (root : ℕ) (t : Tree bs root) where
     pub sized : block .frame .size ≡ e .size
     pub leveled : block .frame .level ≡ level
 
-  pub child : (b : Block) → List·Memᴰ b bs → (level : ℕ) → b .frame .level ≡ suc level → (e : Entry) → List·Memᴰ e (blockEntries bs (b .frame .start)) → Child level e
+  pub child : (b : Block) → List·Memᴰ b bs → (level : ℕ) → b .frame .level ≡ suc level → (e : Entry) → List·Memᴰ e (blockEntries bs (b .frame .start))
+      → Child level e
   child b m level p e i =
       let n = t .named b m e (subst (List·Memᴰ e) (entries-at b m) i) in
       let lower = n .4 in
@@ -138,7 +139,8 @@ module _ (bs : List Block) (root : ℕ) (t : Tree bs root) where
   -- ---- the walk down
 
   -- every offset that the walk down meets is the start of a data block
-  pub leaves-data : (level : ℕ) (b : Block) → List·Memᴰ b bs → b .frame .level ≡ level → (o : ℕ) → List·Memᴰ o (leaves bs level (b .frame .start)) → (d : Block) × List·Memᴰ d bs × (d .frame .start ≡ o) × (d .frame .level ≡ 0)
+  pub leaves-data : (level : ℕ) (b : Block) → List·Memᴰ b bs → b .frame .level ≡ level → (o : ℕ) → List·Memᴰ o (leaves bs level (b .frame .start))
+      → (d : Block) × List·Memᴰ d bs × (d .frame .start ≡ o) × (d .frame .level ≡ 0)
   unfolding leaves
   leaves-data zero b m p o i = (b, m, sym (List·Memᴰ·eq-of-singleton i), p)
   leaves-data (suc level) b m p o i =

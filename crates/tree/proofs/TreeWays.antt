@@ -50,7 +50,8 @@ module _ (bs : List Block) (root : ℕ) where
   leavesAfter level at (by-entry upper front e back w p q) = flatMap (λ x. leaves bs level (x .offset)) back ++ leavesAfter (suc level) upper w
 
   -- the whole walk is what it meets before the block, under it and after it
-  pub leaves-cut : (level at : ℕ) (w : Way bs root level at) → leaves bs (blockLevel bs root) root ≡ leavesBefore level at w ++ (leaves bs level at ++ leavesAfter level at w)
+  pub leaves-cut : (level at : ℕ) (w : Way bs root level at)
+      → leaves bs (blockLevel bs root) root ≡ leavesBefore level at w ++ (leaves bs level at ++ leavesAfter level at w)
   unfolding leaves leavesBefore leavesAfter
   leaves-cut level at (at-root p q) = sym (append-nil (leaves bs level at) ∙ ap (λ (n : ℕ). leaves bs n at) p ∙ ap (leaves bs (blockLevel bs root)) q)
   leaves-cut level at (by-entry upper front e back w p q) =
@@ -107,7 +108,8 @@ module _ (bs : List Block) (root : ℕ) (t : Tree bs root) where
   met-entries level at m = sym (entries-at bs root t (m .block) (m .member)) ∙ ap (blockEntries bs) (m .starts)
 
   -- on from an index block to a block that one of its entries names
-  way-on : (c : Block) (q : Parent bs root t c) → Way bs root (q .block .frame .level) (q .block .frame .start) → Way bs root (c .frame .level) (c .frame .start)
+  way-on : (c : Block) (q : Parent bs root t c) → Way bs root (q .block .frame .level) (q .block .frame .start)
+      → Way bs root (c .frame .level) (c .frame .start)
   way-on c q w =
       let s = member-split (q .block .entries) (q .entry) (q .among) in
       by-entry (q .block .frame .start) (s .0) (q .entry) (s .1) (subst (λ (n : ℕ). Way bs root n (q .block .frame .start)) (q .higher) w)
@@ -126,7 +128,8 @@ module _ (bs : List Block) (root : ℕ) (t : Tree bs root) where
   climb (suc steps) c m few enough = go (eqb (c .frame .start) root) refl (λ (b : Block) (i : List·Memᴰ b bs). climb steps b i)
     where
       go : (top : Bool) → eqb (c .frame .start) root ≡ top
-          → ((b : Block) → List·Memᴰ b bs → b .frame .level ≤ 63 → 63 - b .frame .level ≤ steps → Way bs root (b .frame .level) (b .frame .start)) → Way bs root (c .frame .level) (c .frame .start)
+          → ((b : Block) → List·Memᴰ b bs → b .frame .level ≤ 63 → 63 - b .frame .level ≤ steps → Way bs root (b .frame .level) (b .frame .start))
+          → Way bs root (c .frame .level) (c .frame .start)
       go true p up = way-top c m (eqb-true (c .frame .start) root p)
       go false p up =
           let q = parent bs root t c m few (eqb-false (c .frame .start) root p) in
