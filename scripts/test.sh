@@ -1,5 +1,5 @@
 #!/usr/bin/env bash
-# Checks the layout of the sources, proves every crate from nothing, tries the must-fail edits and runs the programs;
+# Checks the layout of the sources and what docs/CLAIMS.md cites, proves every crate from nothing, tries the must-fail edits and runs the programs;
 # then tests the independent reader, compares both readers on drawn files and prints how many cases that were, and holds the stored
 # cases to those that the independent reader makes.
 # `rt ci` removes target/, so whatever is built from the proved libraries comes after it.
@@ -10,6 +10,7 @@ PATH="$PATH:${CARGO_HOME:-$HOME/.cargo}/bin"
 scripts/setup.sh
 rt fmt --check
 echo "1 passed, 0 failed"
+scripts/check-claims
 # One job more than two processors, so that none waits for the last of a pair.
 RT_JOBS="${RT_JOBS:-3}" rt ci
 rt staticlib zs >/dev/null
