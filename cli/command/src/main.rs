@@ -8,7 +8,7 @@
 //!   refusals in words.
 //! * [`validate`], [`dump`], [`info`], [`explain`]: one module for each command.
 //! * [`output`], [`progress`], [`failure`]: where answers are written, progress on a terminal, and what went wrong.
-//! * [`layout`], [`walk`], [`json`]: fields and bounds for display only.
+//! * [`layout`], [`walk`], [`json`]: fields and bounds for display, and what a search would cost.
 #![deny(unsafe_code)]
 
 mod answers;
