@@ -33,8 +33,8 @@ pub struct Answer {
 }
 
 impl Answer {
-    pub fn count(&self) -> usize {
-        self.results.len() / 2
+    pub fn count(&self) -> u64 {
+        self.results.len() as u64 / 2
     }
 
     /// Offset and length of each match.
@@ -150,6 +150,30 @@ pub fn read(
     }
 }
 
+/// A way to find the matches: [`search`] or [`read`].
+pub type Finding = fn(&[u8], &Query, Option<Contents>, Option<u64>) -> Result<Answer, Failure>;
+
+/// Counts the matches. All records of a checked file were counted by the check, so that no list is needed for them.
+pub fn count(
+    find: Finding,
+    file: &[u8],
+    query: &Query,
+    known: Option<Contents>,
+    limit: Option<u64>,
+) -> Result<u64, Failure> {
+    match known.filter(|_| asks_for_all(query)) {
+        Some(Contents { records, .. }) if limit.map_or(true, |limit| records <= limit) => {
+            Ok(records)
+        }
+        Some(_) => refuse(27, 0),
+        None => Ok(find(file, query, known, limit)?.count()),
+    }
+}
+
+fn asks_for_all(query: &Query) -> bool {
+    query.start.is_empty() && query.stop.is_none() && query.prefix.is_empty()
+}
+
 fn refuse<T>(number: u64, place: u64) -> Result<T, Failure> {
     Err(Failure::Refused(Refusal { number, place }))
 }
@@ -164,8 +188,7 @@ fn readable(file: &[u8]) -> &[u8] {
 
 /// Places for the results of a checked file. A check takes longer than clearing a long list, which saves calls.
 fn first_results(length: usize, query: &Query, contents: Contents) -> usize {
-    let all = query.start.is_empty() && query.stop.is_none() && query.prefix.is_empty();
-    if all {
+    if asks_for_all(query) {
         places(contents.records.saturating_mul(2))
     } else {
         length / USUAL_PAIR + FIRST_PLACES

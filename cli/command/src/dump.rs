@@ -5,31 +5,31 @@ use std::io::{self, Write};
 use std::os::unix::fs::MetadataExt;
 use std::path::Path;
 
-use crate::answers::{read, search, Answer};
+use crate::answers::{count, read, search, Answer, Finding};
 use crate::archive::Archive;
 use crate::arguments::{Dump, Length};
 use crate::failure::Failure;
-use crate::{output, progress};
+use crate::output;
+use crate::progress::show_while;
 
 /// Writes nothing before the whole answer is known.
 pub fn run(asked: &Dump) -> Result<(), Failure> {
     refuse_archive_as_output(asked)?;
     let archive = Archive::open(&asked.file, &asked.trust)?;
     let (file, known) = (archive.bytes(), archive.known);
-    let answer = progress::show_while("reading", &asked.file, file.len(), || {
-        let query = asked.selection.query();
-        if asked.scan {
-            read(file, &query, known, asked.max_results)
-        } else {
-            search(file, &query, known, asked.max_results)
-        }
-    })?;
+    let (query, limit) = (asked.selection.query(), asked.max_results);
+    let find: Finding = if asked.scan { read } else { search };
     let target = asked.output.as_deref();
     if asked.count {
-        output::write(target, &|out| writeln!(out, "{}", answer.count()))
-    } else {
-        output::write(target, &|out| write_records(asked, file, &answer, out))
+        let number = show_while("counting", &asked.file, file.len(), || {
+            count(find, file, &query, known, limit)
+        })?;
+        return output::write(target, &|out| writeln!(out, "{number}"));
     }
+    let answer = show_while("reading", &asked.file, file.len(), || {
+        find(file, &query, known, limit)
+    })?;
+    output::write(target, &|out| write_records(asked, file, &answer, out))
 }
 
 /// An archive isn't replaced by its own records.

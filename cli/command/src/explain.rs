@@ -126,6 +126,6 @@ fn summarise(answer: &Answer, known: Option<Contents>, in_vain: &InVain) -> Stri
     format!(
         "opened {}{of_all} blocks, {}, in vain: {in_vain}",
         answer.opened.len(),
-        format_count(answer.count() as u64, "match", "matches")
+        format_count(answer.count(), "match", "matches")
     )
 }
