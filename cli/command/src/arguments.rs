@@ -26,7 +26,8 @@ const VALIDATE_EXAMPLES: &str = "Examples:
   zs validate contacts.zs
   zs validate *.zs                 one line for each file, also after a refused one";
 
-const DUMP_EXAMPLES: &str = "S, P and T take the escapes \\t \\n \\r \\\\ and \\x00 to \\xff. Bytes are compared as unsigned numbers.
+const DUMP_EXAMPLES: &str = "S, P and T take the escapes \\t \\n \\r \\\\ and \\x00 to \\xff, and may begin with a dash. Bytes are compared
+as unsigned numbers.
 
 By default a record is followed by a line end. A record that contains the terminator makes the
 output ambiguous: binary records need --length-prefixed.
@@ -93,7 +94,7 @@ pub struct Dump {
     #[command(flatten)]
     pub selection: Selection,
     /// What follows each record
-    #[arg(long, value_name = "T", default_value = "\\n", value_parser = bytes_parser())]
+    #[arg(long, value_name = "T", default_value = "\\n", value_parser = bytes_parser(), allow_hyphen_values = true)]
     pub terminator: Bytes,
     /// Put each record's length before it instead
     #[arg(long, value_name = "FORM", conflicts_with = "terminator")]
@@ -137,13 +138,13 @@ pub struct Explain {
 #[derive(Args)]
 pub struct Selection {
     /// Only records that are at least S
-    #[arg(long, value_name = "S", value_parser = bytes_parser())]
+    #[arg(long, value_name = "S", value_parser = bytes_parser(), allow_hyphen_values = true)]
     pub start: Option<Bytes>,
     /// Only records that are less than S
-    #[arg(long, value_name = "S", value_parser = bytes_parser())]
+    #[arg(long, value_name = "S", value_parser = bytes_parser(), allow_hyphen_values = true)]
     pub stop: Option<Bytes>,
     /// Only records that begin with P
-    #[arg(long, value_name = "P", value_parser = bytes_parser())]
+    #[arg(long, value_name = "P", value_parser = bytes_parser(), allow_hyphen_values = true)]
     pub prefix: Option<Bytes>,
 }
 
