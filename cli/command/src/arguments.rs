@@ -24,7 +24,8 @@ Exit status: 0 answered, 1 refused, 2 usage or input/output.
 
 const VALIDATE_EXAMPLES: &str = "Examples:
   zs validate contacts.zs
-  zs validate *.zs                 one line for each file, also after a refused one";
+  zs validate *.zs                 one line for each file, also after a refused one
+  gunzip -c contacts.zs.gz | zs validate -";
 
 const DUMP_EXAMPLES: &str = "S, P and T take the escapes \\t \\n \\r \\\\ and \\x00 to \\xff, and may begin with a dash. Bytes are compared
 as unsigned numbers.
@@ -38,7 +39,8 @@ Examples:
   zs dump contacts.zs --start B --stop D               from B up to, not including, D
   zs dump contacts.zs --prefix '\\xff' --count          how many begin with the byte FF
   zs dump contacts.zs --terminator '\\x00' | xargs -0 -n 1 echo
-  zs dump contacts.zs --length-prefixed u64le -o out   out appears once it is whole";
+  zs dump contacts.zs --length-prefixed u64le -o out   out appears once it is whole
+  gunzip -c contacts.zs.gz | zs dump - --prefix Ada    an archive on standard input";
 
 const INFO_EXAMPLES: &str =
     "The file is checked first. Metadata that is JSON is shown as it is stored, other metadata as a
@@ -82,14 +84,14 @@ pub enum Command {
 
 #[derive(Args)]
 pub struct Validate {
-    /// The files to check
+    /// The files to check; - is standard input
     #[arg(value_name = "FILE", required = true)]
     pub files: Vec<PathBuf>,
 }
 
 #[derive(Args)]
 pub struct Dump {
-    /// The archive
+    /// The archive; - is standard input
     pub file: PathBuf,
     #[command(flatten)]
     pub selection: Selection,
@@ -117,7 +119,7 @@ pub struct Dump {
 
 #[derive(Args)]
 pub struct Info {
-    /// The archive
+    /// The archive; - is standard input
     pub file: PathBuf,
     /// Only the metadata, as it is stored
     #[arg(short, long)]
@@ -126,7 +128,7 @@ pub struct Info {
 
 #[derive(Args)]
 pub struct Explain {
-    /// The archive
+    /// The archive; - is standard input
     pub file: PathBuf,
     #[command(flatten)]
     pub selection: Selection,

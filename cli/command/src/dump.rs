@@ -9,6 +9,7 @@ use crate::answers::{count, read, search, Answer, Finding};
 use crate::archive::Archive;
 use crate::arguments::{Dump, Length};
 use crate::failure::Failure;
+use crate::input::system_path;
 use crate::output;
 use crate::progress::show_while;
 
@@ -39,7 +40,7 @@ fn refuse_archive_as_output(asked: &Dump) -> Result<(), Failure> {
         Some(path) => path,
         None => return Ok(()),
     };
-    match (place(&asked.file), place(target)) {
+    match (place(system_path(&asked.file)), place(target)) {
         (Ok(archive), Ok(output)) if archive == output => Err(Failure::Trouble(format!(
             "{}: the output is the archive itself",
             target.display()
