@@ -13,6 +13,9 @@ use crate::input::system_path;
 use crate::output;
 use crate::progress::show_while;
 
+/// Shorter than the output's buffer.
+const PIECE: usize = 1 << 12;
+
 /// Writes nothing before the whole answer is known.
 pub fn run(asked: &Dump) -> Result<(), Failure> {
     refuse_archive_as_output(asked)?;
@@ -61,15 +64,22 @@ fn write_records(
         match asked.length_prefixed {
             Some(form) => {
                 put_length(form, length, out)?;
-                out.write_all(record)?;
+                write_pieces(record, out)?;
             }
             None => {
-                out.write_all(record)?;
+                write_pieces(record, out)?;
                 out.write_all(&asked.terminator.0)?;
             }
         }
     }
     Ok(())
+}
+
+/// Writes a record by way of the output's buffer. Handed to the system straight from a mapped file that was cut, it would be taken for
+/// an output that can't be written.
+fn write_pieces(record: &[u8], out: &mut dyn Write) -> io::Result<()> {
+    let mut pieces = record.chunks(PIECE);
+    pieces.try_for_each(|piece| out.write_all(piece))
 }
 
 fn put_length(form: Length, length: u64, out: &mut dyn Write) -> io::Result<()> {

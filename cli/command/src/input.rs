@@ -1,4 +1,4 @@
-//! The bytes of an archive. The only file of the command with unsafe code: it maps files.
+//! The bytes of an archive. Has unsafe code: it maps files.
 
 use std::fs::File;
 use std::io::{self, Read};
@@ -7,6 +7,7 @@ use std::path::Path;
 
 use zs_library::Mapping;
 
+use crate::cut_files::report_cut_files;
 use crate::failure::Failure;
 use crate::refusals::Refusal;
 
@@ -60,6 +61,7 @@ fn load(path: &Path, longest_read: u64) -> Result<Input, Failure> {
     let name_fault = |error: io::Error| Failure::of_file(path, &error);
     let (file, length) = open(path).map_err(name_fault)?;
     if length.map_or(false, |length| length > longest_read) {
+        report_cut_files().map_err(name_fault)?;
         // SAFETY: nobody changes the file while it is mapped. With `--unchecked` this is assumed, and its help says so. Of a file above
         // 2^30 bytes only the length is used.
         let mapping = unsafe { zs_library::map(&file) }.map_err(name_fault)?;

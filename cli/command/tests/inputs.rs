@@ -3,10 +3,11 @@
 mod support;
 
 use std::fs::{self, File};
-use std::io::Write;
+use std::io::{Read, Write};
 use std::process::{Command, Stdio};
 
 use support::{shell, zs, Folder, Run, SMALL, ZS};
+use zs_reference::maker::Tree;
 
 /// Runs the command with these bytes on its standard input, through a pipe.
 fn zs_with_input(arguments: &[&str], input: &[u8]) -> Run {
@@ -97,5 +98,43 @@ fn what_is_no_archive_is_refused_by_its_first_bytes() {
         assert!(run.text().starts_with(&due), "{}{}", run.text(), run.err);
         assert_eq!(run.status, 1);
         std::io::Seek::rewind(&mut &file).expect("a temporary file");
+    }
+}
+
+/// Runs an unchecked dump, and cuts the file once the first byte is there. A pipe is far shorter than the file, so most of it is unread.
+fn cut_while_dumped(records: &[Vec<u8>]) -> Run {
+    let folder = Folder::new();
+    let groups: Vec<&[Vec<u8>]> = records.chunks(1000).collect();
+    let path = folder.write("cut.zs", &Tree::new(&groups).bytes());
+    let mut child = Command::new(ZS)
+        .args(["dump", "--unchecked", &path])
+        .stdout(Stdio::piped())
+        .stderr(Stdio::piped())
+        .spawn()
+        .expect("the command runs");
+    let mut pipe = child.stdout.take().expect("a pipe");
+    pipe.read_exact(&mut [0]).expect("one byte");
+    let file = File::options().write(true).open(&path);
+    let cut = file.and_then(|file| file.set_len(1000));
+    cut.expect("a shorter file");
+    pipe.read_to_end(&mut Vec::new()).expect("the output");
+    Run::of(child.wait_with_output().expect("the command ends"))
+}
+
+#[test]
+fn a_mapped_file_that_is_cut_is_reported() {
+    let short: Vec<Vec<u8>> = (0..20_000)
+        .map(|number| format!("{number:0100}").into_bytes())
+        .collect();
+    let long = vec![vec![b'a'; 1 << 20]; 2];
+    for records in [short, long] {
+        let run = cut_while_dumped(&records);
+        assert_eq!(run.status, 2, "{}", run.err);
+        assert!(
+            run.err.contains("zs: the file was cut short"),
+            "{}",
+            run.err
+        );
+        assert!(run.err.contains("zs: what to do: "), "{}", run.err);
     }
 }
