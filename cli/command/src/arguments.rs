@@ -44,11 +44,12 @@ Examples:
 
 const INFO_EXAMPLES: &str =
     "The file is checked first. Metadata that is JSON is shown as it is stored, other metadata as a
-string with escapes.
+string with escapes. On a terminal control characters are shown as escapes.
 
 Examples:
   zs info contacts.zs
-  zs info -m contacts.zs           the metadata alone, as it is stored";
+  zs info -m contacts.zs           the metadata alone, as it is stored
+  zs info -m contacts.zs | jq .    the same for another program";
 
 const EXPLAIN_EXAMPLES: &str = "Each line is a block that the search opened, in that order: its first byte, its level (0 is data),
 and the bounds between which its records lie. A block is opened where some byte string between its

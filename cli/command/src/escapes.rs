@@ -90,7 +90,10 @@ pub fn escape(bytes: &[u8]) -> String {
             b'\\' => text.push_str("\\\\"),
             b'"' => text.push_str("\\x22"),
             b' '..=b'~' => text.push(char::from(*byte)),
-            other => text.push_str(&format!("\\x{other:02x}")),
+            other => {
+                let digit = |value: u8| char::from_digit(u32::from(value), 16).unwrap_or('0');
+                text.extend(['\\', 'x', digit(other / 16), digit(other % 16)]);
+            }
         }
     }
     text

@@ -29,6 +29,14 @@ pub struct Entry<'a> {
     pub offset: u64,
 }
 
+impl Header<'_> {
+    /// The codec without the zeros after it.
+    pub fn codec_name(&self) -> &[u8] {
+        let end = self.codec.iter().position(|byte| *byte == 0);
+        &self.codec[..end.unwrap_or(self.codec.len())]
+    }
+}
+
 pub fn header(file: &[u8]) -> Option<Header<'_>> {
     let metadata_length = usize::try_from(u64_at(file, 88)?).ok()?;
     Some(Header {
