@@ -73,7 +73,9 @@ impl Places {
 fn zeros(places: usize) -> Result<Vec<u64>, Failure> {
     let mut list = Vec::new();
     let room = list.try_reserve_exact(places);
-    room.map_err(|_| Failure::Trouble("there isn't enough memory for the answer".into()))?;
+    room.map_err(|_| {
+        Failure::Trouble("there isn't enough memory for the answer; ask for fewer records".into())
+    })?;
     list.resize(places, 0);
     Ok(list)
 }
@@ -92,7 +94,7 @@ pub fn check(file: &[u8]) -> Result<Contents, Failure> {
                 })
             }
             18 if work.grow() => {}
-            number => return refuse(number, answer.place),
+            number => return refuse(file, number, answer.place),
         }
     }
 }
@@ -122,7 +124,8 @@ pub fn search(
         match answer.number {
             0 => return Ok(cut_lists(opened, answer.opened, pairs, answer.matches)),
             27 if results.grow() => {}
-            number => return refuse(number, answer.place),
+            27 => return refuse_matches(file, limit),
+            number => return refuse(file, number, answer.place),
         }
     }
 }
@@ -145,7 +148,8 @@ pub fn read(
         match answer.number {
             0 => return Ok(cut_lists(Vec::new(), 0, pairs, answer.matches)),
             27 if results.grow() => {}
-            number => return refuse(number, answer.place),
+            27 => return refuse_matches(file, limit),
+            number => return refuse(file, number, answer.place),
         }
     }
 }
@@ -165,7 +169,7 @@ pub fn count(
         Some(Contents { records, .. }) if limit.map_or(true, |limit| records <= limit) => {
             Ok(records)
         }
-        Some(_) => refuse(27, 0),
+        Some(_) => refuse_matches(file, limit),
         None => Ok(find(file, query, known, limit)?.count()),
     }
 }
@@ -174,8 +178,16 @@ fn asks_for_all(query: &Query) -> bool {
     query.start.is_empty() && query.stop.is_none() && query.prefix.is_empty()
 }
 
-fn refuse<T>(number: u64, place: u64) -> Result<T, Failure> {
-    Err(Failure::Refused(Refusal { number, place }))
+fn refuse<T>(file: &[u8], number: u64, place: u64) -> Result<T, Failure> {
+    Err(Failure::Refused(Refusal::of_file(number, place, file)))
+}
+
+/// Refuses more matches than are allowed. Without a limit the list has room for all.
+fn refuse_matches<T>(file: &[u8], limit: Option<u64>) -> Result<T, Failure> {
+    match limit {
+        Some(limit) => Err(Failure::Refused(Refusal::of_matches(limit))),
+        None => refuse(file, 27, 0),
+    }
 }
 
 /// The bytes that may be looked at: a file above the limit is refused by its length, whatever its lists.

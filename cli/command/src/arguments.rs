@@ -11,7 +11,7 @@ use crate::escapes::{resolve, Bytes};
 const ABOUT: &str = "Checks, reads and searches ZS archives (version 0.10, codec none), by a library that is proved.";
 
 const STATUS: &str = "Exit status: 0 answered, 1 refused, 2 usage or input/output.
-A refusal has a number, a place (the first byte of the block meant, or 0) and a sentence.";
+A refusal has a number, a place (the first byte of the block meant, if one is) and a sentence.";
 
 const EXAMPLES: &str = "Examples:
   zs validate contacts.zs

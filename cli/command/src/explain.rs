@@ -112,7 +112,14 @@ fn quote_bound(bytes: &[u8]) -> String {
 
 /// How many blocks were opened, and how many of those below the root led to no match.
 fn summarise(answer: &Answer, known: Option<Contents>, in_vain: &InVain) -> String {
-    let of_all = known.map_or(String::new(), |contents| format!(" of {}", contents.blocks));
+    let opened = answer.opened.len() as u64;
+    let opened = match known {
+        Some(contents) => format!(
+            "{opened} of {}",
+            format_count(contents.blocks, "block", "blocks")
+        ),
+        None => format_count(opened, "block", "blocks"),
+    };
     let levels: Vec<String> = in_vain
         .by_level
         .iter()
@@ -124,8 +131,7 @@ fn summarise(answer: &Answer, known: Option<Contents>, in_vain: &InVain) -> Stri
         levels.join(", ")
     };
     format!(
-        "opened {}{of_all} blocks, {}, in vain: {in_vain}",
-        answer.opened.len(),
+        "opened {opened}, {}, in vain: {in_vain}",
         format_count(answer.count(), "match", "matches")
     )
 }

@@ -61,7 +61,7 @@ fn write_fields(
     let hash: String = header.hash.iter().map(|b| format!("{b:02x}")).collect();
     writeln!(out, "  \"data_sha256\": \"{hash}\",")?;
     write!(out, "  \"codec\": ")?;
-    write_string(out, header.codec_name())?;
+    write_string(out, header.codec)?;
     let length = header.metadata.len();
     write!(out, ",\n  \"metadata_length\": {length},\n  \"metadata\": ")?;
     write_metadata_value(header.metadata, out)?;

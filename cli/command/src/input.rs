@@ -88,14 +88,14 @@ fn open(path: &Path) -> io::Result<(File, Option<u64>)> {
     }
     let file = File::open(path)?;
     let about = file.metadata()?;
-    Ok((file, about.is_file().then(|| about.len())))
+    Ok((file, about.is_file().then_some(about.len())))
 }
 
 /// Refuses what doesn't begin as an archive, before the rest is read. The library's 2 and 3 are about the first eight bytes alone; only 1
 /// comes before them, and the file is not too long.
 fn refuse_by_first_bytes(first: &[u8]) -> Result<(), Failure> {
     match zs_library::check(first, &mut []).number {
-        number @ (2 | 3) => Err(Failure::Refused(Refusal { number, place: 0 })),
+        number @ (2 | 3) => Err(Failure::Refused(Refusal::of_file(number, 0, first))),
         _ => Ok(()),
     }
 }

@@ -29,25 +29,34 @@ pub struct Entry<'a> {
     pub offset: u64,
 }
 
-impl Header<'_> {
-    /// The codec without the zeros after it.
-    pub fn codec_name(&self) -> &[u8] {
-        let end = self.codec.iter().position(|byte| *byte == 0);
-        &self.codec[..end.unwrap_or(self.codec.len())]
-    }
-}
-
 pub fn header(file: &[u8]) -> Option<Header<'_>> {
     let metadata_length = usize::try_from(u64_at(file, 88)?).ok()?;
     Some(Header {
         length: u64_at(file, 8)?,
         root_offset: u64_at(file, 16)?,
         root_length: u64_at(file, 24)?,
-        total_length: u64_at(file, 32)?,
+        total_length: total_length(file)?,
         hash: file.get(40..72)?,
-        codec: file.get(72..88)?,
+        codec: codec_name(file)?,
         metadata: file.get(96..)?.get(..metadata_length)?,
     })
+}
+
+/// Where the header ends, and blocks begin.
+pub fn header_end(file: &[u8]) -> Option<u64> {
+    u64_at(file, 8).map(|length| length.saturating_add(24))
+}
+
+/// The length of the file, as the header says.
+pub fn total_length(file: &[u8]) -> Option<u64> {
+    u64_at(file, 32)
+}
+
+/// The codec, without the zeros after it.
+pub fn codec_name(file: &[u8]) -> Option<&[u8]> {
+    let codec = file.get(72..88)?;
+    let end = codec.iter().rposition(|byte| *byte != 0);
+    codec.get(..end.map_or(0, |last| last + 1))
 }
 
 pub fn block(file: &[u8], offset: u64) -> Option<Block<'_>> {
