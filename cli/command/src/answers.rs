@@ -16,8 +16,8 @@ const SMALLEST_BLOCK: usize = 11;
 const USUAL_BLOCK: usize = 512;
 /// Places of a first list: a lookup finds few records.
 const FIRST_PLACES: usize = 1024;
-/// Records of a usual file are longer than half of this.
-const USUAL_PAIR: usize = 64;
+/// Besides, a first list has a place for so many bytes that may be searched.
+const BYTES_PER_PLACE: usize = 64;
 
 /// What an accepted file holds, or what a search meets at most.
 #[derive(Clone, Copy, Debug)]
@@ -115,7 +115,7 @@ pub fn search(
     };
     let first = match known {
         Some(contents) => first_results(file.len(), query, contents),
-        None => places(most.records) / USUAL_PAIR + FIRST_PLACES,
+        None => places(most.records) / BYTES_PER_PLACE + FIRST_PLACES,
     };
     let mut results = Places::new(first, most_results(most.records, limit));
     loop {
@@ -203,7 +203,7 @@ fn first_results(length: usize, query: &Query, contents: Contents) -> usize {
     if asks_for_all(query) {
         places(contents.records.saturating_mul(2))
     } else {
-        length / USUAL_PAIR + FIRST_PLACES
+        length / BYTES_PER_PLACE + FIRST_PLACES
     }
 }
 
