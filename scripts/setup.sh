@@ -18,8 +18,10 @@ have() {
     command -v "$1" >/dev/null 2>&1 || [ -x "${CARGO_HOME:-$HOME/.cargo}/bin/$1" ]
 }
 
-# The crates that the command uses: arguments, mapped files, a progress line on a terminal.
+# The crates that the command uses: arguments, mapped files, a progress line on a terminal, whether there is one, a signal.
 need librust-clap-dev
+need librust-console-dev
+need librust-libc-dev
 need librust-clap-derive-dev
 need librust-memmap2-dev
 need librust-indicatif-dev

@@ -13,7 +13,9 @@ pub struct Bytes(pub Vec<u8>);
 pub enum EscapeFault {
     /// A backslash before a character that makes no escape with it.
     Unknown(String),
-    /// A backslash, or `\x`, with too few characters after it.
+    /// `\x` without two hex digits after it.
+    Digits(String),
+    /// A backslash with nothing after it.
     Cut,
 }
 
@@ -23,10 +25,12 @@ impl fmt::Display for EscapeFault {
             EscapeFault::Unknown(escape) => {
                 write!(out, "unknown escape {escape}; known are \\t \\n \\r \\\\ and \\x with two hex digits")
             }
-            EscapeFault::Cut => write!(
-                out,
-                "an escape is cut off at the end; write \\\\ for a backslash"
-            ),
+            EscapeFault::Digits(escape) => {
+                write!(out, "\\x needs two hex digits (here: {escape})")
+            }
+            EscapeFault::Cut => {
+                write!(out, "a backslash at the end; write \\\\ for a backslash")
+            }
         }
     }
 }
@@ -56,17 +60,25 @@ fn take_escape(after: &[u8]) -> Result<(u8, &[u8]), EscapeFault> {
         [b'n', left @ ..] => Ok((b'\n', left)),
         [b'r', left @ ..] => Ok((b'\r', left)),
         [b'\\', left @ ..] => Ok((b'\\', left)),
-        [b'x', high, low, left @ ..] => match (digit(*high), digit(*low)) {
-            (Some(high), Some(low)) => Ok((high * 16 + low, left)),
-            _ => Err(unknown_escape(&[b'x', *high, *low])),
-        },
-        [] | [b'x'] | [b'x', _] => Err(EscapeFault::Cut),
-        [other, ..] => Err(unknown_escape(&[*other])),
+        [b'x', digits @ ..] => take_hex(digits).ok_or_else(|| {
+            let longest = after.len().min(3);
+            EscapeFault::Digits(show_escape(&after[..longest]))
+        }),
+        [] => Err(EscapeFault::Cut),
+        [other, ..] => Err(EscapeFault::Unknown(show_escape(&[*other]))),
     }
 }
 
-fn unknown_escape(escape: &[u8]) -> EscapeFault {
-    EscapeFault::Unknown(format!("\\{}", String::from_utf8_lossy(escape)))
+/// Gives the byte that two hex digits stand for, and the rest.
+fn take_hex(digits: &[u8]) -> Option<(u8, &[u8])> {
+    match digits {
+        [high, low, left @ ..] => Some((digit(*high)? * 16 + digit(*low)?, left)),
+        _ => None,
+    }
+}
+
+fn show_escape(escape: &[u8]) -> String {
+    format!("\\{}", String::from_utf8_lossy(escape))
 }
 
 /// The value of a hex digit.
@@ -90,7 +102,10 @@ pub fn escape(bytes: &[u8]) -> String {
             b'\\' => text.push_str("\\\\"),
             b'"' => text.push_str("\\x22"),
             b' '..=b'~' => text.push(char::from(*byte)),
-            other => text.push_str(&format!("\\x{other:02x}")),
+            other => {
+                let digit = |value: u8| char::from_digit(u32::from(value), 16).unwrap_or('0');
+                text.extend(['\\', 'x', digit(other / 16), digit(other % 16)]);
+            }
         }
     }
     text
@@ -116,8 +131,10 @@ mod tests {
     #[test]
     fn unknown_and_cut_escapes() {
         assert_eq!(of(r"\q"), Err(EscapeFault::Unknown(r"\q".into())));
-        assert_eq!(of(r"\xg0"), Err(EscapeFault::Unknown(r"\xg0".into())));
-        for cut in [r"\", r"a\x", r"a\x4", r"\\\"] {
+        for short in [r"\xg0", r"\x", r"\x4", r"\x4\"] {
+            assert_eq!(of(short), Err(EscapeFault::Digits(short.into())));
+        }
+        for cut in [r"\", r"\\\"] {
             assert_eq!(of(cut), Err(EscapeFault::Cut), "{cut}");
         }
     }

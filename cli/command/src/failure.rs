@@ -30,7 +30,7 @@ pub enum Failure {
 impl Failure {
     /// The failure to read or write a file.
     pub fn of_file(file: &Path, error: &std::io::Error) -> Self {
-        Failure::Trouble(format!("{}: {error}", file.display()))
+        Failure::Trouble(format!("{}: {}", file.display(), in_words(error)))
     }
 
     /// The line for a person, if there is anything to say.
@@ -59,6 +59,16 @@ impl Failure {
             Failure::ReaderGone => Status::Answered,
         }
     }
+}
+
+/// A fault of the system without its number, which tells a person nothing.
+pub fn in_words(error: &std::io::Error) -> String {
+    let words = error.to_string();
+    let number = error
+        .raw_os_error()
+        .map(|code| format!(" (os error {code})"));
+    let plain = number.and_then(|number| words.strip_suffix(number.as_str()).map(String::from));
+    plain.unwrap_or(words)
 }
 
 /// Puts a line on standard error. Where even that can't be written, the exit status is all there is.

@@ -4,16 +4,18 @@
 //! prints the answers.
 //!
 //! * [`arguments`] and [`escapes`]: what a person asks for.
-//! * [`input`], [`archive`], [`answers`], [`refusals`]: bytes, checked or not, the library's answers with lists that grow, and
-//!   refusals in words.
+//! * [`input`], [`cut_files`], [`archive`], [`answers`], [`refusals`]: bytes, checked or not, the library's answers with lists that
+//!   grow, and refusals in words.
 //! * [`validate`], [`dump`], [`info`], [`explain`]: one module for each command.
-//! * [`output`], [`progress`], [`failure`]: where answers are written, progress on a terminal, and what went wrong.
-//! * [`layout`], [`walk`], [`json`]: fields and bounds for display only.
+//! * [`output`], [`terminal`], [`progress`], [`failure`]: where answers are written, text and progress on a terminal, and what went wrong.
+//! * [`layout`], [`walk`], [`json`]: fields and bounds for display, and what a search would cost.
 #![deny(unsafe_code)]
 
 mod answers;
 mod archive;
 mod arguments;
+#[allow(unsafe_code)]
+mod cut_files;
 mod dump;
 mod escapes;
 mod explain;
@@ -26,6 +28,7 @@ mod layout;
 mod output;
 mod progress;
 mod refusals;
+mod terminal;
 mod validate;
 mod walk;
 

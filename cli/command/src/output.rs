@@ -4,7 +4,7 @@ use std::fs::{self, File, OpenOptions};
 use std::io::{self, BufWriter, ErrorKind, Write};
 use std::path::{Path, PathBuf};
 
-use crate::failure::Failure;
+use crate::failure::{in_words, Failure};
 
 const BUFFER: usize = 1 << 16;
 
@@ -39,7 +39,7 @@ pub fn format_count(number: u64, one: &str, more: &str) -> String {
 fn name_failure(name: &str, outcome: io::Result<()>) -> Result<(), Failure> {
     outcome.map_err(|error| match error.kind() {
         ErrorKind::BrokenPipe => Failure::ReaderGone,
-        _ => Failure::Trouble(format!("can't write {name}: {error}")),
+        _ => Failure::Trouble(format!("can't write {name}: {}", in_words(&error))),
     })
 }
 
