@@ -8,6 +8,7 @@ use std::path::Path;
 use crate::answers::{read, search, Answer};
 use crate::archive::Archive;
 use crate::arguments::{Dump, Length};
+use crate::escapes::escape_name;
 use crate::failure::Failure;
 use crate::{output, progress};
 
@@ -42,7 +43,7 @@ fn refuse_archive_as_output(asked: &Dump) -> Result<(), Failure> {
     match (place(&asked.file), place(target)) {
         (Ok(archive), Ok(output)) if archive == output => Err(Failure::Trouble(format!(
             "{}: the output is the archive itself",
-            target.display()
+            escape_name(target)
         ))),
         _ => Ok(()),
     }

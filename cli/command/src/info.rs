@@ -3,7 +3,7 @@
 use crate::answers::Contents;
 use crate::archive::read_and_check;
 use crate::arguments::Info;
-use crate::escapes::escape;
+use crate::escapes::{escape, escape_name};
 use crate::failure::Failure;
 use crate::json::{as_json, quote};
 use crate::layout::{block, header, Header};
@@ -14,10 +14,8 @@ pub fn run(asked: &Info) -> Result<(), Failure> {
     let (input, contents) = read_and_check(&asked.file)?;
     let file = input.bytes();
     let unreadable = || {
-        Failure::Trouble(format!(
-            "{}: the header can't be shown",
-            asked.file.display()
-        ))
+        let name = escape_name(&asked.file);
+        Failure::Trouble(format!("{name}: the header can't be shown"))
     };
     let header = header(file).ok_or_else(unreadable)?;
     if asked.metadata_only {

@@ -3,7 +3,7 @@
 //! Every verdict, every match and every opened block comes from the proved library. This crate reads the arguments and the files, and
 //! prints the answers.
 //!
-//! * [`arguments`] and [`escapes`]: what a person asks for.
+//! * [`arguments`], [`escapes`] and [`usage`]: what a person asks for.
 //! * [`input`], [`archive`], [`answers`], [`refusals`]: bytes, checked or not, the library's answers with lists that grow, and
 //!   refusals in words.
 //! * [`validate`], [`dump`], [`info`], [`explain`]: one module for each command.
@@ -26,6 +26,7 @@ mod layout;
 mod output;
 mod progress;
 mod refusals;
+mod usage;
 mod validate;
 mod walk;
 
@@ -34,12 +35,13 @@ use std::process::ExitCode;
 
 use arguments::{Arguments, Command};
 use clap::Parser;
+use escapes::escape_name;
 use failure::{complain, Failure, Status};
 
 fn main() -> ExitCode {
     let status = match Arguments::try_parse() {
         Ok(arguments) => run(&arguments.command),
-        Err(help_or_mistake) => show_usage(&help_or_mistake),
+        Err(help_or_mistake) => usage::show(&help_or_mistake),
     };
     ExitCode::from(status as u8)
 }
@@ -58,7 +60,7 @@ fn report(file: &Path, outcome: Result<(), Failure>) -> Status {
     match outcome {
         Ok(()) => Status::Answered,
         Err(failure) => {
-            if let Some(reason) = failure.describe(file) {
+            if let Some(reason) = failure.describe(&escape_name(file)) {
                 complain(&reason);
             }
             if let Some(advice) = failure.advice() {
@@ -66,14 +68,5 @@ fn report(file: &Path, outcome: Result<(), Failure>) -> Status {
             }
             failure.status()
         }
-    }
-}
-
-/// Shows help, version, or a mistake in the arguments. The first two are answers.
-fn show_usage(help_or_mistake: &clap::Error) -> Status {
-    match help_or_mistake.print() {
-        Ok(()) if !help_or_mistake.use_stderr() => Status::Answered,
-        Err(error) if error.kind() == std::io::ErrorKind::BrokenPipe => Status::Answered,
-        _ => Status::Trouble,
     }
 }

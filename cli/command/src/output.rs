@@ -4,6 +4,7 @@ use std::fs::{self, File, OpenOptions};
 use std::io::{self, BufWriter, ErrorKind, Write};
 use std::path::{Path, PathBuf};
 
+use crate::escapes::escape_name;
 use crate::failure::Failure;
 
 const BUFFER: usize = 1 << 16;
@@ -18,7 +19,7 @@ pub fn write(target: Option<&Path>, writing: &Writing) -> Result<(), Failure> {
             "standard output",
             write_buffered(&mut io::stdout().lock(), writing),
         ),
-        Some(path) => name_failure(&path.display().to_string(), write_file(path, writing)),
+        Some(path) => name_failure(&escape_name(path), write_file(path, writing)),
     }
 }
 

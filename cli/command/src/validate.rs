@@ -4,6 +4,7 @@ use std::path::Path;
 
 use crate::archive::read_and_check;
 use crate::arguments::Validate;
+use crate::escapes::escape_name;
 use crate::failure::{complain, Failure, Status};
 use crate::output::{self, format_count};
 
@@ -30,12 +31,14 @@ fn print_verdict(file: &Path) -> Result<(), Failure> {
     match read_and_check(file) {
         Ok((_, contents)) => output::print(&format!(
             "{}: valid, {} in {}\n",
-            file.display(),
+            escape_name(file),
             format_count(contents.records, "record", "records"),
             format_count(contents.blocks, "block", "blocks"),
         )),
         Err(failure) => {
-            if let (Failure::Refused(_), Some(line)) = (&failure, failure.describe(file)) {
+            if let (Failure::Refused(_), Some(line)) =
+                (&failure, failure.describe(&escape_name(file)))
+            {
                 output::print(&format!("{line}\n"))?;
             }
             Err(failure)
