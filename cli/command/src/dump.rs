@@ -1,20 +1,18 @@
 //! `zs dump`: the records asked for.
 
-use std::fs;
 use std::io::{self, Write};
-use std::os::unix::fs::MetadataExt;
-use std::path::Path;
 
 use crate::answers::{read, search, Answer};
 use crate::archive::Archive;
 use crate::arguments::{Dump, Length};
-use crate::escapes::escape_name;
 use crate::failure::Failure;
-use crate::{output, progress};
+use crate::output::Output;
+use crate::progress;
 
 /// Writes nothing before the whole answer is known.
 pub fn run(asked: &Dump) -> Result<(), Failure> {
-    refuse_archive_as_output(asked)?;
+    let output = Output::find(asked.output.as_deref())?;
+    output.refuse_archive(&asked.file)?;
     let archive = Archive::open(&asked.file, &asked.trust)?;
     let (file, known) = (archive.bytes(), archive.known);
     let answer = progress::show_while("reading", &asked.file, file.len(), || {
@@ -25,27 +23,10 @@ pub fn run(asked: &Dump) -> Result<(), Failure> {
             search(file, &query, known, asked.max_results)
         }
     })?;
-    let target = asked.output.as_deref();
     if asked.count {
-        output::write(target, &|out| writeln!(out, "{}", answer.count()))
+        output.write(&|out| writeln!(out, "{}", answer.count()))
     } else {
-        output::write(target, &|out| write_records(asked, file, &answer, out))
-    }
-}
-
-/// An archive isn't replaced by its own records.
-fn refuse_archive_as_output(asked: &Dump) -> Result<(), Failure> {
-    let place = |path: &Path| fs::metadata(path).map(|about| (about.dev(), about.ino()));
-    let target = match &asked.output {
-        Some(path) => path,
-        None => return Ok(()),
-    };
-    match (place(&asked.file), place(target)) {
-        (Ok(archive), Ok(output)) if archive == output => Err(Failure::Trouble(format!(
-            "{}: the output is the archive itself",
-            escape_name(target)
-        ))),
-        _ => Ok(()),
+        output.write(&|out| write_records(asked, file, &answer, out))
     }
 }
 

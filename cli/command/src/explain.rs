@@ -22,7 +22,7 @@ pub fn run(asked: &Explain) -> Result<(), Failure> {
     })?;
     let blocks = lay_out(file, &answer);
     let root_level = blocks.first().map_or(0, |root| root.level);
-    output::write(None, &|out| {
+    output::write(&asked.file, &|out| {
         for block in &blocks {
             writeln!(out, "{}", line(block, root_level))?;
         }
@@ -60,7 +60,6 @@ fn bound(bytes: &[u8]) -> String {
 
 /// How many blocks were opened, and how many of those below the root led to no match.
 fn summary(blocks: &[Opened], matches: u64, known: Option<Contents>) -> String {
-    let of_all = known.map_or(String::new(), |contents| format!(" of {}", contents.blocks));
     let mut in_vain: BTreeMap<u8, u64> = BTreeMap::new();
     for block in blocks.iter().skip(1).filter(|block| block.matches == 0) {
         *in_vain.entry(block.level).or_insert(0) += 1;
@@ -74,9 +73,18 @@ fn summary(blocks: &[Opened], matches: u64, known: Option<Contents>) -> String {
     } else {
         levels.join(", ")
     };
-    let opened = blocks.len();
     format!(
-        "opened {opened}{of_all} blocks, {}, in vain: {in_vain}",
+        "opened {}, {}, in vain: {in_vain}",
+        count_opened(blocks.len() as u64, known),
         format_count(matches, "match", "matches")
     )
+}
+
+/// Says how many blocks were opened, and of how many, where that is known.
+fn count_opened(opened: u64, known: Option<Contents>) -> String {
+    let count = |number| format_count(number, "block", "blocks");
+    match known {
+        Some(contents) => format!("{opened} of {}", count(contents.blocks)),
+        None => count(opened),
+    }
 }

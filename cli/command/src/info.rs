@@ -19,13 +19,14 @@ pub fn run(asked: &Info) -> Result<(), Failure> {
     };
     let header = header(file).ok_or_else(unreadable)?;
     if asked.metadata_only {
-        return output::write(None, &|out| {
+        return output::write(&asked.file, &|out| {
             out.write_all(header.metadata)?;
             out.write_all(b"\n")
         });
     }
     let root_level = block(file, header.root_offset).map_or(0, |root| root.level);
-    output::print(&describe(&header, root_level, &contents))
+    let text = describe(&header, root_level, &contents);
+    output::write(&asked.file, &|out| out.write_all(text.as_bytes()))
 }
 
 fn describe(header: &Header, root_level: u8, contents: &Contents) -> String {

@@ -1,4 +1,4 @@
-//! The bytes of an archive. The only file of the command with unsafe code: it maps files.
+//! The bytes of an archive. Has unsafe code: it maps files.
 
 use std::fs::File;
 use std::io::{self, Read};

@@ -5,18 +5,17 @@ use std::io::{self, Write};
 use clap::error::ContextValue;
 
 use crate::escapes::hide_controls;
-use crate::failure::Status;
+use crate::failure::{Failure, Status};
+use crate::output;
 
 /// Shows help, version, or a mistake. The first two are answers.
-pub fn show(help_or_mistake: &clap::Error) -> Status {
+pub fn show(help_or_mistake: &clap::Error) -> Result<Status, Failure> {
     if help_or_mistake.use_stderr() {
         show_mistake(help_or_mistake);
-        return Status::Trouble;
+        return Ok(Status::Trouble);
     }
-    match help_or_mistake.print() {
-        Err(error) if error.kind() != io::ErrorKind::BrokenPipe => Status::Trouble,
-        _ => Status::Answered,
-    }
+    output::print(&help_or_mistake.to_string())?;
+    Ok(Status::Answered)
 }
 
 /// Puts a mistake on standard error. What was given can't forge a line there.
