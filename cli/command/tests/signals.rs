@@ -70,8 +70,8 @@ fn a_limit_of_length_is_an_error_in_words() {
         let line = format!("ulimit -f 8; exec $ZS dump '{CONTACTS}' {output}");
         let run = shell(&line, &folder);
         assert_eq!(run.status, 2, "{run:?}");
-        let due = format!("zs: can't write {name}: File too large (os error 27)\n");
-        assert_eq!(run.err, due);
+        let due = format!("zs: can't write {name}: File too large");
+        assert!(run.err.starts_with(&due), "{}", run.err);
     }
     assert_eq!(folder.files(), ["out", "redirected"]);
     assert_eq!(fs::read(folder.name("out")).expect("the output"), b"kept");

@@ -187,7 +187,7 @@ fn links_that_lead_nowhere() {
         let name = folder.name(name);
         let run = zs(&["dump", SMALL, "-o", &name]);
         assert_eq!(run.status, 2);
-        let due = format!("zs: can't write {name}: {says} (os error ");
+        let due = format!("zs: can't write {name}: {says}");
         assert!(run.err.starts_with(&due), "{}", run.err);
     }
     assert_eq!(folder.files(), ["loop", "lost"]);
