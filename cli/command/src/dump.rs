@@ -1,16 +1,12 @@
 //! `zs dump`: the records asked for.
 
-use std::fs;
 use std::io::{self, Write};
-use std::os::unix::fs::MetadataExt;
-use std::path::Path;
 
 use crate::answers::{count, read, search, Answer, Finding};
 use crate::archive::Archive;
 use crate::arguments::{Dump, Length};
 use crate::failure::Failure;
-use crate::input::system_path;
-use crate::output;
+use crate::output::Output;
 use crate::progress::show_while;
 
 /// Shorter than the output's buffer.
@@ -18,38 +14,22 @@ const PIECE: usize = 1 << 12;
 
 /// Writes nothing before the whole answer is known.
 pub fn run(asked: &Dump) -> Result<(), Failure> {
-    refuse_archive_as_output(asked)?;
+    let output = Output::find(asked.output.as_deref())?;
+    output.refuse_archive(&asked.file)?;
     let archive = Archive::open(&asked.file, &asked.trust)?;
     let (file, known) = (archive.bytes(), archive.known);
     let (query, limit) = (asked.selection.query(), asked.max_results);
     let find: Finding = if asked.scan { read } else { search };
-    let target = asked.output.as_deref();
     if asked.count {
         let number = show_while("counting", &asked.file, file.len(), || {
             count(find, file, &query, known, limit)
         })?;
-        return output::write(target, &|out| writeln!(out, "{number}"));
+        return output.write(&|out| writeln!(out, "{number}"));
     }
     let answer = show_while("reading", &asked.file, file.len(), || {
         find(file, &query, known, limit)
     })?;
-    output::write(target, &|out| write_records(asked, file, &answer, out))
-}
-
-/// An archive isn't replaced by its own records.
-fn refuse_archive_as_output(asked: &Dump) -> Result<(), Failure> {
-    let place = |path: &Path| fs::metadata(path).map(|about| (about.dev(), about.ino()));
-    let target = match &asked.output {
-        Some(path) => path,
-        None => return Ok(()),
-    };
-    match (place(system_path(&asked.file)), place(target)) {
-        (Ok(archive), Ok(output)) if archive == output => Err(Failure::Trouble(format!(
-            "{}: the output is the archive itself",
-            target.display()
-        ))),
-        _ => Ok(()),
-    }
+    output.write(&|out| write_records(asked, file, &answer, out))
 }
 
 /// Writes each record, which is a part of the file, and then the terminator, or before it its length.

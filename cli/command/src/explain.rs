@@ -25,7 +25,7 @@ pub fn run(asked: &Explain) -> Result<(), Failure> {
     let answer = progress::show_while("searching", &asked.file, file.len(), || {
         search(file, &query, known, None)
     })?;
-    output::write(None, &|out| {
+    output::write(&asked.file, &|out| {
         let in_vain = write_blocks(file, &query, &answer, out)?;
         writeln!(out, "{}", summarise(&answer, known, &in_vain))
     })
@@ -112,14 +112,6 @@ fn quote_bound(bytes: &[u8]) -> String {
 
 /// How many blocks were opened, and how many of those below the root led to no match.
 fn summarise(answer: &Answer, known: Option<Contents>, in_vain: &InVain) -> String {
-    let opened = answer.opened.len() as u64;
-    let opened = match known {
-        Some(contents) => format!(
-            "{opened} of {}",
-            format_count(contents.blocks, "block", "blocks")
-        ),
-        None => format_count(opened, "block", "blocks"),
-    };
     let levels: Vec<String> = in_vain
         .by_level
         .iter()
@@ -131,7 +123,17 @@ fn summarise(answer: &Answer, known: Option<Contents>, in_vain: &InVain) -> Stri
         levels.join(", ")
     };
     format!(
-        "opened {opened}, {}, in vain: {in_vain}",
+        "opened {}, {}, in vain: {in_vain}",
+        count_opened(answer.opened.len() as u64, known),
         format_count(answer.count(), "match", "matches")
     )
+}
+
+/// Says how many blocks were opened, and of how many, where that is known.
+fn count_opened(opened: u64, known: Option<Contents>) -> String {
+    let count = |number| format_count(number, "block", "blocks");
+    match known {
+        Some(contents) => format!("{opened} of {}", count(contents.blocks)),
+        None => count(opened),
+    }
 }

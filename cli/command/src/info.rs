@@ -5,6 +5,7 @@ use std::io::{self, Write};
 use crate::answers::Contents;
 use crate::archive::read_and_check;
 use crate::arguments::Info;
+use crate::escapes::escape_name;
 use crate::failure::Failure;
 use crate::json::{as_json, write_string};
 use crate::layout::{block, header, Header};
@@ -16,14 +17,12 @@ pub fn run(asked: &Info) -> Result<(), Failure> {
     let (input, contents) = read_and_check(&asked.file)?;
     let file = input.bytes();
     let unreadable = || {
-        Failure::Trouble(format!(
-            "{}: the header can't be shown",
-            asked.file.display()
-        ))
+        let name = escape_name(&asked.file);
+        Failure::Trouble(format!("{name}: the header can't be shown"))
     };
     let header = header(file).ok_or_else(unreadable)?;
     let root_level = block(file, header.root_offset).map_or(0, |root| root.level);
-    output::write(None, &|out| {
+    output::write(&asked.file, &|out| {
         if asked.metadata_only {
             write_metadata(header.metadata, out)
         } else {

@@ -2,7 +2,6 @@
 
 use std::fs::File;
 use std::io::{self, Read};
-use std::os::unix::io::AsFd;
 use std::path::Path;
 
 use zs_library::Mapping;
@@ -10,6 +9,7 @@ use zs_library::Mapping;
 use crate::cut_files::report_cut_files;
 use crate::failure::Failure;
 use crate::refusals::Refusal;
+use crate::system::clone_descriptor;
 
 /// A longer file is refused by its length alone.
 pub const LONGEST: usize = 1 << 30;
@@ -83,8 +83,7 @@ fn load(path: &Path, longest_read: u64) -> Result<Input, Failure> {
 /// Opens a file, and gives its length if it has one. Standard input is read from where it stands, whatever it is.
 fn open(path: &Path) -> io::Result<(File, Option<u64>)> {
     if is_standard_input(path) {
-        let descriptor = io::stdin().as_fd().try_clone_to_owned()?;
-        return Ok((File::from(descriptor), None));
+        return Ok((clone_descriptor(0)?, None));
     }
     let file = File::open(path)?;
     let about = file.metadata()?;

@@ -74,14 +74,24 @@ fn an_archive_on_standard_input_is_never_its_own_output() {
     let folder = Folder::new();
     let bytes = fs::read(SMALL).expect("the sample");
     let file = folder.write("small.zs", &bytes);
-    let run = shell("exec $ZS dump - -o small.zs < small.zs", &folder);
-    assert_eq!(run.status, 2);
-    assert!(
-        run.err.contains("the output is the archive itself"),
-        "{}",
-        run.err
-    );
-    assert_eq!(fs::read(&file).expect("the archive"), bytes);
+    for words in [
+        "dump - -o small.zs <small.zs",
+        "dump - <small.zs >>small.zs",
+        "info - <small.zs >>small.zs",
+        "explain - <small.zs >>small.zs",
+        "validate - <small.zs >>small.zs",
+    ] {
+        let run = shell(&format!("exec $ZS {words}"), &folder);
+        assert_eq!(run.status, 2, "{words}");
+        assert_eq!(run.err, "zs: -: the output is the archive itself\n");
+        assert_eq!(fs::read(&file).expect("the archive"), bytes, "{words}");
+    }
+}
+
+#[test]
+fn a_closed_standard_input_is_said_to_be_closed() {
+    let run = shell("exec $ZS validate - <&-", &Folder::new());
+    assert_eq!((run.status, run.err.as_str()), (2, "zs: -: it is closed\n"));
 }
 
 #[test]

@@ -110,11 +110,13 @@ fn no_numbers_of_the_system() {
         run.err,
         "zs: missing: No such file or directory\nzs: .: Is a directory\n"
     );
-    let run = shell(&format!("$ZS dump '{SMALL}' >/dev/full"), &folder);
-    assert_eq!(
-        run.err,
-        "zs: can't write standard output: No space left on device\n"
-    );
+    for (output, says) in [
+        (">/dev/full", "standard output: No space left on device"),
+        ("-o missing/out", "missing/out: No such file or directory"),
+    ] {
+        let run = shell(&format!("$ZS dump '{SMALL}' {output}"), &folder);
+        assert_eq!(run.err, format!("zs: can't write {says}\n"));
+    }
 }
 
 #[test]
