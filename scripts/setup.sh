@@ -18,8 +18,10 @@ have() {
     command -v "$1" >/dev/null 2>&1 || [ -x "${CARGO_HOME:-$HOME/.cargo}/bin/$1" ]
 }
 
-# The crates that the command uses: arguments, mapped files, a progress line on a terminal.
+# The crates that the command uses: arguments, mapped files, a progress line on a terminal, whether there is one, calls of the system.
 need librust-clap-dev
+need librust-console-dev
+need librust-libc-dev
 need librust-clap-derive-dev
 need librust-memmap2-dev
 need librust-indicatif-dev
@@ -66,7 +68,7 @@ if [ "$found" != "$known" ]; then
 fi
 
 # Other releases of Debian bring other versions, which cli/ isn't written for.
-for crate in clap-4 clap_derive-4 memmap2-0.5 indicatif-0.17 crc-1.8 sha2-0.10; do
+for crate in clap-4 clap_derive-4 console-0.15 libc-0.2 memmap2-0.5 indicatif-0.17 crc-1.8 sha2-0.10; do
     set -- /usr/share/cargo/registry/"$crate"*
     if [ ! -d "$1" ]; then
         echo "setup: no $crate in /usr/share/cargo/registry; this needs Debian 12" >&2

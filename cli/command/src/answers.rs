@@ -1,22 +1,25 @@
 //! The library's answers, with lists that grow until they are long enough.
 //!
-//! A short list is refused (18, 26, 27) and the call is made again with a longer one, so a person never sees these numbers, except 27
-//! where `--max-results` sets the limit.
+//! A short list is refused (18, 27) and the call is made again with a longer one. How many blocks a search opens is known beforehand
+//! (26). So a person never sees these numbers, except 27 where `--max-results` sets the limit.
 
 use zs_library::Query;
 
 use crate::failure::Failure;
 use crate::input::LONGEST;
 use crate::refusals::Refusal;
+use crate::walk::measure;
 
 /// The least full size of an ordinary block: a number, a level, one byte of payload and the checksum.
 const SMALLEST_BLOCK: usize = 11;
 /// Blocks of a usual file are longer than this, so its work list is long enough at once.
 const USUAL_BLOCK: usize = 512;
-/// Places of a first list: a lookup opens few blocks and finds few records.
+/// Places of a first list: a lookup finds few records.
 const FIRST_PLACES: usize = 1024;
+/// Besides, a first list has a place for so many bytes that may be searched.
+const BYTES_PER_PLACE: usize = 64;
 
-/// What an accepted file holds.
+/// What an accepted file holds, or what a search meets at most.
 #[derive(Clone, Copy, Debug)]
 pub struct Contents {
     pub blocks: u64,
@@ -30,8 +33,8 @@ pub struct Answer {
 }
 
 impl Answer {
-    pub fn count(&self) -> usize {
-        self.results.len() / 2
+    pub fn count(&self) -> u64 {
+        self.results.len() as u64 / 2
     }
 
     /// Offset and length of each match.
@@ -62,17 +65,24 @@ impl Places {
     }
 
     fn zeros(&self) -> Result<Vec<u64>, Failure> {
-        let mut list = Vec::new();
-        let room = list.try_reserve_exact(self.now);
-        room.map_err(|_| Failure::Trouble("there isn't enough memory for the answer".into()))?;
-        list.resize(self.now, 0);
-        Ok(list)
+        zeros(self.now)
     }
+}
+
+/// A list of so many places.
+fn zeros(places: usize) -> Result<Vec<u64>, Failure> {
+    let mut list = Vec::new();
+    let room = list.try_reserve_exact(places);
+    room.map_err(|_| {
+        Failure::Trouble("there isn't enough memory for the answer; ask for fewer records".into())
+    })?;
+    list.resize(places, 0);
+    Ok(list)
 }
 
 /// Checks a file.
 pub fn check(file: &[u8]) -> Result<Contents, Failure> {
-    let length = readable_length(file);
+    let length = readable(file).len();
     let mut work = Places::new(length / USUAL_BLOCK + 64, length / SMALLEST_BLOCK);
     loop {
         let answer = zs_library::check(file, &mut work.zeros()?);
@@ -84,39 +94,38 @@ pub fn check(file: &[u8]) -> Result<Contents, Failure> {
                 })
             }
             18 if work.grow() => {}
-            number => return refuse(number, answer.place),
+            number => return refuse(file, number, answer.place),
         }
     }
 }
 
 /// Searches a file through its index. `known` is what a check found in it, if there was one.
 ///
-/// A file that was never checked can ask for more blocks or matches than any accepted one; before it gets a list that long it is
-/// checked after all, and then it is refused.
+/// A file that was never checked can ask for blocks again and again. Where they are longer together than the file, no accepted file
+/// could ask for them, and it is checked after all.
 pub fn search(
     file: &[u8],
     query: &Query,
     known: Option<Contents>,
     limit: Option<u64>,
 ) -> Result<Answer, Failure> {
-    let mut known = known;
-    let first = known.map_or(FIRST_PLACES, |contents| places(contents.blocks));
-    let mut opened = Places::new(first, most_opened(file, known));
-    let first = first_results(file, query, known);
-    let mut results = Places::new(first, most_results(file, known, limit));
+    let most = match known.or_else(|| measure(readable(file), query)) {
+        Some(most) => most,
+        None => check(file)?,
+    };
+    let first = match known {
+        Some(contents) => first_results(file.len(), query, contents),
+        None => places(most.records) / BYTES_PER_PLACE + FIRST_PLACES,
+    };
+    let mut results = Places::new(first, most_results(most.records, limit));
     loop {
-        let (mut walked, mut pairs) = (opened.zeros()?, results.zeros()?);
-        let answer = zs_library::search(file, query, &mut walked, &mut pairs);
+        let (mut opened, mut pairs) = (zeros(places(most.blocks))?, results.zeros()?);
+        let answer = zs_library::search(file, query, &mut opened, &mut pairs);
         match answer.number {
-            0 => return Ok(cut_lists(walked, answer.opened, pairs, answer.matches)),
-            26 if opened.grow() => {}
+            0 => return Ok(cut_lists(opened, answer.opened, pairs, answer.matches)),
             27 if results.grow() => {}
-            26 | 27 if known.is_none() && !(answer.number == 27 && reaches(&results, limit)) => {
-                known = Some(check(file)?);
-                opened.most = most_opened(file, known);
-                results.most = most_results(file, known, limit);
-            }
-            number => return refuse(number, answer.place),
+            27 => return refuse_matches(file, limit),
+            number => return refuse(file, number, answer.place),
         }
     }
 }
@@ -128,64 +137,83 @@ pub fn read(
     known: Option<Contents>,
     limit: Option<u64>,
 ) -> Result<Answer, Failure> {
-    let first = first_results(file, query, known).max(readable_length(file) / 16);
-    let mut results = Places::new(first, most_results(file, known, limit));
+    let length = readable(file).len();
+    let first = known.map_or(0, |contents| first_results(length, query, contents));
+    // A record takes a byte or more.
+    let records = known.map_or(length as u64, |contents| contents.records);
+    let mut results = Places::new(first.max(length / 16), most_results(records, limit));
     loop {
         let mut pairs = results.zeros()?;
         let answer = zs_library::read(file, query, &mut pairs);
         match answer.number {
             0 => return Ok(cut_lists(Vec::new(), 0, pairs, answer.matches)),
             27 if results.grow() => {}
-            number => return refuse(number, answer.place),
+            27 => return refuse_matches(file, limit),
+            number => return refuse(file, number, answer.place),
         }
     }
 }
 
-fn refuse<T>(number: u64, place: u64) -> Result<T, Failure> {
-    Err(Failure::Refused(Refusal { number, place }))
+/// A way to find the matches: [`search`] or [`read`].
+pub type Finding = fn(&[u8], &Query, Option<Contents>, Option<u64>) -> Result<Answer, Failure>;
+
+/// Counts the matches. All records of a checked file were counted by the check, so that no list is needed for them.
+pub fn count(
+    find: Finding,
+    file: &[u8],
+    query: &Query,
+    known: Option<Contents>,
+    limit: Option<u64>,
+) -> Result<u64, Failure> {
+    match known.filter(|_| asks_for_all(query)) {
+        Some(Contents { records, .. }) if limit.map_or(true, |limit| records <= limit) => {
+            Ok(records)
+        }
+        Some(_) => refuse_matches(file, limit),
+        None => Ok(find(file, query, known, limit)?.count()),
+    }
 }
 
-/// How many bytes may be looked at: a file above the limit is refused by its length, whatever its lists.
-fn readable_length(file: &[u8]) -> usize {
+fn asks_for_all(query: &Query) -> bool {
+    query.start.is_empty() && query.stop.is_none() && query.prefix.is_empty()
+}
+
+fn refuse<T>(file: &[u8], number: u64, place: u64) -> Result<T, Failure> {
+    Err(Failure::Refused(Refusal::of_file(number, place, file)))
+}
+
+/// Refuses more matches than are allowed. Without a limit the list has room for all.
+fn refuse_matches<T>(file: &[u8], limit: Option<u64>) -> Result<T, Failure> {
+    match limit {
+        Some(limit) => Err(Failure::Refused(Refusal::of_matches(limit))),
+        None => refuse(file, 27, 0),
+    }
+}
+
+/// The bytes that may be looked at: a file above the limit is refused by its length, whatever its lists.
+fn readable(file: &[u8]) -> &[u8] {
     match file.len() {
-        length if length > LONGEST => 0,
-        length => length,
+        length if length > LONGEST => &[],
+        _ => file,
     }
 }
 
-/// An accepted file opens each of its blocks at most once.
-fn most_opened(file: &[u8], known: Option<Contents>) -> usize {
-    match known {
-        Some(contents) => places(contents.blocks),
-        None => readable_length(file) / USUAL_BLOCK + FIRST_PLACES,
+/// Places for the results of a checked file. A check takes longer than clearing a long list, which saves calls.
+fn first_results(length: usize, query: &Query, contents: Contents) -> usize {
+    if asks_for_all(query) {
+        places(contents.records.saturating_mul(2))
+    } else {
+        length / BYTES_PER_PLACE + FIRST_PLACES
     }
 }
 
-/// A lookup in a file that wasn't checked must be quick. After a check, which takes longer anyway, a longer list saves calls.
-fn first_results(file: &[u8], query: &Query, known: Option<Contents>) -> usize {
-    let all = query.start.is_empty() && query.stop.is_none() && query.prefix.is_empty();
-    match known {
-        Some(contents) if all => places(contents.records.saturating_mul(2)),
-        Some(_) => readable_length(file) / 64 + FIRST_PLACES,
-        None => FIRST_PLACES,
-    }
-}
-
-/// Two places for each record, or for each byte where the records were never counted; no more than the limit asks for.
-fn most_results(file: &[u8], known: Option<Contents>, limit: Option<u64>) -> usize {
-    let records = known.map_or(readable_length(file) as u64, |contents| contents.records);
+/// Two places for each record, and no more than the limit asks for.
+fn most_results(records: u64, limit: Option<u64>) -> usize {
     places(limit.unwrap_or(records).min(records).saturating_mul(2))
 }
 
 fn places(number: u64) -> usize {
     usize::try_from(number).unwrap_or(usize::MAX)
-}
-
-/// Whether the list has all the places that the limit allows.
-fn reaches(results: &Places, limit: Option<u64>) -> bool {
-    limit.map_or(false, |limit| {
-        places(limit.saturating_mul(2)) <= results.now
-    })
 }
 
 /// Cuts the lists to what was put on them.

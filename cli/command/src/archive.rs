@@ -4,6 +4,7 @@ use std::path::Path;
 
 use crate::answers::{check, Contents};
 use crate::arguments::Trust;
+use crate::escapes::escape_name;
 use crate::failure::{complain, Failure};
 use crate::input::{self, Input};
 use crate::progress;
@@ -42,7 +43,7 @@ pub fn read_and_check(path: &Path) -> Result<(Input, Contents), Failure> {
 /// Maps a file, and says what isn't promised of it.
 fn map_unchecked(path: &Path) -> Result<Input, Failure> {
     let input = input::map(path)?;
-    let name = path.display();
+    let name = escape_name(path);
     complain(&format!(
         "{name}: not checked; that every match is found is promised for checked files only"
     ));

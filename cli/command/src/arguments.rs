@@ -11,7 +11,7 @@ use crate::escapes::{resolve, Bytes};
 const ABOUT: &str = "Checks, reads and searches ZS archives (version 0.10, codec none), by a library that is proved.";
 
 const STATUS: &str = "Exit status: 0 answered, 1 refused, 2 usage or input/output.
-A refusal has a number, a place (the first byte of the block meant, or 0) and a sentence.";
+A refusal has a number, a place (the first byte of the block meant, if one is) and a sentence.";
 
 const EXAMPLES: &str = "Examples:
   zs validate contacts.zs
@@ -24,9 +24,11 @@ Exit status: 0 answered, 1 refused, 2 usage or input/output.
 
 const VALIDATE_EXAMPLES: &str = "Examples:
   zs validate contacts.zs
-  zs validate *.zs                 one line for each file, also after a refused one";
+  zs validate *.zs                 one line for each file, also after a refused one
+  gunzip -c contacts.zs.gz | zs validate -";
 
-const DUMP_EXAMPLES: &str = "S, P and T take the escapes \\t \\n \\r \\\\ and \\x00 to \\xff. Bytes are compared as unsigned numbers.
+const DUMP_EXAMPLES: &str = "S, P and T take the escapes \\t \\n \\r \\\\ and \\x00 to \\xff, and may begin with a dash. Bytes are compared
+as unsigned numbers.
 
 By default a record is followed by a line end. A record that contains the terminator makes the
 output ambiguous: binary records need --length-prefixed.
@@ -37,15 +39,17 @@ Examples:
   zs dump contacts.zs --start B --stop D               from B up to, not including, D
   zs dump contacts.zs --prefix '\\xff' --count          how many begin with the byte FF
   zs dump contacts.zs --terminator '\\x00' | xargs -0 -n 1 echo
-  zs dump contacts.zs --length-prefixed u64le -o out   out appears once it is whole";
+  zs dump contacts.zs --length-prefixed u64le -o out   out appears once it is whole
+  gunzip -c contacts.zs.gz | zs dump - --prefix Ada    an archive on standard input";
 
 const INFO_EXAMPLES: &str =
     "The file is checked first. Metadata that is JSON is shown as it is stored, other metadata as a
-string with escapes.
+string with escapes. On a terminal control characters are shown as escapes.
 
 Examples:
   zs info contacts.zs
-  zs info -m contacts.zs           the metadata alone, as it is stored";
+  zs info -m contacts.zs           the metadata alone, as it is stored
+  zs info -m contacts.zs | jq .    the same for another program";
 
 const EXPLAIN_EXAMPLES: &str = "Each line is a block that the search opened, in that order: its first byte, its level (0 is data),
 and the bounds between which its records lie. A block is opened where some byte string between its
@@ -81,19 +85,19 @@ pub enum Command {
 
 #[derive(Args)]
 pub struct Validate {
-    /// The files to check
+    /// The files to check; - is standard input
     #[arg(value_name = "FILE", required = true)]
     pub files: Vec<PathBuf>,
 }
 
 #[derive(Args)]
 pub struct Dump {
-    /// The archive
+    /// The archive; - is standard input
     pub file: PathBuf,
     #[command(flatten)]
     pub selection: Selection,
     /// What follows each record
-    #[arg(long, value_name = "T", default_value = "\\n", value_parser = bytes_parser())]
+    #[arg(long, value_name = "T", default_value = "\\n", value_parser = bytes_parser(), allow_hyphen_values = true)]
     pub terminator: Bytes,
     /// Put each record's length before it instead
     #[arg(long, value_name = "FORM", conflicts_with = "terminator")]
@@ -116,7 +120,7 @@ pub struct Dump {
 
 #[derive(Args)]
 pub struct Info {
-    /// The archive
+    /// The archive; - is standard input
     pub file: PathBuf,
     /// Only the metadata, as it is stored
     #[arg(short, long)]
@@ -125,7 +129,7 @@ pub struct Info {
 
 #[derive(Args)]
 pub struct Explain {
-    /// The archive
+    /// The archive; - is standard input
     pub file: PathBuf,
     #[command(flatten)]
     pub selection: Selection,
@@ -137,13 +141,13 @@ pub struct Explain {
 #[derive(Args)]
 pub struct Selection {
     /// Only records that are at least S
-    #[arg(long, value_name = "S", value_parser = bytes_parser())]
+    #[arg(long, value_name = "S", value_parser = bytes_parser(), allow_hyphen_values = true)]
     pub start: Option<Bytes>,
     /// Only records that are less than S
-    #[arg(long, value_name = "S", value_parser = bytes_parser())]
+    #[arg(long, value_name = "S", value_parser = bytes_parser(), allow_hyphen_values = true)]
     pub stop: Option<Bytes>,
     /// Only records that begin with P
-    #[arg(long, value_name = "P", value_parser = bytes_parser())]
+    #[arg(long, value_name = "P", value_parser = bytes_parser(), allow_hyphen_values = true)]
     pub prefix: Option<Bytes>,
 }
 

@@ -1,51 +1,35 @@
 //! `zs dump`: the records asked for.
 
-use std::fs;
 use std::io::{self, Write};
-use std::os::unix::fs::MetadataExt;
-use std::path::Path;
 
-use crate::answers::{read, search, Answer};
+use crate::answers::{count, read, search, Answer, Finding};
 use crate::archive::Archive;
 use crate::arguments::{Dump, Length};
 use crate::failure::Failure;
-use crate::{output, progress};
+use crate::output::Output;
+use crate::progress::show_while;
+
+/// Shorter than the output's buffer.
+const PIECE: usize = 1 << 12;
 
 /// Writes nothing before the whole answer is known.
 pub fn run(asked: &Dump) -> Result<(), Failure> {
-    refuse_archive_as_output(asked)?;
+    let output = Output::find(asked.output.as_deref())?;
+    output.refuse_archive(&asked.file)?;
     let archive = Archive::open(&asked.file, &asked.trust)?;
     let (file, known) = (archive.bytes(), archive.known);
-    let answer = progress::show_while("reading", &asked.file, file.len(), || {
-        let query = asked.selection.query();
-        if asked.scan {
-            read(file, &query, known, asked.max_results)
-        } else {
-            search(file, &query, known, asked.max_results)
-        }
-    })?;
-    let target = asked.output.as_deref();
+    let (query, limit) = (asked.selection.query(), asked.max_results);
+    let find: Finding = if asked.scan { read } else { search };
     if asked.count {
-        output::write(target, &|out| writeln!(out, "{}", answer.count()))
-    } else {
-        output::write(target, &|out| write_records(asked, file, &answer, out))
+        let number = show_while("counting", &asked.file, file.len(), || {
+            count(find, file, &query, known, limit)
+        })?;
+        return output.write(&|out| writeln!(out, "{number}"));
     }
-}
-
-/// An archive isn't replaced by its own records.
-fn refuse_archive_as_output(asked: &Dump) -> Result<(), Failure> {
-    let place = |path: &Path| fs::metadata(path).map(|about| (about.dev(), about.ino()));
-    let target = match &asked.output {
-        Some(path) => path,
-        None => return Ok(()),
-    };
-    match (place(&asked.file), place(target)) {
-        (Ok(archive), Ok(output)) if archive == output => Err(Failure::Trouble(format!(
-            "{}: the output is the archive itself",
-            target.display()
-        ))),
-        _ => Ok(()),
-    }
+    let answer = show_while("reading", &asked.file, file.len(), || {
+        find(file, &query, known, limit)
+    })?;
+    output.write(&|out| write_records(asked, file, &answer, out))
 }
 
 /// Writes each record, which is a part of the file, and then the terminator, or before it its length.
@@ -60,15 +44,22 @@ fn write_records(
         match asked.length_prefixed {
             Some(form) => {
                 put_length(form, length, out)?;
-                out.write_all(record)?;
+                write_pieces(record, out)?;
             }
             None => {
-                out.write_all(record)?;
+                write_pieces(record, out)?;
                 out.write_all(&asked.terminator.0)?;
             }
         }
     }
     Ok(())
+}
+
+/// Writes a record by way of the output's buffer. Handed to the system straight from a mapped file that was cut, it would be taken for
+/// an output that can't be written.
+fn write_pieces(record: &[u8], out: &mut dyn Write) -> io::Result<()> {
+    let mut pieces = record.chunks(PIECE);
+    pieces.try_for_each(|piece| out.write_all(piece))
 }
 
 fn put_length(form: Length, length: u64, out: &mut dyn Write) -> io::Result<()> {

@@ -2,7 +2,8 @@
 
 use std::ffi::OsString;
 use std::fmt;
-use std::os::unix::ffi::OsStringExt;
+use std::os::unix::ffi::{OsStrExt, OsStringExt};
+use std::path::Path;
 
 /// Bytes as an argument gives them, its escapes resolved.
 #[derive(Clone, Debug, Default, PartialEq, Eq)]
@@ -13,7 +14,9 @@ pub struct Bytes(pub Vec<u8>);
 pub enum EscapeFault {
     /// A backslash before a character that makes no escape with it.
     Unknown(String),
-    /// A backslash, or `\x`, with too few characters after it.
+    /// `\x` without two hex digits after it.
+    Digits(String),
+    /// A backslash with nothing after it.
     Cut,
 }
 
@@ -23,10 +26,12 @@ impl fmt::Display for EscapeFault {
             EscapeFault::Unknown(escape) => {
                 write!(out, "unknown escape {escape}; known are \\t \\n \\r \\\\ and \\x with two hex digits")
             }
-            EscapeFault::Cut => write!(
-                out,
-                "an escape is cut off at the end; write \\\\ for a backslash"
-            ),
+            EscapeFault::Digits(escape) => {
+                write!(out, "\\x needs two hex digits (here: {escape})")
+            }
+            EscapeFault::Cut => {
+                write!(out, "a backslash at the end; write \\\\ for a backslash")
+            }
         }
     }
 }
@@ -56,17 +61,26 @@ fn take_escape(after: &[u8]) -> Result<(u8, &[u8]), EscapeFault> {
         [b'n', left @ ..] => Ok((b'\n', left)),
         [b'r', left @ ..] => Ok((b'\r', left)),
         [b'\\', left @ ..] => Ok((b'\\', left)),
-        [b'x', high, low, left @ ..] => match (digit(*high), digit(*low)) {
-            (Some(high), Some(low)) => Ok((high * 16 + low, left)),
-            _ => Err(unknown_escape(&[b'x', *high, *low])),
-        },
-        [] | [b'x'] | [b'x', _] => Err(EscapeFault::Cut),
-        [other, ..] => Err(unknown_escape(&[*other])),
+        [b'x', digits @ ..] => take_hex(digits).ok_or_else(|| {
+            let longest = after.len().min(3);
+            EscapeFault::Digits(show_escape(&after[..longest]))
+        }),
+        [] => Err(EscapeFault::Cut),
+        [other, ..] => Err(EscapeFault::Unknown(show_escape(&[*other]))),
     }
 }
 
-fn unknown_escape(escape: &[u8]) -> EscapeFault {
-    EscapeFault::Unknown(format!("\\{}", String::from_utf8_lossy(escape)))
+/// Gives the byte that two hex digits stand for, and the rest.
+fn take_hex(digits: &[u8]) -> Option<(u8, &[u8])> {
+    match digits {
+        [high, low, left @ ..] => Some((digit(*high)? * 16 + digit(*low)?, left)),
+        _ => None,
+    }
+}
+
+/// Gives a backslash and what follows it for a message.
+fn show_escape(escape: &[u8]) -> String {
+    format!("\\{}", hide_controls(&String::from_utf8_lossy(escape)))
 }
 
 /// The value of a hex digit.
@@ -90,15 +104,68 @@ pub fn escape(bytes: &[u8]) -> String {
             b'\\' => text.push_str("\\\\"),
             b'"' => text.push_str("\\x22"),
             b' '..=b'~' => text.push(char::from(*byte)),
-            other => text.push_str(&format!("\\x{other:02x}")),
+            other => {
+                let digit = |value: u8| char::from_digit(u32::from(value), 16).unwrap_or('0');
+                text.extend(['\\', 'x', digit(other / 16), digit(other % 16)]);
+            }
         }
     }
     text
 }
 
+/// Gives a file's name on one line: printable characters as they are, every other byte as an escape. In a line that goes on after the
+/// name, it ends at the first colon that a space follows.
+pub fn escape_name(name: &Path) -> String {
+    let mut rest = name.as_os_str().as_bytes();
+    let mut text = String::with_capacity(rest.len());
+    while let [first, after @ ..] = rest {
+        match first_character(rest) {
+            Some(letter) if is_printable(letter) && letter != '\\' => {
+                text.push(letter);
+                rest = &rest[letter.len_utf8()..];
+            }
+            _ => {
+                text.push_str(&escape(&[*first]));
+                rest = after;
+            }
+        }
+    }
+    text.replace(": ", "\\x3a ")
+}
+
+/// Gives a text on one line, and no character that a terminal obeys. A backslash stays, so this doesn't say what the text was.
+pub fn hide_controls(text: &str) -> String {
+    let mut line = String::with_capacity(text.len());
+    for letter in text.chars() {
+        if is_printable(letter) {
+            line.push(letter);
+        } else {
+            line.push_str(&escape(letter.to_string().as_bytes()));
+        }
+    }
+    line
+}
+
+/// The first character of a text in UTF-8.
+fn first_character(bytes: &[u8]) -> Option<char> {
+    let longest = &bytes[..bytes.len().min(4)];
+    let valid = match std::str::from_utf8(longest) {
+        Ok(_) => longest.len(),
+        Err(fault) => fault.valid_up_to(),
+    };
+    std::str::from_utf8(&longest[..valid]).ok()?.chars().next()
+}
+
+/// Whether a character is seen, and leaves those around it where they are: no control character, no line end, no change of direction.
+fn is_printable(letter: char) -> bool {
+    // Rust's own rule for debugging output. After another letter, marks that combine with it count as printable.
+    letter.is_ascii_graphic() || letter == ' ' || format!("x{letter}").escape_debug().count() == 2
+}
+
 #[cfg(test)]
 mod tests {
     use super::*;
+    use std::ffi::OsStr;
 
     fn of(text: &str) -> Result<Vec<u8>, EscapeFault> {
         resolve(OsString::from(text)).map(|bytes| bytes.0)
@@ -116,8 +183,12 @@ mod tests {
     #[test]
     fn unknown_and_cut_escapes() {
         assert_eq!(of(r"\q"), Err(EscapeFault::Unknown(r"\q".into())));
-        assert_eq!(of(r"\xg0"), Err(EscapeFault::Unknown(r"\xg0".into())));
-        for cut in [r"\", r"a\x", r"a\x4", r"\\\"] {
+        assert_eq!(of("\\\n"), Err(EscapeFault::Unknown(r"\\n".into())));
+        for short in [r"\xg0", r"\x", r"\x4", r"\x4\"] {
+            assert_eq!(of(short), Err(EscapeFault::Digits(short.into())));
+        }
+        assert_eq!(of("\\x\n"), Err(EscapeFault::Digits(r"\x\n".into())));
+        for cut in [r"\", r"\\\"] {
             assert_eq!(of(cut), Err(EscapeFault::Cut), "{cut}");
         }
     }
@@ -125,6 +196,34 @@ mod tests {
     #[test]
     fn what_is_shown_can_be_given_back() {
         let every_byte: Vec<u8> = (0..=255).collect();
-        assert_eq!(of(&escape(&every_byte)), Ok(every_byte));
+        assert_eq!(of(&escape(&every_byte)), Ok(every_byte.clone()));
+        for letter in "é\u{85}e\u{301}\u{202e}文\u{feff}: :\\".chars() {
+            let mut bytes = every_byte.clone();
+            bytes.extend(letter.to_string().bytes());
+            bytes.extend(&every_byte);
+            let name = escape_name(Path::new(OsStr::from_bytes(&bytes)));
+            assert_eq!(of(&name), Ok(bytes));
+        }
+    }
+
+    #[test]
+    fn names_are_seen_as_they_are_or_as_escapes() {
+        for (name, shown) in [
+            ("a b.zs", "a b.zs"),
+            ("é \"文\" e\u{301}", "é \"文\" e\u{301}"),
+            ("a\nb\t\r\u{1b}[2K\u{7f}", r"a\nb\t\r\x1b[2K\x7f"),
+            ("\u{85}\u{202e}", r"\xc2\x85\xe2\x80\xae"),
+            (r"a\n", r"a\\n"),
+            ("a: b:c:", r"a\x3a b:c:"),
+        ] {
+            assert_eq!(escape_name(Path::new(name)), shown);
+        }
+        let latin_1 = OsStr::from_bytes(b"caf\xe9\xff.zs");
+        assert_eq!(escape_name(Path::new(latin_1)), r"caf\xe9\xff.zs");
+    }
+
+    #[test]
+    fn controls_are_hidden() {
+        assert_eq!(hide_controls("a\\\nb\u{1b}[é"), "a\\\\nb\\x1b[é");
     }
 }

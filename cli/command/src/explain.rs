@@ -1,15 +1,19 @@
 //! `zs explain`: the blocks that a search opened, with level, bounds and matches.
 
 use std::collections::BTreeMap;
+use std::io::{self, Write};
 
-use crate::answers::{search, Contents};
+use zs_library::Query;
+
+use crate::answers::{search, Answer, Contents};
 use crate::archive::Archive;
 use crate::arguments::Explain;
 use crate::escapes::escape;
 use crate::failure::Failure;
+use crate::layout::records;
 use crate::output::{self, format_count};
 use crate::progress;
-use crate::walk::{lay_out, Opened};
+use crate::walk::{Bounds, Walk};
 
 /// Longer bounds are cut for display.
 const LONGEST_BOUND: usize = 40;
@@ -17,38 +21,86 @@ const LONGEST_BOUND: usize = 40;
 pub fn run(asked: &Explain) -> Result<(), Failure> {
     let archive = Archive::open(&asked.file, &asked.trust)?;
     let (file, known) = (archive.bytes(), archive.known);
+    let query = asked.selection.query();
     let answer = progress::show_while("searching", &asked.file, file.len(), || {
-        search(file, &asked.selection.query(), known, None)
+        search(file, &query, known, None)
     })?;
-    let blocks = lay_out(file, &answer);
-    let root_level = blocks.first().map_or(0, |root| root.level);
-    output::write(None, &|out| {
-        for block in &blocks {
-            writeln!(out, "{}", line(block, root_level))?;
-        }
-        writeln!(out, "{}", summary(&blocks, answer.count() as u64, known))
+    output::write(&asked.file, &|out| {
+        let in_vain = write_blocks(file, &query, &answer, out)?;
+        writeln!(out, "{}", summarise(&answer, known, &in_vain))
     })
 }
 
-/// A block, indented by how far it stands below the root.
-fn line(block: &Opened, root_level: u8) -> String {
-    let indent = "  ".repeat(usize::from(root_level.saturating_sub(block.level)));
-    let Opened { offset, level, .. } = block;
-    let bounds = match block.bounds {
-        Some(bounds) => match bounds.upper {
-            Some(upper) => format!("{} to {}", bound(bounds.lower), bound(upper)),
-            None => format!("{} and up", bound(bounds.lower)),
-        },
-        None => String::from("the root"),
-    };
-    let matches = match level {
-        0 => format!(", {}", format_count(block.matches, "match", "matches")),
-        _ => String::new(),
-    };
-    format!("{indent}{offset}  level {level}  {bounds}{matches}")
+/// Writes a line for each block that was opened, and counts those in vain. Matches come in the order of the data blocks that hold them.
+fn write_blocks(
+    file: &[u8],
+    query: &Query,
+    answer: &Answer,
+    out: &mut dyn Write,
+) -> io::Result<InVain> {
+    let mut in_vain = InVain::default();
+    let mut matches = answer.matches().peekable();
+    let mut found = 0;
+    // The list of the library decides which blocks are shown; the walk knows their bounds.
+    for (offset, opened) in answer.opened.iter().zip(Walk::new(file, query)) {
+        debug_assert_eq!(*offset, opened.offset);
+        let level = opened.block.level;
+        let indent = "  ".repeat(opened.depth);
+        let bounds = describe_bounds(opened.bounds);
+        write!(out, "{indent}{offset}  level {level}  {bounds}")?;
+        in_vain.leave(opened.depth, found);
+        in_vain.enter(level, found);
+        if level == 0 {
+            let here = records(&opened.block)
+                .filter(|record| matches.next_if_eq(record).is_some())
+                .count() as u64;
+            write!(out, ", {}", format_count(here, "match", "matches"))?;
+            found += here;
+        }
+        writeln!(out)?;
+    }
+    in_vain.leave(1, found);
+    Ok(in_vain)
 }
 
-fn bound(bytes: &[u8]) -> String {
+/// Counts the blocks that lead to no match.
+#[derive(Default)]
+struct InVain {
+    /// The way down to the last block: each level, and how many matches there were before.
+    way: Vec<(u8, u64)>,
+    by_level: BTreeMap<u8, u64>,
+}
+
+impl InVain {
+    fn enter(&mut self, level: u8, matches: u64) {
+        self.way.push((level, matches));
+    }
+
+    /// Leaves all blocks that are so deep or deeper.
+    fn leave(&mut self, depth: usize, matches: u64) {
+        while self.way.len() > depth {
+            match self.way.pop() {
+                Some((level, before)) if before == matches => {
+                    *self.by_level.entry(level).or_insert(0) += 1;
+                }
+                _ => {}
+            }
+        }
+    }
+}
+
+fn describe_bounds(bounds: Option<Bounds>) -> String {
+    match bounds {
+        Some(Bounds {
+            lower,
+            upper: Some(upper),
+        }) => format!("{} to {}", quote_bound(lower), quote_bound(upper)),
+        Some(Bounds { lower, upper: None }) => format!("{} and up", quote_bound(lower)),
+        None => String::from("the root"),
+    }
+}
+
+fn quote_bound(bytes: &[u8]) -> String {
     match bytes
         .get(..LONGEST_BOUND)
         .filter(|_| bytes.len() > LONGEST_BOUND)
@@ -59,13 +111,9 @@ fn bound(bytes: &[u8]) -> String {
 }
 
 /// How many blocks were opened, and how many of those below the root led to no match.
-fn summary(blocks: &[Opened], matches: u64, known: Option<Contents>) -> String {
-    let of_all = known.map_or(String::new(), |contents| format!(" of {}", contents.blocks));
-    let mut in_vain: BTreeMap<u8, u64> = BTreeMap::new();
-    for block in blocks.iter().skip(1).filter(|block| block.matches == 0) {
-        *in_vain.entry(block.level).or_insert(0) += 1;
-    }
+fn summarise(answer: &Answer, known: Option<Contents>, in_vain: &InVain) -> String {
     let levels: Vec<String> = in_vain
+        .by_level
         .iter()
         .map(|(level, number)| format!("{number} on level {level}"))
         .collect();
@@ -74,9 +122,18 @@ fn summary(blocks: &[Opened], matches: u64, known: Option<Contents>) -> String {
     } else {
         levels.join(", ")
     };
-    let opened = blocks.len();
     format!(
-        "opened {opened}{of_all} blocks, {}, in vain: {in_vain}",
-        format_count(matches, "match", "matches")
+        "opened {}, {}, in vain: {in_vain}",
+        count_opened(answer.opened.len() as u64, known),
+        format_count(answer.count(), "match", "matches")
     )
+}
+
+/// Says how many blocks were opened, and of how many, where that is known.
+fn count_opened(opened: u64, known: Option<Contents>) -> String {
+    let count = |number| format_count(number, "block", "blocks");
+    match known {
+        Some(contents) => format!("{opened} of {}", count(contents.blocks)),
+        None => count(opened),
+    }
 }

@@ -3,6 +3,7 @@
 use std::io::Write;
 use std::path::Path;
 
+use crate::escapes::escape_name;
 use crate::refusals::Refusal;
 
 /// The exit status. The worst of several is the greatest.
@@ -30,15 +31,13 @@ pub enum Failure {
 impl Failure {
     /// The failure to read or write a file.
     pub fn of_file(file: &Path, error: &std::io::Error) -> Self {
-        Failure::Trouble(format!("{}: {error}", file.display()))
+        Failure::Trouble(format!("{}: {}", escape_name(file), in_words(error)))
     }
 
-    /// The line for a person, if there is anything to say.
-    pub fn describe(&self, file: &Path) -> Option<String> {
+    /// The line for a person, if there is anything to say. `name` is that of the file.
+    pub fn describe(&self, name: &str) -> Option<String> {
         match self {
-            Failure::Refused(refusal) => {
-                Some(format!("{}: {}", file.display(), refusal.describe()))
-            }
+            Failure::Refused(refusal) => Some(format!("{name}: {}", refusal.describe())),
             Failure::Trouble(words) => Some(words.clone()),
             Failure::ReaderGone => None,
         }
@@ -61,7 +60,17 @@ impl Failure {
     }
 }
 
+/// A fault of the system without its number, which tells a person nothing.
+pub fn in_words(error: &std::io::Error) -> String {
+    let words = error.to_string();
+    let number = error
+        .raw_os_error()
+        .map(|code| format!(" (os error {code})"));
+    let plain = number.and_then(|number| words.strip_suffix(number.as_str()).map(String::from));
+    plain.unwrap_or(words)
+}
+
 /// Puts a line on standard error. Where even that can't be written, the exit status is all there is.
 pub fn complain(words: &str) {
-    let _ = writeln!(std::io::stderr(), "zs: {words}");
+    let _ = std::io::stderr().write_all(format!("zs: {words}\n").as_bytes());
 }

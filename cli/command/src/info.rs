@@ -1,68 +1,80 @@
 //! `zs info`: what a file is, as JSON.
 
+use std::io::{self, Write};
+
 use crate::answers::Contents;
 use crate::archive::read_and_check;
 use crate::arguments::Info;
-use crate::escapes::escape;
+use crate::escapes::escape_name;
 use crate::failure::Failure;
-use crate::json::{as_json, quote};
+use crate::json::{as_json, write_string};
 use crate::layout::{block, header, Header};
 use crate::output;
+use crate::terminal::{is_terminal, write_json_visibly, write_visibly};
 
 /// Checks the file first, so that what is shown is true of it.
 pub fn run(asked: &Info) -> Result<(), Failure> {
     let (input, contents) = read_and_check(&asked.file)?;
     let file = input.bytes();
     let unreadable = || {
-        Failure::Trouble(format!(
-            "{}: the header can't be shown",
-            asked.file.display()
-        ))
+        let name = escape_name(&asked.file);
+        Failure::Trouble(format!("{name}: the header can't be shown"))
     };
     let header = header(file).ok_or_else(unreadable)?;
-    if asked.metadata_only {
-        return output::write(None, &|out| {
-            out.write_all(header.metadata)?;
-            out.write_all(b"\n")
-        });
-    }
     let root_level = block(file, header.root_offset).map_or(0, |root| root.level);
-    output::print(&describe(&header, root_level, &contents))
+    output::write(&asked.file, &|out| {
+        if asked.metadata_only {
+            write_metadata(header.metadata, out)
+        } else {
+            write_fields(&header, root_level, &contents, out)
+        }
+    })
 }
 
-fn describe(header: &Header, root_level: u8, contents: &Contents) -> String {
-    let codec: Vec<u8> = header
-        .codec
-        .iter()
-        .copied()
-        .take_while(|byte| *byte != 0)
-        .collect();
-    let hash: String = header
-        .hash
-        .iter()
-        .map(|byte| format!("{byte:02x}"))
-        .collect();
-    let metadata = match as_json(header.metadata) {
-        Some(json) => json.to_string(),
-        None => quote(&escape(header.metadata)),
-    };
-    let lines = [
-        ("header_length", header.length.to_string()),
-        ("root_index_offset", header.root_offset.to_string()),
-        ("root_index_length", header.root_length.to_string()),
-        ("total_file_length", header.total_length.to_string()),
-        ("data_sha256", quote(&hash)),
-        ("codec", quote(&escape(&codec))),
-        ("metadata_length", header.metadata.len().to_string()),
-        ("metadata", metadata),
-    ];
-    let mut text = String::from("{\n");
-    for (name, shown) in lines {
-        text.push_str(&format!("  \"{name}\": {shown},\n"));
+/// Writes the metadata: as it is stored, unless a person reads it.
+fn write_metadata(metadata: &[u8], out: &mut dyn Write) -> io::Result<()> {
+    if is_terminal() {
+        write_visibly(out, metadata)?;
+    } else {
+        out.write_all(metadata)?;
     }
-    text.push_str(&format!(
-        "  \"statistics\": {{\n    \"root_index_level\": {root_level},\n    \"blocks\": {},\n    \"records\": {}\n  }}\n}}\n",
-        contents.blocks, contents.records
-    ));
-    text
+    writeln!(out)
+}
+
+fn write_fields(
+    header: &Header,
+    root_level: u8,
+    contents: &Contents,
+    out: &mut dyn Write,
+) -> io::Result<()> {
+    let Contents { blocks, records } = contents;
+    writeln!(out, "{{")?;
+    for (name, number) in [
+        ("header_length", header.length),
+        ("root_index_offset", header.root_offset),
+        ("root_index_length", header.root_length),
+        ("total_file_length", header.total_length),
+    ] {
+        writeln!(out, "  \"{name}\": {number},")?;
+    }
+    let hash: String = header.hash.iter().map(|b| format!("{b:02x}")).collect();
+    writeln!(out, "  \"data_sha256\": \"{hash}\",")?;
+    write!(out, "  \"codec\": ")?;
+    write_string(out, header.codec)?;
+    let length = header.metadata.len();
+    write!(out, ",\n  \"metadata_length\": {length},\n  \"metadata\": ")?;
+    write_metadata_value(header.metadata, out)?;
+    writeln!(out, ",\n  \"statistics\": {{")?;
+    writeln!(out, "    \"root_index_level\": {root_level},")?;
+    writeln!(out, "    \"blocks\": {blocks},")?;
+    writeln!(out, "    \"records\": {records}\n  }}\n}}")
+}
+
+/// Writes the metadata as a JSON value: themselves where they are one, else a string.
+fn write_metadata_value(metadata: &[u8], out: &mut dyn Write) -> io::Result<()> {
+    match as_json(metadata) {
+        Some(json) if is_terminal() => write_json_visibly(out, json),
+        Some(json) => out.write_all(json.as_bytes()),
+        None => write_string(out, metadata),
+    }
 }

@@ -1,4 +1,4 @@
-//! The bytes of an archive. The only file of the command with unsafe code: it maps files.
+//! The bytes of an archive. Has unsafe code: it maps files.
 
 use std::fs::File;
 use std::io::{self, Read};
@@ -6,10 +6,15 @@ use std::path::Path;
 
 use zs_library::Mapping;
 
+use crate::cut_files::report_cut_files;
 use crate::failure::Failure;
+use crate::refusals::Refusal;
+use crate::system::clone_descriptor;
 
 /// A longer file is refused by its length alone.
 pub const LONGEST: usize = 1 << 30;
+/// How many bytes tell whether a file begins as an archive.
+const FIRST_BYTES: u64 = 8;
 
 /// The bytes of a file.
 pub enum Input {
@@ -30,32 +35,76 @@ impl Input {
 
 /// Reads a file that is to be checked. One that is too long is mapped: only its length will be looked at.
 pub fn read(path: &Path) -> Result<Input, Failure> {
-    load(path, LONGEST as u64).map_err(|error| Failure::of_file(path, &error))
+    load(path, LONGEST as u64)
 }
 
 /// Maps a file that isn't to be checked.
 pub fn map(path: &Path) -> Result<Input, Failure> {
-    load(path, 0).map_err(|error| Failure::of_file(path, &error))
+    load(path, 0)
 }
 
-/// Maps a file above `longest_read` bytes, and reads a shorter one. What is no plain file, as a pipe, can only be read.
-fn load(path: &Path, longest_read: u64) -> io::Result<Input> {
-    let file = File::open(path)?;
-    let about = file.metadata()?;
-    if about.is_file() && about.len() > longest_read {
+/// The path by which the system knows an input: `-` is standard input.
+pub fn system_path(path: &Path) -> &Path {
+    if is_standard_input(path) {
+        Path::new("/dev/stdin")
+    } else {
+        path
+    }
+}
+
+fn is_standard_input(path: &Path) -> bool {
+    path == Path::new("-")
+}
+
+/// Maps a file above `longest_read` bytes, and reads a shorter one. What has no length, as a pipe, can only be read.
+fn load(path: &Path, longest_read: u64) -> Result<Input, Failure> {
+    let name_fault = |error: io::Error| Failure::of_file(path, &error);
+    let (file, length) = open(path).map_err(name_fault)?;
+    if length.map_or(false, |length| length > longest_read) {
+        report_cut_files().map_err(name_fault)?;
         // SAFETY: nobody changes the file while it is mapped. With `--unchecked` this is assumed, and its help says so. Of a file above
         // 2^30 bytes only the length is used.
-        let mapping = unsafe { zs_library::map(&file) }?;
+        let mapping = unsafe { zs_library::map(&file) }.map_err(name_fault)?;
         // A file that was cut meanwhile is read after all.
         if mapping.len() as u64 > longest_read {
             return Ok(Input::Mapped(mapping));
         }
     }
-    // One byte more than the longest file is enough to be refused.
     let mut bytes = Vec::new();
-    let expected = usize::try_from(about.len()).unwrap_or(LONGEST);
+    let first = (&file).take(FIRST_BYTES).read_to_end(&mut bytes);
+    first.map_err(name_fault)?;
+    if length.is_some() {
+        refuse_by_first_bytes(&bytes)?;
+    }
+    read_rest(&file, length, &mut bytes).map_err(name_fault)?;
+    Ok(Input::Read(bytes))
+}
+
+/// Opens a file, and gives its length if it has one. Standard input is read from where it stands, whatever it is.
+fn open(path: &Path) -> io::Result<(File, Option<u64>)> {
+    if is_standard_input(path) {
+        return Ok((clone_descriptor(0)?, None));
+    }
+    let file = File::open(path)?;
+    let about = file.metadata()?;
+    Ok((file, about.is_file().then_some(about.len())))
+}
+
+/// Refuses what doesn't begin as an archive, before the rest is read. The library's 2 and 3 are about the first eight bytes alone; only 1
+/// comes before them, and the file is not too long.
+fn refuse_by_first_bytes(first: &[u8]) -> Result<(), Failure> {
+    match zs_library::check(first, &mut []).number {
+        number @ (2 | 3) => Err(Failure::Refused(Refusal::of_file(number, 0, first))),
+        _ => Ok(()),
+    }
+}
+
+/// Reads what follows. One byte more than the longest file is enough to be refused.
+fn read_rest(file: &File, length: Option<u64>, bytes: &mut Vec<u8>) -> io::Result<()> {
+    let expected = usize::try_from(length.unwrap_or(0)).unwrap_or(LONGEST);
     let room = bytes.try_reserve_exact(expected.min(LONGEST) + 1);
     room.map_err(|_| io::Error::from(io::ErrorKind::OutOfMemory))?;
-    file.take(LONGEST as u64 + 1).read_to_end(&mut bytes)?;
-    Ok(Input::Read(bytes))
+    let most = LONGEST + 1 - bytes.len();
+    file.take(most as u64).read_to_end(bytes)?;
+    Ok(())
 }

@@ -1,24 +1,28 @@
 //! JSON for display: strings, and whether bytes are a JSON value that can be shown as it stands.
 
+use std::io::{self, Write};
+
+use crate::escapes::escape;
+
 /// Values nested deeper than this are taken for no JSON.
 const DEEPEST: usize = 64;
 
-/// Gives a text as a JSON string.
-pub fn quote(text: &str) -> String {
-    let mut out = String::from("\"");
-    for letter in text.chars() {
-        match letter {
-            '"' => out.push_str("\\\""),
-            '\\' => out.push_str("\\\\"),
-            control if control < ' ' => out.push_str(&format!("\\u{:04x}", u32::from(control))),
-            other => out.push(other),
-        }
+/// Bytes that are escaped at a time.
+const PIECE: usize = 1 << 12;
+
+/// Writes bytes as a JSON string in which every byte that isn't printable ASCII is an escape.
+pub fn write_string(out: &mut dyn Write, bytes: &[u8]) -> io::Result<()> {
+    out.write_all(b"\"")?;
+    for piece in bytes.chunks(PIECE) {
+        // The escapes begin with a backslash, which JSON doubles. There are no quotes among them.
+        let doubled = escape(piece).replace('\\', "\\\\");
+        out.write_all(doubled.as_bytes())?;
     }
-    out.push('"');
-    out
+    out.write_all(b"\"")
 }
 
-/// The text of a JSON value; nothing where the bytes are none.
+/// The text of a JSON value; nothing where the bytes are none, or one that some readers refuse: half a surrogate pair, or a number that
+/// is too great for a double.
 pub fn as_json(bytes: &[u8]) -> Option<&str> {
     let text = std::str::from_utf8(bytes).ok()?;
     let after = skip_value(bytes, DEEPEST)?;
@@ -77,10 +81,7 @@ fn skip_string(bytes: &[u8]) -> Rest<'_> {
     loop {
         rest = match rest {
             [b'"', after @ ..] => return Some(after),
-            [b'\\', b'u', digits @ ..] => {
-                let four = digits.get(..4)?.iter().all(u8::is_ascii_hexdigit);
-                digits.get(4..).filter(|_| four)?
-            }
+            [b'\\', b'u', ..] => skip_character(rest)?,
             [b'\\', letter, after @ ..] if b"\"\\/bfnrt".contains(letter) => after,
             [b'\\', ..] | [0..=0x1f, ..] | [] => return None,
             [_, after @ ..] => after,
@@ -88,7 +89,37 @@ fn skip_string(bytes: &[u8]) -> Rest<'_> {
     }
 }
 
+/// Skips the escape of a character: a code unit, or both surrogates of a pair.
+fn skip_character(bytes: &[u8]) -> Rest<'_> {
+    let (unit, after) = take_code_unit(bytes)?;
+    match unit {
+        0xd800..=0xdbff => take_code_unit(after)
+            .filter(|(second, _)| (0xdc00..=0xdfff).contains(second))
+            .map(|(_, after)| after),
+        0xdc00..=0xdfff => None,
+        _ => Some(after),
+    }
+}
+
+/// Takes `\u` and four hex digits.
+fn take_code_unit(bytes: &[u8]) -> Option<(u32, &[u8])> {
+    let digits = bytes.strip_prefix(b"\\u")?;
+    let four = digits.get(..4)?;
+    if !four.iter().all(u8::is_ascii_hexdigit) {
+        return None;
+    }
+    let unit = u32::from_str_radix(std::str::from_utf8(four).ok()?, 16).ok()?;
+    Some((unit, &digits[4..]))
+}
+
 fn skip_number(bytes: &[u8]) -> Rest<'_> {
+    let after = skip_digits_and_signs(bytes)?;
+    let number = std::str::from_utf8(&bytes[..bytes.len() - after.len()]);
+    let value: f64 = number.ok()?.parse().ok()?;
+    value.is_finite().then_some(after)
+}
+
+fn skip_digits_and_signs(bytes: &[u8]) -> Rest<'_> {
     let mut rest = bytes.strip_prefix(b"-").unwrap_or(bytes);
     rest = match rest.strip_prefix(b"0") {
         Some(after) => after,
@@ -172,11 +203,29 @@ mod tests {
     }
 
     #[test]
+    fn surrogates_and_great_numbers() {
+        for text in [r#""\ud834\udd1e""#, "1e308", "-1e-999", "0e999"] {
+            assert_eq!(as_json(text.as_bytes()), Some(text));
+        }
+        for text in [
+            r#""\ud834""#,
+            r#""\udd1e""#,
+            r#""\ud834\n""#,
+            r#""\ud834\ud834""#,
+            r#""\u+123""#,
+            "1e309",
+            "-1e309",
+        ] {
+            assert_eq!(as_json(text.as_bytes()), None, "{text}");
+        }
+    }
+
+    #[test]
     fn strings() {
-        assert_eq!(quote("a\"\\\u{1}\u{e9}"), "\"a\\\"\\\\\\u0001\u{e9}\"");
-        assert_eq!(
-            as_json(quote("\t\"\u{7f}").as_bytes()).map(str::len),
-            Some(10 + 1)
-        );
+        let every_byte: Vec<u8> = (0..=255).collect();
+        let mut string = Vec::new();
+        write_string(&mut string, &every_byte).expect("a string");
+        assert!(as_json(&string).is_some());
+        assert!(string.starts_with(br#""\\x00"#) && string.ends_with(br#"\\xff""#));
     }
 }

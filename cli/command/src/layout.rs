@@ -1,6 +1,9 @@
-//! Fields of a file for display only: what the header says, and levels and bounds of blocks.
+//! Fields of a file for display only: what the header says, and what stands in blocks.
 //!
 //! Nothing here decides anything. Verdicts, matches and opened blocks are the proved library's; what can't be made out is left out.
+
+/// How long a block's checksum is.
+const CHECKSUM: u64 = 8;
 
 /// What the header says.
 pub struct Header<'a> {
@@ -32,11 +35,28 @@ pub fn header(file: &[u8]) -> Option<Header<'_>> {
         length: u64_at(file, 8)?,
         root_offset: u64_at(file, 16)?,
         root_length: u64_at(file, 24)?,
-        total_length: u64_at(file, 32)?,
+        total_length: total_length(file)?,
         hash: file.get(40..72)?,
-        codec: file.get(72..88)?,
+        codec: codec_name(file)?,
         metadata: file.get(96..)?.get(..metadata_length)?,
     })
+}
+
+/// Where the header ends, and blocks begin.
+pub fn header_end(file: &[u8]) -> Option<u64> {
+    u64_at(file, 8).map(|length| length.saturating_add(24))
+}
+
+/// The length of the file, as the header says.
+pub fn total_length(file: &[u8]) -> Option<u64> {
+    u64_at(file, 32)
+}
+
+/// The codec, without the zeros after it.
+pub fn codec_name(file: &[u8]) -> Option<&[u8]> {
+    let codec = file.get(72..88)?;
+    let end = codec.iter().rposition(|byte| *byte != 0);
+    codec.get(..end.map_or(0, |last| last + 1))
 }
 
 pub fn block(file: &[u8], offset: u64) -> Option<Block<'_>> {
@@ -45,21 +65,28 @@ pub fn block(file: &[u8], offset: u64) -> Option<Block<'_>> {
     let length = take_number(&mut rest)?;
     let covered = rest.get(..usize::try_from(length).ok()?)?;
     let (level, payload) = covered.split_first()?;
-    let end = file.len() - rest.len() + covered.len() + 8;
+    let end = (file.len() - rest.len() + covered.len()) as u64 + CHECKSUM;
     Some(Block {
         level: *level,
         payload,
-        end: end as u64,
+        end,
     })
 }
 
-/// The entries of an index block, up to the first that can't be made out.
-pub fn entries<'a>(block: &Block<'a>) -> Vec<Entry<'a>> {
+/// Offset and length of each record of a data block, up to the first that can't be made out.
+pub fn records<'a>(block: &Block<'a>) -> impl Iterator<Item = (u64, u64)> + 'a {
+    let payload_end = block.end - CHECKSUM;
     let mut rest = block.payload;
-    std::iter::from_fn(|| take_entry(&mut rest)).collect()
+    std::iter::from_fn(move || {
+        let length = take_number(&mut rest)?;
+        let offset = payload_end - rest.len() as u64;
+        rest = rest.get(usize::try_from(length).ok()?..)?;
+        Some((offset, length))
+    })
 }
 
-fn take_entry<'a>(rest: &mut &'a [u8]) -> Option<Entry<'a>> {
+/// Takes the entry at the front of what is left of an index block's payload.
+pub fn take_entry<'a>(rest: &mut &'a [u8]) -> Option<Entry<'a>> {
     let length = usize::try_from(take_number(rest)?).ok()?;
     let key = rest.get(..length)?;
     *rest = rest.get(length..)?;

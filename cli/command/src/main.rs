@@ -3,17 +3,21 @@
 //! Every verdict, every match and every opened block comes from the proved library. This crate reads the arguments and the files, and
 //! prints the answers.
 //!
-//! * [`arguments`] and [`escapes`]: what a person asks for.
-//! * [`input`], [`archive`], [`answers`], [`refusals`]: bytes, checked or not, the library's answers with lists that grow, and
-//!   refusals in words.
+//! * [`arguments`], [`escapes`] and [`usage`]: what a person asks for.
+//! * [`input`], [`cut_files`], [`archive`], [`answers`], [`refusals`]: bytes, checked or not, the library's answers with lists that
+//!   grow, and refusals in words.
 //! * [`validate`], [`dump`], [`info`], [`explain`]: one module for each command.
-//! * [`output`], [`progress`], [`failure`]: where answers are written, progress on a terminal, and what went wrong.
-//! * [`layout`], [`walk`], [`json`]: fields and bounds for display only.
+//! * [`output`], [`target`], [`temporary`], [`signals`], [`system`]: where answers are written, and how a file appears only when it is
+//!   whole.
+//! * [`terminal`], [`progress`], [`failure`]: text and progress on a terminal, and what went wrong.
+//! * [`layout`], [`walk`], [`json`]: fields and bounds for display, and what a search would cost.
 #![deny(unsafe_code)]
 
 mod answers;
 mod archive;
 mod arguments;
+#[allow(unsafe_code)]
+mod cut_files;
 mod dump;
 mod escapes;
 mod explain;
@@ -26,39 +30,50 @@ mod layout;
 mod output;
 mod progress;
 mod refusals;
+#[allow(unsafe_code)]
+mod signals;
+#[allow(unsafe_code)]
+mod system;
+mod target;
+mod temporary;
+mod terminal;
+mod usage;
 mod validate;
 mod walk;
 
-use std::path::Path;
 use std::process::ExitCode;
 
 use arguments::{Arguments, Command};
 use clap::Parser;
+use escapes::escape_name;
 use failure::{complain, Failure, Status};
+use output::STANDARD_OUTPUT;
 
 fn main() -> ExitCode {
+    signals::survive_length_limit();
     let status = match Arguments::try_parse() {
         Ok(arguments) => run(&arguments.command),
-        Err(help_or_mistake) => show_usage(&help_or_mistake),
+        Err(help_or_mistake) => report(STANDARD_OUTPUT, usage::show(&help_or_mistake)),
     };
     ExitCode::from(status as u8)
 }
 
 fn run(command: &Command) -> Status {
-    match command {
-        Command::Validate(asked) => validate::run(asked),
-        Command::Dump(asked) => report(&asked.file, dump::run(asked)),
-        Command::Info(asked) => report(&asked.file, info::run(asked)),
-        Command::Explain(asked) => report(&asked.file, explain::run(asked)),
-    }
+    let (file, outcome) = match command {
+        Command::Validate(asked) => return report(STANDARD_OUTPUT, validate::run(asked)),
+        Command::Dump(asked) => (&asked.file, dump::run(asked)),
+        Command::Info(asked) => (&asked.file, info::run(asked)),
+        Command::Explain(asked) => (&asked.file, explain::run(asked)),
+    };
+    report(&escape_name(file), outcome.map(|()| Status::Answered))
 }
 
-/// Says on standard error why a command didn't answer, and what to do about it.
-fn report(file: &Path, outcome: Result<(), Failure>) -> Status {
+/// Says on standard error why a command didn't answer, and what to do about it. `name` is that of the file.
+fn report(name: &str, outcome: Result<Status, Failure>) -> Status {
     match outcome {
-        Ok(()) => Status::Answered,
+        Ok(status) => status,
         Err(failure) => {
-            if let Some(reason) = failure.describe(file) {
+            if let Some(reason) = failure.describe(name) {
                 complain(&reason);
             }
             if let Some(advice) = failure.advice() {
@@ -66,14 +81,5 @@ fn report(file: &Path, outcome: Result<(), Failure>) -> Status {
             }
             failure.status()
         }
-    }
-}
-
-/// Shows help, version, or a mistake in the arguments. The first two are answers.
-fn show_usage(help_or_mistake: &clap::Error) -> Status {
-    match help_or_mistake.print() {
-        Ok(()) if !help_or_mistake.use_stderr() => Status::Answered,
-        Err(error) if error.kind() == std::io::ErrorKind::BrokenPipe => Status::Answered,
-        _ => Status::Trouble,
     }
 }

@@ -1,30 +1,80 @@
 //! Where answers are written: standard output, or a file that appears only when it is whole.
 
-use std::fs::{self, File, OpenOptions};
+use std::fs::{File, Metadata, OpenOptions};
 use std::io::{self, BufWriter, ErrorKind, Write};
-use std::path::{Path, PathBuf};
+use std::os::unix::fs::MetadataExt;
+use std::path::Path;
 
-use crate::failure::Failure;
+use crate::escapes::escape_name;
+use crate::failure::{in_words, Failure};
+use crate::input::system_path;
+use crate::system;
+use crate::target::{folder_of, Target};
+use crate::temporary::Temporary;
 
+/// What standard output is called in messages.
+pub const STANDARD_OUTPUT: &str = "standard output";
 const BUFFER: usize = 1 << 16;
 
 /// What writes an answer.
 pub type Writing<'a> = dyn Fn(&mut dyn Write) -> io::Result<()> + 'a;
 
-/// Writes an answer to a file, or to standard output where none (or `-`) is named.
-pub fn write(target: Option<&Path>, writing: &Writing) -> Result<(), Failure> {
-    match target.filter(|path| *path != Path::new("-")) {
-        None => name_failure(
-            "standard output",
-            write_buffered(&mut io::stdout().lock(), writing),
-        ),
-        Some(path) => name_failure(&path.display().to_string(), write_file(path, writing)),
+/// Where an answer goes, and what it is called in messages.
+pub struct Output {
+    name: String,
+    target: Target,
+}
+
+impl Output {
+    /// Finds a file, or standard output where none (or `-`) is named. Nothing is opened for writing yet.
+    pub fn find(path: Option<&Path>) -> Result<Self, Failure> {
+        let (name, target) = match path.filter(|path| *path != Path::new("-")) {
+            None => (STANDARD_OUTPUT.into(), Target::standard_output()),
+            Some(path) => (escape_name(path), Target::find(path)),
+        };
+        match target {
+            Ok(target) => Ok(Output { name, target }),
+            Err(error) => Err(describe(&name, &error)),
+        }
     }
+
+    /// An archive isn't replaced by its own records, and nothing is added to it.
+    pub fn refuse_archive(&self, archive: &Path) -> Result<(), Failure> {
+        if self.target.is_same_file(system_path(archive)) {
+            let name = escape_name(archive);
+            let words = format!("{name}: the output is the archive itself");
+            return Err(Failure::Trouble(words));
+        }
+        Ok(())
+    }
+
+    pub fn write(&self, writing: &Writing) -> Result<(), Failure> {
+        let outcome = match &self.target {
+            Target::Open(file) => write_buffered(file, writing),
+            Target::Special(path) => OpenOptions::new()
+                .write(true)
+                .open(path)
+                .and_then(|file| write_buffered(&file, writing)),
+            Target::Plain(path, about) => replace(path, Some(about), writing),
+            Target::New(path) => replace(path, None, writing),
+        };
+        outcome.map_err(|error| match error.kind() {
+            ErrorKind::BrokenPipe => Failure::ReaderGone,
+            _ => describe(&self.name, &error),
+        })
+    }
+}
+
+/// Writes an answer to standard output, unless that is the archive.
+pub fn write(archive: &Path, writing: &Writing) -> Result<(), Failure> {
+    let output = Output::find(None)?;
+    output.refuse_archive(archive)?;
+    output.write(writing)
 }
 
 /// Writes a text to standard output.
 pub fn print(text: &str) -> Result<(), Failure> {
-    write(None, &|out| out.write_all(text.as_bytes()))
+    Output::find(None)?.write(&|out| out.write_all(text.as_bytes()))
 }
 
 /// Gives a number and what it counts.
@@ -35,73 +85,50 @@ pub fn format_count(number: u64, one: &str, more: &str) -> String {
     }
 }
 
-/// Says which output couldn't be written, unless its reader has closed it.
-fn name_failure(name: &str, outcome: io::Result<()>) -> Result<(), Failure> {
-    outcome.map_err(|error| match error.kind() {
-        ErrorKind::BrokenPipe => Failure::ReaderGone,
-        _ => Failure::Trouble(format!("can't write {name}: {error}")),
-    })
+fn describe(name: &str, error: &io::Error) -> Failure {
+    Failure::Trouble(format!("can't write {name}: {}", in_words(error)))
 }
 
 /// Writes to what is open already, whole blocks at a time.
-fn write_buffered(out: &mut dyn Write, writing: &Writing) -> io::Result<()> {
-    let mut buffered = BufWriter::with_capacity(BUFFER, out);
-    writing(&mut buffered)?;
-    buffered.flush()
-}
-
-/// Writes a file. Devices and pipes are written as they are; a plain file is replaced, also where a link
-/// names it, and keeps its permissions.
-fn write_file(path: &Path, writing: &Writing) -> io::Result<()> {
-    match fs::metadata(path) {
-        Ok(about) if about.is_file() => {
-            let target = fs::canonicalize(path)?;
-            replace(&target, Some(about.permissions()), writing)
-        }
-        Ok(_) => write_buffered(&mut OpenOptions::new().write(true).open(path)?, writing),
-        Err(error) if error.kind() == ErrorKind::NotFound => replace(path, None, writing),
-        Err(error) => Err(error),
-    }
+fn write_buffered(file: &File, writing: &Writing) -> io::Result<()> {
+    let mut buffered = BufWriter::with_capacity(BUFFER, file);
+    let outcome = writing(&mut buffered).and_then(|()| buffered.flush());
+    // After a failure nothing more is tried, as dropping the buffer would.
+    drop(buffered.into_parts());
+    outcome
 }
 
 /// Writes under a temporary name beside the target, and renames once everything is there.
-fn replace(
-    target: &Path,
-    permissions: Option<fs::Permissions>,
-    writing: &Writing,
-) -> io::Result<()> {
-    let (mut file, temporary) = Temporary::create_beside(target)?;
-    if let Some(permissions) = permissions {
-        file.set_permissions(permissions)?;
-    }
-    write_buffered(&mut file, writing)?;
-    file.sync_all()?;
-    fs::rename(&temporary.0, target)?;
-    // There is nothing left under the temporary name.
-    std::mem::forget(temporary);
+fn replace(target: &Path, old: Option<&Metadata>, writing: &Writing) -> io::Result<()> {
+    let folder = folder_of(target);
+    let temporary = match old {
+        Some(old) => create_like(old, folder)?,
+        None => Temporary::create_in(folder, 0o666)?,
+    };
+    write_buffered(temporary.file(), writing)?;
+    temporary.rename(target)?;
+    // The file is whole under this name or under the old one. Some folders can't be synced; that is no failure.
+    let _ = File::open(folder).and_then(|folder| folder.sync_all());
     Ok(())
 }
 
-/// A file that is removed unless it is renamed.
-struct Temporary(PathBuf);
-
-impl Temporary {
-    fn create_beside(target: &Path) -> io::Result<(File, Self)> {
-        let name = target.file_name().ok_or(ErrorKind::InvalidInput)?;
-        let mut hidden = std::ffi::OsString::from(".");
-        hidden.push(name);
-        hidden.push(format!(".{}.tmp", std::process::id()));
-        let path = target.with_file_name(hidden);
-        let file = OpenOptions::new()
-            .write(true)
-            .create_new(true)
-            .open(&path)?;
-        Ok((file, Temporary(path)))
+/// Creates a file with the owner, the group and the permissions of the one that it will replace. Before, nobody else may open it.
+fn create_like(old: &Metadata, folder: &Path) -> io::Result<Temporary> {
+    let temporary = Temporary::create_in(folder, 0o600)
+        .map_err(|error| explain("no file can be made beside it", &error))?;
+    let file = temporary.file();
+    let new = file.metadata()?;
+    if (new.uid(), new.gid()) != (old.uid(), old.gid()) {
+        system::give_owner(file, old.uid(), old.gid())
+            .map_err(|error| explain("its owner and group can't be kept", &error))?;
     }
+    if new.mode() != old.mode() {
+        file.set_permissions(old.permissions())?;
+    }
+    Ok(temporary)
 }
 
-impl Drop for Temporary {
-    fn drop(&mut self) {
-        let _ = fs::remove_file(&self.0);
-    }
+/// Says what couldn't be done when an error came.
+fn explain(what: &str, error: &io::Error) -> io::Error {
+    io::Error::new(error.kind(), format!("{what}: {}", in_words(error)))
 }

@@ -5,6 +5,8 @@ use std::time::Duration;
 
 use indicatif::{BinaryBytes, ProgressBar, ProgressStyle};
 
+use crate::escapes::escape_name;
+
 /// Work on shorter files is over too soon to be shown.
 const LONG: usize = 1 << 20;
 /// Between two pictures of the spinner.
@@ -20,7 +22,7 @@ pub fn show_while<T>(what: &str, path: &Path, length: usize, work: impl FnOnce()
         spinner.set_style(style);
     }
     let length = BinaryBytes(length as u64);
-    spinner.set_message(format!("{what} {} ({length})", path.display()));
+    spinner.set_message(format!("{what} {} ({length})", escape_name(path)));
     spinner.enable_steady_tick(TURN);
     let answer = work();
     spinner.finish_and_clear();

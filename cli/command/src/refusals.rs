@@ -2,27 +2,92 @@
 
 use zs_library::refusals::find;
 
-/// A refusal as the library gives it.
-#[derive(Clone, Copy, Debug, PartialEq, Eq)]
+use crate::escapes::escape;
+use crate::layout::{codec_name, header_end, total_length};
+
+/// A refusal as the library gives it, and what the file's own bytes tell about it.
+#[derive(Clone, Debug, PartialEq, Eq)]
 pub struct Refusal {
-    pub number: u64,
-    pub place: u64,
+    number: u64,
+    place: u64,
+    detail: Option<String>,
 }
 
 impl Refusal {
-    /// Number, place and sentence.
+    /// The refusal of a file.
+    pub fn of_file(number: u64, place: u64, file: &[u8]) -> Self {
+        Refusal {
+            number,
+            place,
+            detail: find_detail(number, file),
+        }
+    }
+
+    /// The refusal of more matches than are allowed.
+    pub fn of_matches(limit: u64) -> Self {
+        let are = if limit == 1 { "is" } else { "are" };
+        Refusal {
+            number: 27,
+            place: 0,
+            detail: Some(format!("at most {limit} {are} allowed")),
+        }
+    }
+
+    /// Number, place if there is one, sentence and detail.
     pub fn describe(&self) -> String {
-        let Refusal { number, place } = self;
-        let sentence = find(*number).map_or("a refusal that this command doesn't know", |row| {
-            row.sentence
-        });
-        format!("refused {number} at {place}: {sentence}")
+        let sentence = find(self.number)
+            .map_or("a refusal that this command doesn't know", |row| {
+                row.sentence
+            });
+        let mut words = format!("refused {}", self.number);
+        // No block begins at 0.
+        if self.place != 0 {
+            words.push_str(&format!(" at {}", self.place));
+        }
+        words.push_str(&format!(": {sentence}"));
+        if let Some(detail) = &self.detail {
+            words.push_str(&format!(" ({detail})"));
+        }
+        words
     }
 
     /// What to do about it.
     pub fn advice(&self) -> Option<&'static str> {
         find(self.number).map(|row| row.advice)
     }
+}
+
+/// What the bytes tell about a refusal, for display.
+fn find_detail(number: u64, file: &[u8]) -> Option<String> {
+    match number {
+        1 if begins_otherwise(file) => Some("it doesn't begin as a ZS file either".into()),
+        3 if file.is_empty() => Some("it is empty".into()),
+        4 => Some(compare_lengths(
+            file,
+            "the header alone takes",
+            header_end(file),
+        )),
+        7 => codec_name(file).map(|codec| format!("it is \"{}\"", escape(codec))),
+        8 => Some(compare_lengths(file, "the header says", total_length(file))),
+        _ => None,
+    }
+}
+
+/// Whether the first bytes alone are refused as those of no archive.
+fn begins_otherwise(file: &[u8]) -> bool {
+    let first = file.get(..8).unwrap_or(file);
+    zs_library::check(first, &mut []).number == 3
+}
+
+/// The file's length, and the one that is due, as far as it is known.
+fn compare_lengths(file: &[u8], due_by: &str, due: Option<u64>) -> String {
+    let length = file.len() as u64;
+    let shown = due.map_or(String::from("more"), |due| due.to_string());
+    let cut = match due {
+        Some(due) if due <= length => "",
+        _ => ": was it cut short?",
+    };
+    format!("it has {length} bytes, {due_by} {shown}{cut}")
 }
 
 #[cfg(test)]
@@ -32,10 +97,7 @@ mod tests {
 
     #[test]
     fn a_refusal_has_number_place_and_sentence() {
-        let refusal = Refusal {
-            number: 16,
-            place: 106,
-        };
+        let refusal = Refusal::of_file(16, 106, b"");
         assert_eq!(
             refusal.describe(),
             "refused 16 at 106: the records of this block are out of order"
@@ -45,13 +107,9 @@ mod tests {
 
     #[test]
     fn an_unknown_number_is_said_to_be_one() {
-        let refusal = Refusal {
-            number: GREATEST + 1,
-            place: 0,
-        };
-        assert!(refusal
-            .describe()
-            .ends_with(" at 0: a refusal that this command doesn't know"));
+        let refusal = Refusal::of_file(GREATEST + 1, 0, b"");
+        let words = refusal.describe();
+        assert!(words.ends_with(": a refusal that this command doesn't know"));
         assert_eq!(refusal.advice(), None);
     }
 }

@@ -4,41 +4,52 @@ use std::path::Path;
 
 use crate::archive::read_and_check;
 use crate::arguments::Validate;
+use crate::escapes::escape_name;
 use crate::failure::{complain, Failure, Status};
-use crate::output::{self, format_count};
+use crate::output::{format_count, Output};
 
-/// Checks every file, also after a refused one; the worst status is that of the command.
-pub fn run(asked: &Validate) -> Status {
-    let mut worst = Status::Answered;
+/// Checks every file, also after a refused one, and also where nobody reads the verdicts any more: the worst status is that of the
+/// command.
+pub fn run(asked: &Validate) -> Result<Status, Failure> {
+    let output = Output::find(None)?;
     for file in &asked.files {
-        let failure = match print_verdict(file) {
-            Ok(()) => continue,
-            Err(failure) => failure,
-        };
-        worst = worst.max(failure.status());
-        match failure {
-            Failure::ReaderGone => return worst,
-            Failure::Trouble(words) => complain(&words),
-            Failure::Refused(_) => {}
-        }
+        output.refuse_archive(file)?;
     }
-    worst
+    let mut worst = Status::Answered;
+    let mut is_read = true;
+    for file in &asked.files {
+        let (status, line) = judge(file);
+        worst = worst.max(status);
+        is_read = is_read && print(&line, &output)?;
+    }
+    Ok(worst)
 }
 
-/// Prints the verdict on a file.
-fn print_verdict(file: &Path) -> Result<(), Failure> {
-    match read_and_check(file) {
-        Ok((_, contents)) => output::print(&format!(
-            "{}: valid, {} in {}\n",
-            file.display(),
-            format_count(contents.records, "record", "records"),
-            format_count(contents.blocks, "block", "blocks"),
-        )),
-        Err(failure) => {
-            if let (Failure::Refused(_), Some(line)) = (&failure, failure.describe(file)) {
-                output::print(&format!("{line}\n"))?;
-            }
-            Err(failure)
+/// Gives a file's status and its line. A file that can't be read has none: that is said on standard error.
+fn judge(file: &Path) -> (Status, String) {
+    let name = escape_name(file);
+    let failure = match read_and_check(file) {
+        Ok((_, contents)) => {
+            let records = format_count(contents.records, "record", "records");
+            let blocks = format_count(contents.blocks, "block", "blocks");
+            let line = format!("{name}: valid, {records} in {blocks}\n");
+            return (Status::Answered, line);
         }
+        Err(failure) => failure,
+    };
+    let words = failure.describe(&name).unwrap_or_default();
+    if let Failure::Refused(_) = failure {
+        return (Status::Refused, words + "\n");
+    }
+    complain(&words);
+    (failure.status(), String::new())
+}
+
+/// Prints a line, and says whether somebody reads it.
+fn print(line: &str, output: &Output) -> Result<bool, Failure> {
+    match output.write(&|out| out.write_all(line.as_bytes())) {
+        Ok(()) => Ok(true),
+        Err(Failure::ReaderGone) => Ok(false),
+        Err(failure) => Err(failure),
     }
 }

@@ -1,26 +1,25 @@
-//! The walk of a search for display only: where each opened block stands in the tree, its bounds, and the matches it leads to.
+//! The walk of a search, once more: for what the library doesn't say of it, and for what it would cost.
 //!
-//! The library says which blocks were opened, in which order, and what matched; this only arranges it. Where a file that was never
-//! checked doesn't form a tree, bounds may be missing.
+//! Which blocks are opened and what matches is the library's answer. This walk adds by which bounds each block was reached. It makes
+//! the opening test and no test of a block, so it needs no checksums, and it ends at a block that it can't make out: there the search
+//! is refused.
 
-use crate::answers::Answer;
-use crate::layout::{block, entries, Block, Entry};
+use zs_library::Query;
 
-/// A block that was opened.
+use crate::answers::Contents;
+use crate::layout::{block, header, take_entry, Block, Entry};
+
+/// Levels of index blocks.
+const INDEX: std::ops::RangeInclusive<u8> = 1..=63;
+
+/// A block that the search opens.
 pub struct Opened<'a> {
     pub offset: u64,
-    pub level: u8,
+    pub block: Block<'a>,
+    /// How far it stands below the root.
+    pub depth: usize,
     /// The root has none.
     pub bounds: Option<Bounds<'a>>,
-    /// How many matches this block leads to.
-    pub matches: u64,
-    /// The position after its last byte.
-    end: u64,
-    /// Which of the opened blocks stands above this one.
-    above: Option<usize>,
-    entries: Vec<Entry<'a>>,
-    /// Entries before this one name blocks that were opened before, or not opened.
-    next_entry: usize,
 }
 
 /// Between which byte strings, both included, the records of a block lie.
@@ -30,75 +29,145 @@ pub struct Bounds<'a> {
     pub upper: Option<&'a [u8]>,
 }
 
-impl<'a> Opened<'a> {
-    fn new(offset: u64, block: Option<&Block<'a>>) -> Self {
-        Opened {
-            offset,
-            level: block.map_or(0, |block| block.level),
-            bounds: None,
-            matches: 0,
-            end: block.map_or(offset, |block| block.end),
-            above: None,
-            entries: block
-                .filter(|block| block.level > 0)
-                .map(entries)
-                .unwrap_or_default(),
-            next_entry: 0,
+/// The blocks that a search opens, in its order. It holds no more than the way down to the last of them.
+pub struct Walk<'a> {
+    file: &'a [u8],
+    query: &'a Query<'a>,
+    /// The root, until it is opened.
+    root: Option<u64>,
+    /// The index blocks on the way down whose entries are gone through.
+    entered: Vec<Entered<'a>>,
+}
+
+/// An index block whose entries are gone through.
+struct Entered<'a> {
+    level: u8,
+    upper: Option<&'a [u8]>,
+    /// The entry whose turn it is, and the bytes after it.
+    entry: Option<Entry<'a>>,
+    rest: &'a [u8],
+}
+
+impl<'a> Walk<'a> {
+    pub fn new(file: &'a [u8], query: &'a Query<'a>) -> Self {
+        Walk {
+            file,
+            query,
+            root: header(file).map(|header| header.root_offset),
+            entered: Vec::new(),
         }
     }
 
-    /// The bounds of the block below that begins at `offset`.
-    fn bounds_below(&mut self, offset: u64) -> Option<Bounds<'a>> {
-        let left = self.entries.get(self.next_entry..)?;
-        let at = self.next_entry + left.iter().position(|entry| entry.offset == offset)?;
-        self.next_entry = at + 1;
-        let next_key = self.entries.get(at + 1).map(|entry| entry.key);
-        let own_upper = self.bounds.and_then(|bounds| bounds.upper);
-        Some(Bounds {
-            lower: self.entries[at].key,
-            upper: next_key.or(own_upper),
+    /// The next block that some entry names and whose bounds admit the query.
+    fn next_below(&mut self) -> Option<(u64, Bounds<'a>)> {
+        while let Some(deepest) = self.entered.last_mut() {
+            let query = self.query;
+            let admitted = deepest.find(|(_, bounds)| admits(bounds, query));
+            if admitted.is_some() {
+                return admitted;
+            }
+            self.entered.pop();
+        }
+        None
+    }
+
+    /// The block at an offset, if it is one and has the level due.
+    fn find_block(&self, offset: u64) -> Option<Block<'a>> {
+        let found = block(self.file, offset)?;
+        let fits = match self.entered.last() {
+            Some(above) => found.level == above.level - 1,
+            None => INDEX.contains(&found.level),
+        };
+        fits.then_some(found)
+    }
+}
+
+impl<'a> Iterator for Walk<'a> {
+    type Item = Opened<'a>;
+
+    fn next(&mut self) -> Option<Opened<'a>> {
+        let (offset, bounds) = match self.root.take() {
+            Some(root) => (root, None),
+            None => self.next_below().map(|(at, bounds)| (at, Some(bounds)))?,
+        };
+        let block = match self.find_block(offset) {
+            Some(block) => block,
+            None => {
+                self.entered.clear();
+                return None;
+            }
+        };
+        let depth = self.entered.len();
+        if INDEX.contains(&block.level) {
+            let upper = bounds.and_then(|bounds| bounds.upper);
+            self.entered.push(Entered::new(&block, upper));
+        }
+        Some(Opened {
+            offset,
+            block,
+            depth,
+            bounds,
         })
     }
 }
 
-/// Arranges the opened blocks for display, in walk order.
-pub fn lay_out<'a>(file: &'a [u8], answer: &Answer) -> Vec<Opened<'a>> {
-    let mut blocks: Vec<Opened> = Vec::with_capacity(answer.opened.len());
-    // A block stands below the last one before it that is a level higher.
-    let mut last_on_level = [None; 257];
-    for offset in &answer.opened {
-        let mut opened = Opened::new(*offset, block(file, *offset).as_ref());
-        let level = usize::from(opened.level);
-        opened.above = last_on_level[level + 1];
-        opened.bounds = opened
-            .above
-            .and_then(|above: usize| blocks[above].bounds_below(*offset));
-        last_on_level[level] = Some(blocks.len());
-        blocks.push(opened);
+impl<'a> Entered<'a> {
+    fn new(block: &Block<'a>, upper: Option<&'a [u8]>) -> Self {
+        let mut rest = block.payload;
+        Entered {
+            level: block.level,
+            upper,
+            entry: take_entry(&mut rest),
+            rest,
+        }
     }
-    give_matches(&mut blocks, answer);
-    blocks
 }
 
-/// Counts the matches of each block. They come in the order of the data blocks, and rise within one; each counts for all blocks above
-/// it too.
-fn give_matches(blocks: &mut [Opened], answer: &Answer) {
-    let mut matches = answer.matches().map(|(offset, _)| offset).peekable();
-    for number in 0..blocks.len() {
-        if blocks[number].level > 0 {
-            continue;
+/// The block of each entry, and its bounds.
+impl<'a> Iterator for Entered<'a> {
+    type Item = (u64, Bounds<'a>);
+
+    fn next(&mut self) -> Option<(u64, Bounds<'a>)> {
+        let entry = self.entry.take()?;
+        self.entry = take_entry(&mut self.rest);
+        let next_key = self.entry.as_ref().map(|next| next.key);
+        let bounds = Bounds {
+            lower: entry.key,
+            upper: next_key.or(self.upper),
+        };
+        Some((entry.offset, bounds))
+    }
+}
+
+/// The opening test: whether some byte string between the bounds matches. If any does, then the greatest of lower bound, start and
+/// prefix does.
+fn admits(bounds: &Bounds, query: &Query) -> bool {
+    let least = bounds.lower.max(query.start).max(query.prefix);
+    least.starts_with(query.prefix)
+        && bounds.upper.map_or(true, |upper| least <= upper)
+        && query.stop.map_or(true, |stop| least < stop)
+}
+
+/// How many blocks a search opens and how many records it meets, at most; nothing where its blocks are longer together than the file.
+///
+/// A search of an accepted file opens each block at most once, so it is never longer than the file.
+pub fn measure(file: &[u8], query: &Query) -> Option<Contents> {
+    // One block more is put on the list where the search is refused at it.
+    let mut most = Contents {
+        blocks: 1,
+        records: 0,
+    };
+    let mut bytes = 0;
+    for Opened { offset, block, .. } in Walk::new(file, query) {
+        bytes += block.end - offset;
+        if bytes > file.len() as u64 {
+            return None;
         }
-        let end = blocks[number].end;
-        let mut last = blocks[number].offset;
-        let mut count = 0;
-        while let Some(offset) = matches.next_if(|offset| last < *offset && *offset < end) {
-            last = offset;
-            count += 1;
-        }
-        let mut upward = Some(number);
-        while let Some(block) = upward {
-            blocks[block].matches += count;
-            upward = blocks[block].above;
+        most.blocks += 1;
+        if block.level == 0 {
+            // A record takes a byte or more.
+            most.records += block.payload.len() as u64;
         }
     }
+    Some(most)
 }

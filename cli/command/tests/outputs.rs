@@ -5,6 +5,8 @@ mod support;
 use std::fs;
 use std::io::Read;
 use std::os::unix::fs::{symlink, PermissionsExt};
+use std::os::unix::io::OwnedFd;
+use std::os::unix::net::UnixStream;
 use std::process::{Command, Stdio};
 
 use support::{shell, zs, Folder, CONTACTS, SMALL, ZS};
@@ -48,10 +50,34 @@ fn the_archive_is_never_its_own_output() {
     let folder = Folder::new();
     let bytes = fs::read(SMALL).expect("the sample");
     let file = folder.write("small.zs", &bytes);
-    let run = zs(&["dump", &file, "-o", &file]);
-    assert_eq!(run.status, 2);
-    assert!(run.err.contains("the output is the archive itself"));
-    assert_eq!(fs::read(&file).expect("the archive"), bytes);
+    for line in [
+        "$ZS dump small.zs -o small.zs",
+        "$ZS dump small.zs -o ./small.zs",
+        "$ZS dump small.zs -o /dev/stdout >>small.zs",
+        "$ZS dump small.zs -o - >>small.zs",
+        "$ZS dump small.zs >>small.zs",
+        "$ZS dump small.zs 1<>small.zs",
+        "$ZS dump small.zs --unchecked --count >>small.zs",
+        "$ZS dump /dev/stdin <small.zs >>small.zs",
+        "$ZS info small.zs >>small.zs",
+        "$ZS info -m small.zs >>small.zs",
+        "$ZS explain small.zs >>small.zs",
+        "$ZS validate small.zs >>small.zs",
+        "cp small.zs other.zs; $ZS validate other.zs small.zs >>small.zs",
+    ] {
+        let run = shell(line, &folder);
+        assert_eq!((run.status, run.out.len()), (2, 0), "{line}");
+        assert!(
+            run.err.ends_with(": the output is the archive itself\n"),
+            "{line}: {}",
+            run.err
+        );
+        assert_eq!(run.err.lines().count(), 1, "{line}");
+        assert_eq!(fs::read(&file).expect("the archive"), bytes, "{line}");
+    }
+    // What is written to a device isn't read from it.
+    let run = shell("$ZS validate /dev/null >/dev/null", &folder);
+    assert_eq!((run.status, run.err.as_str()), (1, ""));
 }
 
 #[test]
@@ -68,16 +94,44 @@ fn outputs_that_cannot_be_written() {
             run.err
         );
     }
-    for command in ["validate", "dump", "info", "explain"] {
-        let run = shell(&format!("$ZS {command} '{SMALL}' >/dev/full"), &folder);
-        assert_eq!(run.status, 2, "{command}");
-        assert!(run
-            .err
-            .contains("can't write standard output: No space left"));
-    }
-    assert_eq!(shell("$ZS --help >/dev/full", &folder).status, 2);
     assert_eq!(shell("$ZS validate missing 2>/dev/full", &folder).status, 2);
     assert_eq!(folder.files(), Vec::<String>::new());
+}
+
+#[test]
+fn standard_output_that_cannot_be_written() {
+    let folder = Folder::new();
+    for command in [
+        "--version",
+        "--help",
+        "dump --help",
+        "validate FILE",
+        "validate FILE FILE FILE",
+        "dump FILE",
+        "dump FILE --count -o -",
+        "dump FILE -o /dev/fd/1",
+        "info FILE",
+        "explain FILE",
+    ] {
+        for (redirection, says) in [
+            (">/dev/full", "No space left on device"),
+            (">&-", "it is closed"),
+            ("1</dev/null", "Bad file descriptor"),
+        ] {
+            let line = format!("$ZS {command} {redirection}").replace("FILE", SMALL);
+            let run = shell(&line, &folder);
+            let name = match command.ends_with("fd/1") {
+                true => "/dev/fd/1",
+                false => "standard output",
+            };
+            let due = format!("zs: can't write {name}: {says}");
+            assert_eq!((run.status, run.err.lines().count()), (2, 1), "{line}");
+            assert!(run.err.starts_with(&due), "{line}: {}", run.err);
+        }
+    }
+    // Nothing is written there.
+    let line = format!("$ZS dump '{SMALL}' -o out >&- && $ZS dump '{SMALL}' | cmp - out");
+    assert_eq!(shell(&line, &folder).status, 0);
 }
 
 #[test]
@@ -112,6 +166,73 @@ fn a_reader_that_closes_the_pipe_is_no_fault() {
     let run = child.wait_with_output().expect("the command ends");
     assert_eq!(run.status.code(), Some(0));
     assert_eq!(String::from_utf8_lossy(&run.stderr), "");
+}
+
+/// Runs the command when the reader of its standard output has gone already.
+fn run_unread(words: &[&str]) -> (Option<i32>, String) {
+    let (ours, theirs) = UnixStream::pair().expect("a pair of sockets");
+    drop(ours);
+    let output = Command::new(ZS)
+        .args(words)
+        .stdout(Stdio::from(OwnedFd::from(theirs)))
+        .stderr(Stdio::piped())
+        .spawn()
+        .expect("the command runs")
+        .wait_with_output()
+        .expect("the command ends");
+    let err = String::from_utf8_lossy(&output.stderr).into_owned();
+    (output.status.code(), err)
+}
+
+#[test]
+fn the_status_is_the_same_where_nobody_reads() {
+    let folder = Folder::new();
+    let bad = folder.write("bad.zs", b"no archive");
+    for words in [
+        &["validate", SMALL, CONTACTS][..],
+        &["dump", SMALL],
+        &["dump", SMALL, "-o", "/dev/stdout"],
+        &["info", SMALL],
+        &["explain", SMALL],
+        &["--help"],
+        &["--version"],
+    ] {
+        assert_eq!(run_unread(words), (Some(0), String::new()), "{words:?}");
+    }
+    for words in [
+        &["validate", &bad][..],
+        &["validate", &bad, SMALL],
+        &["validate", SMALL, CONTACTS, &bad],
+    ] {
+        assert_eq!(run_unread(words), (Some(1), String::new()), "{words:?}");
+    }
+    let (status, err) = run_unread(&["dump", &bad]);
+    assert_eq!((status, err.lines().count()), (Some(1), 2));
+    let (status, err) = run_unread(&["validate", SMALL, &bad, "missing"]);
+    assert_eq!((status, err.lines().count()), (Some(2), 1));
+}
+
+#[test]
+fn one_is_singular() {
+    let folder = Folder::new();
+    let file = folder.write("one.zs", &Tree::new(&[&["a"]]).bytes());
+    let line = format!("{file}: valid, 1 record in 2 blocks\n");
+    assert_eq!(zs(&["validate", &file]).text(), line);
+    // Nothing can match, so only the root is opened.
+    let nothing = ["explain", CONTACTS, "--start=b", "--stop=a"];
+    for (way, due) in [
+        (
+            &[][..],
+            "opened 1 of 151 blocks, 0 matches, in vain: none\n",
+        ),
+        (
+            &["--unchecked"],
+            "opened 1 block, 0 matches, in vain: none\n",
+        ),
+    ] {
+        let text = zs(&[&nothing[..], way].concat()).text();
+        assert!(text.ends_with(due), "{text}");
+    }
 }
 
 #[test]

@@ -41,6 +41,7 @@ fn every_file_of_the_corpus_gets_its_verdict() {
         let answer = reader::check(&file.bytes, 100_000);
         due.push_str(&match answer.number {
             0 => format!("{path}: valid"),
+            number if answer.place == 0 => format!("{path}: refused {number}"),
             number => format!("{path}: refused {number} at {}", answer.place),
         });
         due.push('\n');
@@ -73,7 +74,7 @@ fn the_worst_of_several_files_decides() {
     assert_eq!((run.status, run.text().lines().count()), (2, 2));
     assert_eq!(
         run.err,
-        format!("zs: {missing}: No such file or directory (os error 2)\n")
+        format!("zs: {missing}: No such file or directory\n")
     );
 }
 
@@ -93,7 +94,7 @@ fn a_file_above_the_limit_is_refused_by_its_length() {
     ] {
         let run = zs(words);
         assert_eq!(run.status, 1, "{words:?}");
-        assert!(format!("{}{}", run.text(), run.err).contains(": refused 1 at 0: "));
+        assert!(format!("{}{}", run.text(), run.err).contains(": refused 1: "));
     }
 }
 
@@ -127,12 +128,7 @@ fn mistakes_in_arguments() {
             &["dump", CONTACTS, "--prefix", r"\q"][..],
             r"unknown escape \q",
         ),
-        (
-            &["dump", CONTACTS, "--start", r"\xzz"],
-            r"unknown escape \xzz",
-        ),
-        (&["dump", CONTACTS, "--stop", r"a\"], "cut off"),
-        (&["dump", CONTACTS, "--terminator", r"\x4"], "cut off"),
+        (&["dump", CONTACTS, "--stop", r"a\"], "at the end"),
         (&["dump", CONTACTS, "--length-prefixed", "u32"], "u32"),
         (
             &[
@@ -179,7 +175,7 @@ fn more_matches_than_allowed() {
         assert_eq!((run.status, run.out.len()), (1, 0));
         assert!(run
             .err
-            .contains(": refused 27 at 0: more records match than --max-results allows"));
+            .contains(": refused 27: more records match than --max-results "));
         assert_eq!(count("40", way).status, 0);
         assert_eq!(count("0", way).status, 1);
         assert_eq!(count("18446744073709551615", way).status, 0);

@@ -2,8 +2,8 @@
 //!
 //! Each call hands over slices as pointer and length, and the contracts of the functions that are called hold for every slice, so
 //! nothing is asked of the caller. Only [`map`] asks for a promise: that nobody changes the file. Beside this file, unsafe code stands
-//! where the command calls [`map`] (`cli/command/src/input.rs`), in the test of long files, and in the benchmark
-//! (`bench/src/foreign.rs`).
+//! where the command calls [`map`] (`cli/command/src/input.rs`), handles signals (`signals.rs` and `cut_files.rs` beside it) and asks
+//! for what `std` has no call for (`system.rs`), in the test of long files, and in the benchmark (`bench/src/foreign.rs`).
 #![warn(missing_docs)]
 #![deny(unsafe_op_in_unsafe_fn)]
 

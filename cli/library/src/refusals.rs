@@ -53,8 +53,8 @@ const COPY_OR_MAKE: &str = "get an undamaged copy of the file, or make the archi
 pub const TABLE: &[Row] = &[
     row(1, EVERY, ZERO, "the file is longer than 1073741824 bytes (2^30)",
         "put the records into several archives"),
-    row(2, EVERY, ZERO, "the file was never finished: its writer stopped before the end",
-        "make the archive again"),
+    row(2, EVERY, ZERO, "the file isn't finished: its writer is still at work, or has stopped before the end",
+        "wait for its writer, or make the archive again"),
     row(3, EVERY, ZERO, "this is no ZS file: it doesn't begin as one",
         "make sure that this is the right file"),
     row(4, EVERY, ZERO, "the header doesn't fit in the file",
@@ -103,8 +103,8 @@ pub const TABLE: &[Row] = &[
         COPY_OR_MAKE),
     row(26, SEARCH, ZERO, "the search opens more blocks than the opened list has places",
         "check the file, then give an opened list with a place for each data and index block"),
-    row(27, READ_AND_SEARCH, ZERO, "more records match than --max-results allows, or the result list has fewer than two places per match",
-        "ask for fewer records, or give a greater --max-results or a longer result list"),
+    row(27, READ_AND_SEARCH, ZERO, "more records match than --max-results or the result list allows",
+        "ask for fewer records, or give a greater --max-results or a result list with two places per match"),
 ];
 
 const fn row(

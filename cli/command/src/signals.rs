@@ -1,0 +1,73 @@
+//! What signals do: those that end the process remove an unfinished file first. Has unsafe code: it handles signals.
+
+use std::ffi::CString;
+use std::io;
+use std::os::unix::ffi::OsStrExt;
+use std::path::Path;
+use std::ptr;
+use std::sync::atomic::{AtomicPtr, Ordering};
+
+/// The signals with which a process is ended from outside.
+const ENDING: [libc::c_int; 6] = [
+    libc::SIGALRM,
+    libc::SIGHUP,
+    libc::SIGINT,
+    libc::SIGQUIT,
+    libc::SIGTERM,
+    libc::SIGXCPU,
+];
+
+/// The name of the unfinished file, or null.
+static UNFINISHED: AtomicPtr<libc::c_char> = AtomicPtr::new(ptr::null_mut());
+
+/// From here on a signal that ends the process removes this file first, if it is there. One file is remembered.
+pub fn remember_unfinished(path: &Path) -> io::Result<()> {
+    let name = CString::new(path.as_os_str().as_bytes())?;
+    // The name is never freed: a handler may be using it.
+    UNFINISHED.store(name.into_raw(), Ordering::SeqCst);
+    handle_ending_signals();
+    Ok(())
+}
+
+/// There is no unfinished file any more.
+pub fn forget_unfinished() {
+    UNFINISHED.store(ptr::null_mut(), Ordering::SeqCst);
+}
+
+/// Removes the unfinished file, if there is one. A handler of signals may call this.
+pub fn remove_unfinished() {
+    let name = UNFINISHED.swap(ptr::null_mut(), Ordering::SeqCst);
+    if !name.is_null() {
+        // SAFETY: the pointer is that of a `CString` which is never freed, and a handler may call `unlink`.
+        unsafe { libc::unlink(name) };
+    }
+}
+
+/// Ignored signals stay ignored, as those of `nohup`.
+fn handle_ending_signals() {
+    for signal in ENDING {
+        // SAFETY: all zeros are a value of this struct; the first call only fills it. The handler has the type that goes with the flag,
+        // and calls only what handlers may call.
+        unsafe {
+            let mut action: libc::sigaction = std::mem::zeroed();
+            libc::sigaction(signal, ptr::null(), &mut action);
+            if action.sa_sigaction != libc::SIG_IGN {
+                action.sa_sigaction = remove_and_end as *const () as libc::sighandler_t;
+                action.sa_flags = libc::SA_RESETHAND;
+                libc::sigaction(signal, &action, ptr::null_mut());
+            }
+        }
+    }
+}
+
+extern "C" fn remove_and_end(signal: libc::c_int) {
+    remove_unfinished();
+    // SAFETY: a handler may call `raise`. The flag has given the signal its usual action back, which comes when the handler returns.
+    unsafe { libc::raise(signal) };
+}
+
+/// From here on a write beyond the limit of a file's length is an error, and doesn't end the process.
+pub fn survive_length_limit() {
+    // SAFETY: no handler is installed; the signal is ignored.
+    unsafe { libc::signal(libc::SIGXFSZ, libc::SIG_IGN) };
+}

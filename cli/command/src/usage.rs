@@ -1,0 +1,40 @@
+//! Help, version, and mistakes in the arguments.
+
+use std::io::{self, Write};
+
+use clap::error::ContextValue;
+
+use crate::escapes::hide_controls;
+use crate::failure::{Failure, Status};
+use crate::output;
+
+/// Shows help, version, or a mistake. The first two are answers.
+pub fn show(help_or_mistake: &clap::Error) -> Result<Status, Failure> {
+    if help_or_mistake.use_stderr() {
+        show_mistake(help_or_mistake);
+        return Ok(Status::Trouble);
+    }
+    output::print(&help_or_mistake.to_string())?;
+    Ok(Status::Answered)
+}
+
+/// Puts a mistake on standard error. What was given can't forge a line there.
+fn show_mistake(mistake: &clap::Error) {
+    let plain = mistake.to_string();
+    let mut text = plain.clone();
+    for (_, value) in mistake.context() {
+        match value {
+            ContextValue::String(given) if given.contains('\n') => {
+                text = text.replace(given, &hide_controls(given));
+            }
+            _ => {}
+        }
+    }
+    let lines: Vec<String> = text.split('\n').map(hide_controls).collect();
+    let text = lines.join("\n");
+    // On a terminal clap colours what it prints. Where standard error can't be written, the exit status is all there is.
+    let _ = match text == plain {
+        true => mistake.print(),
+        false => io::stderr().write_all(text.as_bytes()),
+    };
+}
