@@ -5,13 +5,13 @@ use mathlib.Core.List.{List, [], _++_, append-assoc, append-nil}
 use Prim.Native.Nat.{ℕ, _+_, _-_, _*_, _/_, _%_, _^_, _<_, _≤_}
 use native.Mathlib.Nat.{zero-add}
 use native.Mathlib.Omega.{arith}
-use lib.ListN.{length, take, drop, replicate, length-append, length-drop, take-append-drop, drop-of-length-le}
-use lib.Seq.{length-take-le, take-all}
-use Rattle.sha256.specs.declared.Words.{Words}
+use lib.ListN.{length, take, drop, replicate, length-append, take-append-drop, drop-of-length-le}
+use lib.Seq.{length-take-le}
+use Rattle.sha256_block.specs.declared.Words.{Words}
+use Rattle.sha256_block.specs.Compression.{over}
+use Rattle.sha256_block.proofs.BlockLaws.{over-short}
 use Rattle.sha256.specs.declared.State.{State}
-use Rattle.sha256.specs.Sha256.{over}
 use Rattle.sha256.specs.State.{pending, remainder, absorbed}
-use Rattle.sha256.proofs.BlockLaws.{over-short}
 use Rattle.sha256.proofs.FillLaws.{zeroed}
 use Rattle.sha256.proofs.StateLaws.{remainder-short, remainder-append, over-remainder}
 
@@ -81,19 +81,12 @@ absorbed-block s piece block rest tail partial mid hash count all size et em eh 
     (ep ∙ ap (λ (l : List ℕ). l ++ replicate (64 - length l) 0) (et ∙ sym (remainder-after block rest size) ∙ ap remainder (sym all)))
     ec
 
--- the part of s from a to e, as it is lent
-abbrev pub part : List ℕ → ℕ → ℕ → List ℕ
-part s a e = take (e - a) (drop a s)
-
-part-from : (s : List ℕ) (a : ℕ) → part s a (length s) ≡ drop a s
-part-from s a = take-all (length s - a) (drop a s) (rw length-drop (omega arith))
-
--- A piece that fills a block: `block` is what `filled` makes of the front, `rest` and `tail` are parts of the piece.
+-- A piece that fills a block: `block` is what `filled` makes of the front, `rest` is the piece after it, `tail` what is left of that.
 pub absorbed-long : (s : State) (piece block rest tail partial : List ℕ) (mid hash : Words) (count : ℕ)
     → length (s .partial) ≡ 64 → 64 - s .count % 64 ≤ length piece
     → block ≡ take (s .count % 64) (s .partial) ++ zeroed (s .count % 64) (take (64 - s .count % 64) piece)
-    → rest ≡ part piece (64 - s .count % 64) (length piece)
-    → tail ≡ part rest (length rest / 64 * 64) (length rest)
+    → rest ≡ drop (64 - s .count % 64) piece
+    → tail ≡ drop (length rest / 64 * 64) rest
     → mid ≡ over (s .hash) block → hash ≡ over mid rest
     → partial ≡ zeroed 0 tail → count ≡ (s .count + length piece) % 2 ^ 64
     → _≡_ {A = State} (record { hash = hash; partial = partial; count = count }) (absorbed s piece)
@@ -102,11 +95,10 @@ absorbed-long s piece block rest tail partial mid hash count full long eb er et 
     let fill = s .count % 64 in
     let front = pending-length s full in
     let whole : block ≡ pending s ++ take (64 - fill) piece = eb ∙ full-zeros (pending s) piece fill front (omega arith) long in
-    let after : rest ≡ drop (64 - fill) piece = er ∙ part-from piece (64 - fill) in
     absorbed-block s piece block rest tail partial mid hash count
-    (full-rest (pending s) piece fill front (omega arith) long ∙ sym (ap₂ _++_ whole after))
+    (full-rest (pending s) piece fill front (omega arith) long ∙ sym (ap₂ _++_ whole er))
     (ap length whole ∙ full-length (pending s) piece fill front (omega arith) long)
-    (et ∙ part-from rest (length rest / 64 * 64))
+    et
     em
     eh
     (rw zero-add at ep)

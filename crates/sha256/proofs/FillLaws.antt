@@ -8,6 +8,7 @@ use native.Mathlib.Numerals.{add-one, one-add}
 use native.Mathlib.Omega.{arith}
 use lib.ListN.{length, take, getD, set, replicate, length-append, length-replicate, drop-of-length-le, List·getD-append}
 use lib.Seq.{paste, paste-suc, take-paste, take-length, take-all, getD-append-add}
+use Rattle.lists.proofs.ListsLaws.{zeros-at}
 use Rattle.endian.specs.FixedWidth.{bigBytes}
 use Rattle.sha256.specs.Sha256.{padding}
 
@@ -23,11 +24,6 @@ paste-all : (d : List ℕ) (at : ℕ) (s : List ℕ) (n : ℕ) → length s ≡ 
 paste-all d at s n e h = rw (drop-of-length-le d h, ← e, take-length) (append-nil (take at d ++ s))
 
 -- Bytes with zeros after
-
-zeros-at : (n i : ℕ) → _≡_ {A = ℕ} (getD (replicate n 0) i 0) 0
-zeros-at zero i = refl
-zeros-at (suc n) zero = refl
-zeros-at (suc n) (suc i) = zeros-at n i
 
 -- a piece that goes after `fill` bytes of a block, and zeros to the block's end
 abbrev pub zeroed : ℕ → List ℕ → List ℕ

@@ -1,6 +1,5 @@
 -- Laws of SHA-256.
 pub mod AbsorbLaws
-pub mod BlockLaws
-pub mod ChooseLaws
+pub mod DigestLaws
 pub mod FillLaws
 pub mod StateLaws

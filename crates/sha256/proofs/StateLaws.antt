@@ -7,11 +7,13 @@ use native.Mathlib.Nat.{div-eq-of-lt, mod-eq-of-lt}
 use native.Mathlib.Omega.{arith}
 use lib.ListN.{length, drop, replicate, length-append, length-drop}
 use lib.Seq.{drop-drop, drop-append-le, take-at}
-use Rattle.sha256.specs.declared.Words.{Words}
+use Rattle.sha256_block.specs.declared.Words.{Words}
+use Rattle.sha256_block.specs.Compression.{over}
+use Rattle.sha256_block.proofs.BlockLaws.{over-append, over-short}
 use Rattle.sha256.specs.declared.State.{State}
-use Rattle.sha256.specs.Sha256.{initial, compressBlocks, over, digest, padding, sha256}
+use Rattle.sha256.specs.Sha256.{initial, digest, padding, sha256}
 use Rattle.sha256.specs.State.{begun, pending, remainder, absorbed, finished, Holds, none, more}
-use Rattle.sha256.proofs.BlockLaws.{over-append, digest-length}
+use Rattle.sha256.proofs.DigestLaws.{digest-length}
 
 -- What is left after the whole blocks
 
@@ -59,8 +61,8 @@ over-Held m s h piece =
     ∙ sym (over-remainder initial m piece)
 
 begun-Held : Held [] begun
-unfolding begun pending remainder over compressBlocks
-begun-Held = record { hash = refl; rest = refl; count = refl }
+unfolding begun pending remainder
+begun-Held = record { hash = sym (over-short initial [] (omega arith)); rest = refl; count = refl }
 
 absorbed-Held : (m : List ℕ) (s : State) → Held m s → (piece : List ℕ) → Held (m ++ piece) (absorbed s piece)
 unfolding absorbed pending

@@ -1,9 +1,10 @@
 -- A hash that is being computed piece by piece: what each step makes of a state, of any state.
 use Prim.Native.Nat.{ℕ, _+_, _-_, _*_, _/_, _%_, _^_}
-use mathlib.Core.List.{List, [], _∷_, _++_}
+use mathlib.Core.List.{List, [], _++_}
 use lib.ListN.{length, take, drop, replicate}
 use Rattle.sha256.specs.declared.State.{State}
-use Rattle.sha256.specs.Sha256.{initial, over, digest, padding}
+use Rattle.sha256_block.specs.Compression.{over}
+use Rattle.sha256.specs.Sha256.{initial, digest, padding}
 
 -- nothing absorbed yet
 unfoldable pub begun : State

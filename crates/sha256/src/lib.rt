@@ -9,21 +9,7 @@ ghost use Prim.Native.Nat.{_+_, _-_, _≤_};
 ghost use lib.ListN.{length, take, replicate};
 ghost use Rattle.sha256.specs.Sha256 as sha;
 ghost use Rattle.sha256.specs.State.{begun, absorbed, finished};
-
-mod block;
-mod word;
-
-// The eight words of a hash value, and the eight working variables.
-pub struct Words {
-    pub a: u32,
-    pub b: u32,
-    pub c: u32,
-    pub d: u32,
-    pub e: u32,
-    pub f: u32,
-    pub g: u32,
-    pub h: u32,
-}
+use sha256_block::Words;
 
 // `partial` holds the last `count % 64` bytes at its front.
 pub struct State {
@@ -97,7 +83,7 @@ pub fn absorb(state: State, piece: &[u8]) -> State
     let rest = &piece[first..];
     let whole = rest.len() / 64 * 64;
     State {
-        hash: block::over(block::over(hash, &block), rest),
+        hash: sha256_block::over(sha256_block::over(hash, &block), rest),
         partial: filled([0u8; 64], 0, &rest[whole..]),
         count,
     }
@@ -106,7 +92,7 @@ pub fn absorb(state: State, piece: &[u8]) -> State
 // The byte 0x80, `zeros` zeros and `bits`.
 fn padded(zeros: usize, bits: [u8; 8]) -> Tail
     requires { ⌜ zeros ≤ 63 ⌝ }
-    ensures { λ r. ⌜ (r .len ≤ 72) × (take (r .len) (r .bytes) ≡ 0x80 ∷ replicate zeros 0 ++ bits) ⌝ }
+    ensures { λ r. ⌜ (r .len ≡ zeros + 9) × (take (zeros + 9) (r .bytes) ≡ 0x80 ∷ replicate zeros 0 ++ bits) ⌝ }
 {
     let mut bytes = [0u8; 72];
     bytes[0] = 0x80;
@@ -128,6 +114,30 @@ fn padding(count: u64) -> Tail
     padded(zeros, bits)
 }
 
+// The words of a hash value, the highest byte first.
+fn digest(hash: Words) -> [u8; 32]
+    ensures { λ r. ⌜ r ≡ sha.digest hash ⌝ }
+{
+    let words = [
+        hash.a,
+        hash.b,
+        hash.c,
+        hash.d,
+        hash.e,
+        hash.f,
+        hash.g,
+        hash.h,
+    ];
+    let mut out = [0u8; 32];
+    let mut i = 0;
+    while i < 32 {
+        let bytes = endian::be32_bytes(words[i / 4]);
+        out[i] = bytes[i % 4];
+        i += 1;
+    }
+    out
+}
+
 // The digest that a state gives.
 pub fn finish(state: State) -> [u8; 32]
     ensures { λ r. ⌜ r ≡ finished state ⌝ }
@@ -136,5 +146,5 @@ pub fn finish(state: State) -> [u8; 32]
     let len = tail.len;
     let bytes = tail.bytes;
     let last = absorb(state, &bytes[..len]);
-    block::digest(last.hash)
+    digest(last.hash)
 }

@@ -1,11 +1,12 @@
 -- The two ways of a piece more are the laws `absorbed-short` and `absorbed-long`; here they meet what the calls ensure.
-use mathlib.Core.Path.{refl, _≡_, sym}
+use mathlib.Core.Path.{_≡_, sym}
 use Prim.Native.Nat.{_-_, _*_, _/_, _%_}
 use native.Mathlib.Omega.{arith}
 use borrow.Author.Needs.{needs}
-use lib.ListN.{length-take, length}
+use lib.ListN.{length-take, length, take, drop}
 use lib.Seq.{length-take-le}
-use Rattle.sha256.proofs.AbsorbLaws.{part, absorbed-short, absorbed-long}
+use Rattle.part.proofs.PartLaws.{lent-drop}
+use Rattle.sha256.proofs.AbsorbLaws.{absorbed-short, absorbed-long}
 use Rattle.sha256.proofs.absorb.Statement.{statement}
 use Rattle.sha256.proofs.absorb.Tie as tie
 
@@ -81,10 +82,15 @@ returns-2 c =
     let mid = c .before .before .before .over in
     let hash = c .before .before .over2 in
     let if1 = c .before .before .before .before .before .before .before .before .if1 in
-    let s = start .args .state in let piece = start .args .piece .now in let rest = part piece (64 - s .count % 64) (length piece) in let
-    tail = part rest (length rest / 64 * 64) (length rest) in absorbed-long s piece (block .result) rest tail (c .filled3 .result)
-    (mid .result) (hash .result) (sum .result) (full start) (omega (arith, if1 .left)) (block .ensures) refl refl (mid .ensures)
-    (hash .ensures) (c .filled3 .ensures) (sum .ensures)
+    let s = start .args .state in
+    let piece = start .args .piece .now in
+    let first = 64 - s .count % 64 in
+    let rest = take (length piece - first) (drop first piece) in
+    let whole = length rest / 64 * 64 in
+    let tail = take (length rest - whole) (drop whole rest) in
+    absorbed-long s piece (block .result) rest tail (c .filled3 .result) (mid .result) (hash .result) (sum .result) (full start)
+    (omega (arith, if1 .left)) (block .ensures) (lent-drop piece first) (lent-drop rest whole) (mid .ensures) (hash .ensures)
+    (c .filled3 .ensures) (sum .ensures)
 
 pub absorb-spec : {M : Type 1} → statement M
 absorb-spec =

@@ -49,20 +49,23 @@ loop-again : tie.Need-loop-again Inv-loop μ-loop
 loop-again c =
     let a = c .before .before .before .args in
     let at = c .before .before .loop in
-    let pre = c .before .before .before .pre in
-    let room : length (a .kept) ≡ 64 = search needs in let fits = pre in let inside = c .before .loop-test .taken in (
+    let fits = c .before .before .before .pre in
+    let room : length (a .kept) ≡ 64 = search needs in
+    let inside = c .before .loop-test .taken in (
       omega arith,
       ⊎-elim
-          (λ w. w .2 ∙ zeroed-byte (a .kept) (a .fill) (a .piece .now) room fits (at .i) (at .out) inside (at .inv .1) (w .0 .taken)) (λ w. w .1 ∙
-          zeroed-zero (a .kept) (a .fill) (a .piece .now) room fits (at .i) (at .out) inside (at .inv .1) (w .0 .left)) (c .if1 .came),
+          (λ w. w .2 ∙ zeroed-byte (a .kept) (a .fill) (a .piece .now) room fits (at .i) (at .out) inside (at .inv .1) (w .0 .taken))
+          (λ w. w .1 ∙ zeroed-zero (a .kept) (a .fill) (a .piece .now) room fits (at .i) (at .out) inside (at .inv .1) (w .0 .left))
+          (c .if1 .came),
     )
 
 returns : tie.Need-returns Inv-loop μ-loop
 returns c =
     let a = c .before .before .args in
-    let pre = c .before .before .pre in
-    let at = c .before .loop in let room : length (a .kept) ≡ 64 = search needs in zeroed-all (a .kept) (a .fill) (a .piece .now) room (pre)
-    (at .i) (at .out) (omega arith) (at .inv .1)
+    let fits = c .before .before .pre in
+    let at = c .before .loop in
+    let room : length (a .kept) ≡ 64 = search needs in
+    zeroed-all (a .kept) (a .fill) (a .piece .now) room fits (at .i) (at .out) (omega arith) (at .inv .1)
 
 pub filled-spec : {M : Type 1} → statement M
 filled-spec =

@@ -34,10 +34,9 @@ digest-requires c κs = search needs
 returns : tie.Need-returns
 unfolding finished absorbed
 returns c =
-    let args = c .before .before .before .before .before .args in
-    let padding = c .before .before .before .before .padding in
-    let state = args .state in let tail = padding in c .digest .ensures ∙ ap (λ (s : State). digest (s .hash)) (c .before .absorb .ensures ∙
-    ap (absorbed state) (tail .ensures .1))
+    let state = c .before .before .before .before .before .args .state in
+    let tail = c .before .before .before .before .padding in
+    c .digest .ensures ∙ ap (λ (s : State). digest (s .hash)) (c .before .absorb .ensures ∙ ap (absorbed state) (tail .ensures .1))
 
 pub finish-spec : {M : Type 1} → statement M
 finish-spec =

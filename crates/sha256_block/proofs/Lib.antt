@@ -1,0 +1,3 @@
+-- Laws of the blocks of SHA-256.
+pub mod BlockLaws
+pub mod ChooseLaws

@@ -1,0 +1,2 @@
+-- The meaning of taking blocks into a hash value.
+pub mod Compression
