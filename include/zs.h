@@ -1,10 +1,27 @@
-/* The proved library, for C and C++. Link target/staticlib/libzs.a (made by `rt staticlib zs`).
+/* The proved library, for C (from C99 on) and C++ (from C++11 on).
  *
- * Every function takes any bytes and always returns. A byte string is a pointer and a length; with length 0 the pointer is not read but
- * must not be null. Lists are 64-bit numbers, aligned as such, and must not overlap each other or the byte strings; byte strings may
- * overlap each other and are never written.
+ * Link target/staticlib/libzs.a, which `rt staticlib zs` makes for x86-64 Linux (System V ABI). It calls nothing but C's memory functions
+ * (memset, memcpy).
  *
- * Without a refusal number and place are 0. After one every count is 0 and every place of every list is 0. README.md has the numbers.
+ * Every function takes any bytes and any lists, and always returns.
+ *
+ * Byte strings are a pointer and a length. They are never written, and may overlap each other.
+ *
+ * Lists are a pointer to 64-bit numbers, aligned as such, and how many places there are. They must not overlap each other or the byte
+ * strings. Numbers stand at the front, and zeros after them. Every call writes every place of every list, so a long list costs time
+ * however few numbers are put on it.
+ *
+ * With length 0 any pointer may be NULL.
+ *
+ * Threads: nothing is allocated and nothing is kept between calls. Any number of calls may run at once, each with its own lists; they may
+ * share byte strings, which nobody may write meanwhile. A call takes less than 64 KiB of stack (measured, not proved).
+ *
+ * Lengths of lists that always suffice:
+ *   work      file_len / 11, since a block with records or entries takes 11 bytes or more
+ *   opened    on a file that zs_check accepts: `blocks` of its answer
+ *   results   on a file that zs_check accepts: twice `records` of its answer; for zs_read on any bytes: 2 * file_len
+ * On other bytes there is no such length for zs_search: they can lead to one block again and again, and only the length of the opened
+ * list bounds how often.
  */
 #ifndef ZS_H
 #define ZS_H
@@ -13,28 +30,105 @@
 #include <stddef.h>
 #include <stdint.h>
 
+#define ZS_VERSION "0.1.0"
+
+/* ---- Answers. Without a refusal number and place are 0. After one every count is 0 and every place of every list is 0. */
+
+typedef struct zs_read_answer { uint64_t number, place, matches; } zs_read_answer;
+typedef struct zs_checked { uint64_t number, place, blocks, records; } zs_checked;
+typedef struct zs_found { uint64_t number, place, matches, opened; } zs_found;
+
+/* A part of the file. */
+typedef struct zs_part { uint64_t offset, length; } zs_part;
+
+/* ---- Refusals: what `number` can be. README.md says what the place of each is, and what to do about it. */
+
+typedef enum zs_refusal {
+    ZS_OK = 0,
+    ZS_TOO_LONG = 1,
+    ZS_UNFINISHED = 2,
+    ZS_BAD_MAGIC = 3,
+    ZS_HEADER_TRUNCATED = 4,
+    ZS_HEADER_CRC = 5,
+    ZS_HEADER_TOO_SHORT = 6,
+    ZS_UNKNOWN_CODEC = 7,
+    ZS_FILE_LENGTH = 8,
+    ZS_BAD_METADATA = 9,
+    ZS_BLOCK_TRUNCATED = 10,
+    ZS_NUMBER_TOO_WIDE = 11,
+    ZS_NUMBER_NOT_SHORTEST = 12,
+    ZS_BLOCK_LENGTH_ZERO = 13,
+    ZS_BLOCK_CRC = 14,
+    ZS_BAD_PAYLOAD = 15,
+    ZS_RECORDS_UNSORTED = 16,
+    ZS_NO_ROOT = 17,
+    ZS_WORK_LIST_SHORT = 18,
+    ZS_BAD_ENTRY = 19,
+    ZS_NOT_A_TREE = 20,
+    ZS_KEYS_UNSORTED = 21,
+    ZS_WALK_UNSORTED = 22,
+    ZS_DATA_BLOCKS_UNSORTED = 23,
+    ZS_BAD_KEY = 24,
+    ZS_DATA_HASH = 25,
+    ZS_OPENED_LIST_SHORT = 26,
+    ZS_RESULT_LIST_SHORT = 27
+} zs_refusal;
+
+/* What a number means, in a sentence. "This block" is the one at the place. */
+static inline const char *zs_message(uint64_t number)
+{
+    switch (number) {
+    case ZS_OK: return "nothing is refused";
+    case ZS_TOO_LONG: return "the file is longer than 1073741824 bytes (2^30)";
+    case ZS_UNFINISHED: return "the file isn't finished: its writer is still at work, or has stopped before the end";
+    case ZS_BAD_MAGIC: return "this is no ZS file: it doesn't begin as one";
+    case ZS_HEADER_TRUNCATED: return "the header doesn't fit in the file";
+    case ZS_HEADER_CRC: return "the header's checksum is wrong: its bytes were changed";
+    case ZS_HEADER_TOO_SHORT: return "the header is too short for its fields or its metadata";
+    case ZS_UNKNOWN_CODEC: return "the codec isn't `none`, the only one that is read";
+    case ZS_FILE_LENGTH: return "the file's length isn't the one that its header states";
+    case ZS_BAD_METADATA: return "the metadata doesn't begin with { and end with }";
+    case ZS_BLOCK_TRUNCATED: return "this block is cut off: its number or its bytes run past the end of the file";
+    case ZS_NUMBER_TOO_WIDE: return "a number in this block takes more than nine bytes";
+    case ZS_NUMBER_NOT_SHORTEST: return "a number in this block isn't written in its shortest form";
+    case ZS_BLOCK_LENGTH_ZERO: return "this block has the length 0";
+    case ZS_BLOCK_CRC: return "this block's checksum is wrong: its bytes were changed";
+    case ZS_BAD_PAYLOAD: return "this block holds nothing, or something in it runs past its end";
+    case ZS_RECORDS_UNSORTED: return "the records of this block are out of order";
+    case ZS_NO_ROOT: return "the header doesn't name an index block as the root";
+    case ZS_WORK_LIST_SHORT: return "there are more data and index blocks than the work list has places";
+    case ZS_BAD_ENTRY: return "an entry of this index block names no block that fits it";
+    case ZS_NOT_A_TREE: return "this block is named by no entry or by more than one, or is the root and is named";
+    case ZS_KEYS_UNSORTED: return "the keys of this index block are out of order";
+    case ZS_WALK_UNSORTED: return "the index leads to this data block after one that comes later in the file";
+    case ZS_DATA_BLOCKS_UNSORTED: return "a record of this data block is less than one of the data block before it";
+    case ZS_BAD_KEY: return "a key of this index block is greater than the first record it leads to, or less than a record before that";
+    case ZS_DATA_HASH: return "the SHA-256 of the data isn't the one that the header states";
+    case ZS_OPENED_LIST_SHORT: return "the search opens more blocks than the opened list has places";
+    case ZS_RESULT_LIST_SHORT: return "more records match than there is room for";
+    default: return "no refusal has this number";
+    }
+}
+
+/* ---- Functions. */
+
 #ifdef __cplusplus
 extern "C" {
 #endif
 
-typedef struct { uint64_t number, place, matches; } zs_read_answer;
-typedef struct { uint64_t number, place, blocks, records; } zs_checked;
-typedef struct { uint64_t number, place, matches, opened; } zs_found;
-typedef struct { uint64_t offset, length; } zs_part;
+/* Checks the whole file, and counts its ordinary blocks (data and index blocks) and its records. The work list needs a place for each
+ * ordinary block, else the number is 18 (where nothing before it applies). Whatever it held before, it is all zeros after every call. */
+zs_checked zs_check(const uint8_t *file, size_t file_len, uint64_t *work, size_t work_len);
 
-/* Reads the file front to back. The result list receives offset and length of each record that matches, in file order, then
- * zeros. Where stop_given is false the bytes of stop have no influence. */
+/* Reads the file front to back. The result list receives offset and length of each record that matches, in file order. 27: it hasn't
+ * two places for each. Where stop_given is false the bytes of stop have no influence. */
 zs_read_answer zs_read(const uint8_t *file, size_t file_len, const uint8_t *start, size_t start_len, bool stop_given,
                        const uint8_t *stop, size_t stop_len, const uint8_t *prefix, size_t prefix_len, uint64_t *results,
                        size_t results_len);
 
-/* Checks the whole file, and counts its ordinary blocks and its records. The work list needs a place for each ordinary block, else
- * the number is 18 (where nothing before it applies). Whatever it held before, it is all zeros after every call. */
-zs_checked zs_check(const uint8_t *file, size_t file_len, uint64_t *work, size_t work_len);
-
-/* Searches the file through its index. The opened list receives the offset of each block opened, in walk order, root first, then
- * zeros; the result list is that of zs_read. 26: no place is left for a block to open; 27: no two places are left for a match. Any bytes
- * may be searched; that every match is found is promised for files that zs_check accepts. */
+/* Searches the file through its index. The opened list receives the offset of each block opened, in walk order, root first; the result
+ * list is that of zs_read. 26: no place is left for a block to open; 27: no two places are left for a match. Any bytes may be
+ * searched; that every match is found is promised for files that zs_check accepts. */
 zs_found zs_search(const uint8_t *file, size_t file_len, const uint8_t *start, size_t start_len, bool stop_given,
                    const uint8_t *stop, size_t stop_len, const uint8_t *prefix, size_t prefix_len, uint64_t *opened,
                    size_t opened_len, uint64_t *results, size_t results_len);
@@ -44,6 +138,9 @@ zs_part zs_record(const uint8_t *file, size_t file_len, uint64_t offset, uint64_
 
 /* Whether that part lies within the file. */
 bool zs_within(const uint8_t *file, size_t file_len, uint64_t offset, uint64_t length);
+
+/* Where the metadata lie, braces included; 0, 0 where the header is refused (1 to 9), and only then. Blocks aren't looked at. */
+zs_part zs_metadata(const uint8_t *file, size_t file_len);
 
 #ifdef __cplusplus
 }

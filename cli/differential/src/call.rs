@@ -33,6 +33,8 @@ pub enum Call {
         /// Its length.
         length: u64,
     },
+    /// Where the metadata lie.
+    Metadata,
 }
 
 /// How the lists of a call compare with what its answer needs.
@@ -70,6 +72,7 @@ impl Call {
             Call::Record { offset, length } => {
                 format!("call: record\noffset: {offset}\nlength: {length}\n")
             }
+            Call::Metadata => "call: metadata\n".to_string(),
         }
     }
 }

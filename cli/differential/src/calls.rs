@@ -24,6 +24,7 @@ pub fn draw_calls(random: &mut Random, file: &[u8], strings: &[Vec<u8>]) -> Vec<
         add_reads(random, file, query, &mut calls);
     }
     add_records(random, file, &mut calls);
+    calls.push((Call::Metadata, Room::Any));
     calls
 }
 

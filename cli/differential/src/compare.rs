@@ -12,7 +12,7 @@ const MOST_PRINTED: usize = 3;
 /// What a case gave.
 #[derive(Debug, Clone, Default)]
 pub struct Outcome {
-    /// The refusal that is due, or 0; for a record 0 if it lies within the file and 1 if not.
+    /// The refusal that is due, or 0; for a record 0 if it lies within the file and 1 if not, for metadata 0 if there are any and 1 if not.
     pub number: u64,
     /// How many matches are due.
     pub matches: u64,
@@ -75,6 +75,7 @@ pub fn compare(random: &mut Random, file: &[u8], call: &Call) -> Outcome {
             results,
         } => search(random, lent.part(), query, *opened, *results),
         Call::Record { offset, length } => record(lent.part(), *offset, *length),
+        Call::Metadata => metadata(lent.part()),
     };
     outcome.require(lent.is_unchanged(), "the file was changed");
     outcome
@@ -142,6 +143,18 @@ fn record(file: &[u8], offset: u64, length: u64) -> Outcome {
     let due = file.get(due_offset as usize..(due_offset + due_length) as usize);
     let given = library::bytes(file, offset, length);
     outcome.require(due == Some(given), "part: other bytes");
+    outcome
+}
+
+fn metadata(file: &[u8]) -> Outcome {
+    let (due_offset, due_length) = reader::metadata(file);
+    let given = library::metadata_part(file);
+    let mut outcome = Outcome::of(u64::from(due_length == 0), 0);
+    outcome.compare("metadata's offset", due_offset, given.offset);
+    outcome.compare("metadata's length", due_length, given.length);
+    let due = file.get(due_offset as usize..(due_offset + due_length) as usize);
+    let given = library::metadata(file);
+    outcome.require(due == Some(given.unwrap_or(&[])), "metadata: other bytes");
     outcome
 }
 

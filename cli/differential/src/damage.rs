@@ -16,7 +16,9 @@ pub fn damage(random: &mut Random, file: &mut Vec<u8>) {
     match random.below(10) {
         0 => file.truncate(here),
         1 => file.extend(random.string(12)),
-        2 => drop(file.remove(here)),
+        2 => {
+            file.remove(here);
+        }
         3 => file.insert(here, random.next() as u8),
         4 => file[here] = random.pick(&[0x00, 0x01, 0x7f, 0x80, 0xff]),
         5 => file[here] = file[here].wrapping_add(random.pick(&[0x01, 0xff])),

@@ -49,6 +49,8 @@ pub struct Tally {
     pub search: Column,
     /// Records within the file, and others.
     pub records: [u64; 2],
+    /// Files with metadata, and others.
+    pub metadata: [u64; 2],
     /// Searches of accepted files with two or more levels below the root, one for each query.
     pub deep: u64,
     /// Those of them with matches.
@@ -67,6 +69,7 @@ impl Tally {
             Call::Read { .. } => &mut self.read,
             Call::Search { .. } => &mut self.search,
             Call::Record { .. } => return self.records[number % 2] += 1,
+            Call::Metadata => return self.metadata[number % 2] += 1,
         };
         column.numbers[number % NUMBERS] += 1;
         let level = match accepted {
@@ -93,7 +96,8 @@ impl Tally {
     pub fn cases(&self) -> u64 {
         let columns = [&self.check, &self.read, &self.search];
         let counted = columns.iter().flat_map(|column| column.numbers.iter());
-        counted.sum::<u64>() + self.records.iter().sum::<u64>()
+        let parts = self.records.iter().chain(&self.metadata);
+        counted.sum::<u64>() + parts.sum::<u64>()
     }
 
     /// Numbers that a call can give and didn't give often enough.
@@ -115,6 +119,7 @@ impl Tally {
         let mut missing = self.rare_numbers();
         for (enough, what) in [
             (self.records.iter().all(|n| *n >= LEAST), "records"),
+            (self.metadata.iter().all(|n| *n >= LEAST), "metadata"),
             (self.deep >= LEAST_DEEP, "searches below two levels"),
             (
                 self.deep_matched * 3 >= self.deep,
@@ -157,6 +162,11 @@ impl fmt::Display for Tally {
         }
         let [within, outside] = self.records;
         writeln!(out, "record: {within} within the file, {outside} not")?;
+        let [sound, refused] = self.metadata;
+        writeln!(
+            out,
+            "metadata: {sound} files with a sound header, {refused} not"
+        )?;
         writeln!(
             out,
             "accepted files, one for each query: {} searches, {} with matches; {} reads, {} with matches",

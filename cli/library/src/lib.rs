@@ -108,6 +108,7 @@ extern "C" {
     ) -> Found;
     fn zs_record(file: *const u8, file_len: usize, offset: u64, length: u64) -> Part;
     fn zs_within(file: *const u8, file_len: usize, offset: u64, length: u64) -> bool;
+    fn zs_metadata(file: *const u8, file_len: usize) -> Part;
 }
 
 /// Checks the file. `work` needs a place for each ordinary block and is all zeros afterwards.
@@ -170,7 +171,11 @@ pub fn record(file: &[u8], offset: u64, length: u64) -> Part {
 
 /// That very part of the file; its empty part at 0 where the part isn't within the file.
 pub fn bytes(file: &[u8], offset: u64, length: u64) -> &[u8] {
-    let part = record(file, offset, length);
+    bytes_of(file, record(file, offset, length))
+}
+
+/// The bytes of a part that lies within the file, as every part does that the library hands back.
+fn bytes_of(file: &[u8], part: Part) -> &[u8] {
     let from_start = file.get(part.offset as usize..);
     from_start
         .and_then(|rest| rest.get(..part.length as usize))
@@ -181,6 +186,18 @@ pub fn bytes(file: &[u8], offset: u64, length: u64) -> &[u8] {
 pub fn within(file: &[u8], offset: u64, length: u64) -> bool {
     // SAFETY: the pointer comes with the length of the slice it is taken from.
     unsafe { zs_within(file.as_ptr(), file.len(), offset, length) }
+}
+
+/// Where the metadata lie; offset and length 0 where the header is refused, and only then.
+pub fn metadata_part(file: &[u8]) -> Part {
+    // SAFETY: the pointer comes with the length of the slice it is taken from.
+    unsafe { zs_metadata(file.as_ptr(), file.len()) }
+}
+
+/// The metadata, braces included; none where the header is refused. Blocks aren't looked at.
+pub fn metadata(file: &[u8]) -> Option<&[u8]> {
+    let part = metadata_part(file);
+    (part.length > 0).then(|| bytes_of(file, part))
 }
 
 /// Maps a whole file.

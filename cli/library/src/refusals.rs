@@ -1,7 +1,7 @@
 //! The refusals in words: what each number means, what to do about it, what its place is, and which calls give it.
 //!
-//! These words stand nowhere else. The command prints them, the drawn comparison takes the numbers of each call from here, and a test
-//! holds README.md to this table. A new refusal is a new row.
+//! The command prints these words, the drawn comparison takes the numbers of each call from here, and tests hold README.md and
+//! include/zs.h, which repeat them, to this table. A new refusal is a new row.
 
 /// A call that can refuse.
 #[derive(Clone, Copy, Debug, PartialEq, Eq)]
@@ -103,7 +103,7 @@ pub const TABLE: &[Row] = &[
         COPY_OR_MAKE),
     row(26, SEARCH, ZERO, "the search opens more blocks than the opened list has places",
         "check the file, then give an opened list with a place for each data and index block"),
-    row(27, READ_AND_SEARCH, ZERO, "more records match than --max-results or the result list allows",
+    row(27, READ_AND_SEARCH, ZERO, "more records match than there is room for",
         "ask for fewer records, or give a greater --max-results or a result list with two places per match"),
 ];
 

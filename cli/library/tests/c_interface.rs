@@ -1,43 +1,126 @@
-//! The C interface as a C compiler sees it: include/zs.h, the static library, and a program that calls every function.
-use std::path::{Path, PathBuf};
-use std::process::Command;
+//! The C interface as compilers see it: include/zs.h, the static library, and programs that use them.
 
-const HERE: &str = env!("CARGO_MANIFEST_DIR");
+use std::path::{Path, PathBuf};
+use std::process::{Command, Output};
+
+use zs_library::refusals::{GREATEST, TABLE};
+
+const C: &[&str] = &["-x", "c", "-std=c99"];
+const CXX: &[&str] = &["-x", "c++", "-std=c++11"];
+const STRICT: &[&str] = &["-Wall", "-Wextra", "-Werror", "-pedantic"];
+const TWO_BLOCKS: &str = "crates/test_archives/data/two-blocks";
+
+/// What `interface.c` prints of the calls on the example with two data blocks.
+const CALLS: &str = "\
+check 0 0 3 4
+work 0 0 0 0
+read 0 0 2 0
+results 111 2 124 2 0 0
+search 0 0 2 3
+opened 136 106 121 0
+results 111 2 124 2 0 0
+record 111 2 0 0
+within 1 0 0 0
+metadata 96 2 0 0
+null file 3 0 0 0
+work 0 0 0 0
+null file 3 0 0 0
+null file 3 0 0 0
+null file 0 0 0 0
+null file 1 0 0 0
+null file 0 0 0 0
+null work 18 0 0 0
+null stop 0 0 0 0
+null stop 0 0 0 1
+null results 27 0 0 0
+null results 27 0 0 0
+null opened 26 0 0 0
+";
+
+/// What `lookup.c` prints.
+const CONTACTS: &str = "\
+{\"about\": \"invented sample contacts\", \"record\": \"name TAB number\", \"text\": \"Latin-1\"}
+Greta Mockley\t201-555-0152
+Greta Mockley\t412-555-0193
+Greta Mockley\t503-555-0132
+Greta Mockley\t808-555-0136
+Greta Mockley\t808-555-0191
+";
+
+/// A path of the repository.
+fn path(below: &str) -> PathBuf {
+    Path::new(env!("CARGO_MANIFEST_DIR"))
+        .join("../..")
+        .join(below)
+}
 
 /// The folder with libzs.a, as build.rs finds it.
 fn library() -> PathBuf {
-    let usual = Path::new(HERE).join("../../target/staticlib");
-    std::env::var("ZS_LIBRARY_DIR").map_or(usual, PathBuf::from)
+    std::env::var("ZS_LIBRARY_DIR").map_or(path("target/staticlib"), PathBuf::from)
 }
 
-/// Compiles the program that calls every function.
-fn compile(to: &Path) {
-    let status = Command::new("cc")
-        .args(["-std=c99", "-Wall", "-Wextra", "-Werror", "-pedantic"])
+fn is_there(compiler: &str) -> bool {
+    Command::new(compiler).arg("--version").output().is_ok()
+}
+
+/// Compiles a program of this folder and runs it.
+fn run(compiler: &str, language: &[&str], source: &str, words: &[PathBuf]) -> Output {
+    let process = std::process::id();
+    let program = std::env::temp_dir().join(format!("zs-{process}-{compiler}-{source}.out"));
+    let status = Command::new(compiler)
+        .args(language)
+        .args(STRICT)
         .arg("-I")
-        .arg(Path::new(HERE).join("../../include"))
-        .arg(Path::new(HERE).join("tests/interface.c"))
+        .arg(path("include"))
+        .arg(path("cli/library/tests").join(source))
+        .args(["-x", "none"])
         .arg(library().join("libzs.a"))
         .arg("-o")
-        .arg(to)
+        .arg(&program)
         .status()
-        .expect("a C compiler");
-    assert!(status.success());
+        .expect("a compiler");
+    assert!(status.success(), "{compiler} {language:?} {source}");
+    let output = Command::new(&program).args(words).output();
+    std::fs::remove_file(&program).expect("the program");
+    output.expect("a run")
+}
+
+/// What `interface.c` has to print: the calls, the version, two refusals by name, and every message.
+fn due_lines() -> String {
+    let version = env!("CARGO_PKG_VERSION");
+    let mut due = format!("{CALLS}version {version}\nnames 1 1\nmessage 0 nothing is refused\n");
+    for row in TABLE {
+        due.push_str(&format!("message {} {}\n", row.number, row.sentence));
+    }
+    let unknown = GREATEST + 1;
+    due.push_str(&format!("message {unknown} no refusal has this number\n"));
+    due
+}
+
+/// The compiler `cc`, and others that are there.
+#[test]
+fn compilers_agree_on_the_two_block_example() {
+    let compilers = [
+        ("cc", C),
+        ("gcc", C),
+        ("clang", C),
+        ("g++", CXX),
+        ("clang++", CXX),
+    ];
+    for (compiler, language) in compilers {
+        if compiler == "cc" || is_there(compiler) {
+            let output = run(compiler, language, "interface.c", &[path(TWO_BLOCKS)]);
+            let printed = String::from_utf8_lossy(&output.stdout);
+            assert_eq!(printed, due_lines(), "{compiler}");
+            assert!(output.status.success(), "{compiler}");
+        }
+    }
 }
 
 #[test]
-fn a_c_program_gets_the_answers_of_the_two_block_example() {
-    let folder = std::env::temp_dir().join(format!("zs-c-{}", std::process::id()));
-    std::fs::create_dir_all(&folder).expect("a temporary folder");
-    let program = folder.join("interface");
-    compile(&program);
-    let example = Path::new(HERE).join("../../crates/test_archives/data/two-blocks");
-    let output = Command::new(&program).arg(example).output().expect("a run");
-    std::fs::remove_dir_all(&folder).expect("the temporary folder");
-    let due = "check 0 0 3 4\nwork 0 0 0 0\n\
-               read 0 0 2 0\nresults 111 2 124 2 0 0\n\
-               search 0 0 2 3\nopened 136 106 121 0\nresults 111 2 124 2 0 0\n\
-               record 111 2 1 0\n";
-    assert_eq!(String::from_utf8_lossy(&output.stdout), due);
+fn the_example_finds_contacts() {
+    let prefix = PathBuf::from("Greta Mockley\t");
+    let output = run("cc", C, "lookup.c", &[path("samples/contacts.zs"), prefix]);
+    assert_eq!(String::from_utf8_lossy(&output.stdout), CONTACTS);
     assert!(output.status.success());
 }

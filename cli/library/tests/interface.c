@@ -1,11 +1,14 @@
-/* Calls every function of include/zs.h on the file that is named, with the prefix `b`, and prints what each answers. */
+/* Calls everything of include/zs.h on the file that is named, and prints what each answers. C99, and C++11 as well. */
 #include <stdio.h>
 #include <string.h>
 
 #include "zs.h"
 
+enum { WORK = 4, OPENED = 4, RESULTS = 6 };
+
 static uint8_t file[65536];
-static const uint8_t none[1];
+static size_t length;
+static uint64_t work[WORK], opened[OPENED], results[RESULTS];
 
 static void print_list(const char *name, const uint64_t *list, size_t places)
 {
@@ -15,10 +18,91 @@ static void print_list(const char *name, const uint64_t *list, size_t places)
     printf("\n");
 }
 
-static void print_answer(const char *name, uint64_t number, uint64_t place, uint64_t third, uint64_t fourth)
+static void print_four(const char *name, uint64_t first, uint64_t second, uint64_t third, uint64_t fourth)
 {
-    const uint64_t fields[4] = {number, place, third, fourth};
+    const uint64_t fields[4] = {first, second, third, fourth};
     print_list(name, fields, 4);
+}
+
+static void print_checked(const char *name, struct zs_checked answer)
+{
+    print_four(name, answer.number, answer.place, answer.blocks, answer.records);
+}
+
+static void print_read(const char *name, struct zs_read_answer answer)
+{
+    print_four(name, answer.number, answer.place, answer.matches, 0);
+}
+
+static void print_found(const char *name, struct zs_found answer)
+{
+    print_four(name, answer.number, answer.place, answer.matches, answer.opened);
+}
+
+static void print_part(const char *name, struct zs_part part)
+{
+    print_four(name, part.offset, part.length, 0, 0);
+}
+
+/* Numbers that a call has to overwrite. */
+static void fill_lists(void)
+{
+    memset(work, 7, sizeof work);
+    memset(opened, 7, sizeof opened);
+    memset(results, 7, sizeof results);
+}
+
+/* The records that begin with `b`. */
+static void call_all(void)
+{
+    const uint8_t prefix[1] = {'b'};
+    fill_lists();
+    print_checked("check", zs_check(file, length, work, WORK));
+    print_list("work", work, WORK);
+
+    print_read("read", zs_read(file, length, NULL, 0, false, NULL, 0, prefix, 1, results, RESULTS));
+    print_list("results", results, RESULTS);
+
+    fill_lists();
+    print_found("search", zs_search(file, length, NULL, 0, false, NULL, 0, prefix, 1, opened, OPENED, results, RESULTS));
+    print_list("opened", opened, OPENED);
+    print_list("results", results, RESULTS);
+
+    print_part("record", zs_record(file, length, results[0], results[1]));
+    print_four("within", zs_within(file, length, length, 0), zs_within(file, length, length, 1), 0, 0);
+    print_part("metadata", zs_metadata(file, length));
+}
+
+/* Every pointer is NULL once. */
+static void call_with_null(void)
+{
+    fill_lists();
+    print_checked("null file", zs_check(NULL, 0, work, WORK));
+    print_list("work", work, WORK);
+    print_read("null file", zs_read(NULL, 0, NULL, 0, true, NULL, 0, NULL, 0, NULL, 0));
+    print_found("null file", zs_search(NULL, 0, NULL, 0, true, NULL, 0, NULL, 0, NULL, 0, NULL, 0));
+    print_part("null file", zs_record(NULL, 0, 0, 0));
+    print_four("null file", zs_within(NULL, 0, 0, 0), zs_within(NULL, 0, 0, 1), 0, 0);
+    print_part("null file", zs_metadata(NULL, 0));
+
+    print_checked("null work", zs_check(file, length, NULL, 0));
+    print_read("null stop", zs_read(file, length, NULL, 0, true, NULL, 0, NULL, 0, NULL, 0));
+    print_found("null stop", zs_search(file, length, NULL, 0, true, NULL, 0, NULL, 0, opened, OPENED, NULL, 0));
+    print_read("null results", zs_read(file, length, NULL, 0, false, NULL, 0, NULL, 0, NULL, 0));
+    print_found("null results", zs_search(file, length, NULL, 0, false, NULL, 0, NULL, 0, opened, OPENED, NULL, 0));
+    print_found("null opened", zs_search(file, length, NULL, 0, false, NULL, 0, NULL, 0, NULL, 0, results, RESULTS));
+}
+
+/* Version, and the refusals of a file without its last byte and of a short list by their names. */
+static void print_words(void)
+{
+    printf("version %s\n", ZS_VERSION);
+    zs_checked cut = zs_check(file, length - 1, work, WORK);
+    zs_checked full = zs_check(file, length, work, 1);
+    enum zs_refusal named = ZS_WORK_LIST_SHORT;
+    printf("names %d %d\n", cut.number == ZS_FILE_LENGTH, full.number == (uint64_t)named);
+    for (uint64_t number = ZS_OK; number <= ZS_RESULT_LIST_SHORT + 1; number++)
+        printf("message %llu %s\n", (unsigned long long)number, zs_message(number));
 }
 
 int main(int count, char **words)
@@ -26,30 +110,10 @@ int main(int count, char **words)
     FILE *stored = count == 2 ? fopen(words[1], "rb") : NULL;
     if (!stored)
         return 2;
-    size_t length = fread(file, 1, sizeof file, stored);
+    length = fread(file, 1, sizeof file, stored);
     fclose(stored);
-
-    const uint8_t prefix[1] = {'b'};
-    uint64_t work[4], opened[4], results[6];
-    memset(work, 7, sizeof work);
-    memset(opened, 7, sizeof opened);
-    memset(results, 7, sizeof results);
-
-    zs_checked checked = zs_check(file, length, work, 4);
-    print_answer("check", checked.number, checked.place, checked.blocks, checked.records);
-    print_list("work", work, 4);
-
-    zs_read_answer read = zs_read(file, length, none, 0, false, none, 0, prefix, 1, results, 6);
-    print_answer("read", read.number, read.place, read.matches, 0);
-    print_list("results", results, 6);
-
-    memset(results, 7, sizeof results);
-    zs_found found = zs_search(file, length, none, 0, false, none, 0, prefix, 1, opened, 4, results, 6);
-    print_answer("search", found.number, found.place, found.matches, found.opened);
-    print_list("opened", opened, 4);
-    print_list("results", results, 6);
-
-    zs_part part = zs_record(file, length, results[0], results[1]);
-    print_answer("record", part.offset, part.length, zs_within(file, length, length, 0), zs_within(file, length, length, 1));
+    call_all();
+    call_with_null();
+    print_words();
     return 0;
 }

@@ -1,10 +1,11 @@
-//! The table of refusals: its own rules, and README.md, which repeats it.
+//! The table of refusals: its own rules, and README.md and include/zs.h, which repeat it.
 
 use std::collections::BTreeSet;
 
 use zs_library::refusals::{find, numbers, Call, GREATEST, TABLE};
 
 const README: &str = concat!(env!("CARGO_MANIFEST_DIR"), "/../../README.md");
+const HEADER: &str = concat!(env!("CARGO_MANIFEST_DIR"), "/../../include/zs.h");
 
 #[test]
 fn numbers_rise_and_sentences_differ() {
@@ -44,6 +45,26 @@ fn readme_has_the_table() {
         assert_eq!(given, due);
     }
     assert_eq!(given.len(), due.len());
+}
+
+/// Lines `ZS_NAME = 1,` and `case ZS_NAME: return "sentence";`.
+#[test]
+fn zs_h_has_a_name_and_the_sentence_for_each_number() {
+    let text = std::fs::read_to_string(HEADER).expect("include/zs.h");
+    let lines = || text.lines().map(str::trim);
+    let names: Vec<(&str, &str)> = lines()
+        .filter(|line| line.starts_with("ZS_"))
+        .filter_map(|line| line.trim_end_matches(',').split_once(" = "))
+        .collect();
+    let cases: Vec<&str> = lines()
+        .filter_map(|line| line.strip_prefix("case "))
+        .collect();
+    assert_eq!((names[0], names.len()), (("ZS_OK", "0"), TABLE.len() + 1));
+    for (row, (name, number)) in TABLE.iter().zip(&names[1..]) {
+        assert_eq!(*number, row.number.to_string());
+        let due = format!("{name}: return \"{}\";", row.sentence);
+        assert!(cases.contains(&due.as_str()), "{due}");
+    }
 }
 
 #[test]

@@ -1,10 +1,8 @@
 //! The corpus: its claims, its limits and its stored form.
 
-mod support;
-
 use std::collections::{BTreeMap, BTreeSet};
 
-use support::tree::faults;
+use crate::support::tree::faults;
 use zs_reference::corpus::{Call, Case, Claim, Corpus, File, ALL_CALLS};
 use zs_reference::reader::check;
 

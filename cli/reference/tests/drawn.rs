@@ -1,10 +1,8 @@
 //! Files drawn from a fixed seed: what must hold of all of them.
 
-mod support;
-
 use std::collections::BTreeSet;
 
-use support::tree::{faults, Tree as Seen};
+use crate::support::tree::{faults, Tree as Seen};
 use zs_reference::maker::random::{bend, break_bytes, query, tree, Random};
 use zs_reference::maker::{Keys, Tree};
 use zs_reference::reader::{check, read, search, Found, Query};
@@ -63,7 +61,7 @@ fn compare_with_records(tree: &Tree, file: &[u8], query: &Query, found: &Found) 
 
 /// Opened exactly by the rule, and at most two in vain on each level below the root.
 fn compare_opened(file: &[u8], query: &Query, found: &Found) {
-    let apart = support::take_apart(file);
+    let apart = crate::support::take_apart(file);
     let seen = Seen::of(&apart).expect("a sound file");
     let must = seen.must_open(query);
     let starts: Vec<u64> = must.iter().map(|block| block.start).collect();
@@ -164,7 +162,7 @@ fn compare_local(random: &mut Random, file: &[u8], query: &Query, found: &Found)
     if found.number != 0 {
         return;
     }
-    let apart = support::take_apart(file);
+    let apart = crate::support::take_apart(file);
     let blocks = match &apart.blocks {
         Some(blocks) => blocks,
         None => return,

@@ -2,7 +2,7 @@
 
 use zs_reference::corpus::Corpus;
 use zs_reference::reader::{
-    check, may_hold_match, number, read, record, search, within, NumberFault, Query,
+    check, may_hold_match, metadata, number, read, record, search, within, NumberFault, Query,
 };
 
 fn file(name: &str) -> Vec<u8> {
@@ -128,6 +128,24 @@ fn parts() {
     assert_eq!(record(&file, 3, 4), (3, 4));
     assert_eq!(record(&file, 10, 0), (10, 0));
     assert_eq!(record(&file, 7, 4), (0, 0));
+}
+
+#[test]
+fn metadata_of_files() {
+    assert_eq!(metadata(&file("smallest")), (96, 2));
+    assert_eq!(metadata(&file("extra-header")), (96, 2));
+    assert_eq!(metadata(&file("meta-oops")), (96, 6));
+    assert_eq!(metadata(&file("14-index")), (96, 2));
+    for refused in [
+        "2-smallest",
+        "4-cut",
+        "5-low-bit",
+        "6-m-one-more",
+        "8-cut-byte",
+        "9-array",
+    ] {
+        assert_eq!(metadata(&file(refused)), (0, 0), "{refused}");
+    }
 }
 
 #[test]

@@ -1,3 +1,4 @@
 -- The meaning of the header.
 pub mod Metadata
 pub mod Header
+pub mod MetadataPart

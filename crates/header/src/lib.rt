@@ -3,6 +3,8 @@ ghost use mathlib.Core.Path.{_≡_};
 ghost use mathlib.Core.Bool.{true};
 ghost use Rattle.header.specs.Header as header;
 ghost use Rattle.header.specs.Metadata.{isMetadata};
+ghost use Rattle.header.specs.MetadataPart.{metadataPart};
+use part::Part;
 
 // The numbers of a header. The hash, the codec and the metadata are read at their offsets.
 pub struct Header {
@@ -148,4 +150,21 @@ fn fields(file: &[u8]) -> HeaderOutcome
         rootsize: endian::le64_at(file, Header::ROOT_SIZE_AT),
         metadata,
     })
+}
+
+// Where the metadata lie: M bytes from 96 on where the header is sound, else no bytes at 0.
+pub fn metadata(file: &[u8]) -> Part
+    ensures { λ r. ⌜ r ≡ metadataPart (now (file .entry)) ⌝ }
+{
+    let outcome = Header::read(file);
+    match outcome {
+        HeaderOutcome::Answer(header) => Part {
+            offset: Header::METADATA_AT,
+            length: header.metadata as usize,
+        },
+        HeaderOutcome::Refused(_) => Part {
+            offset: 0,
+            length: 0,
+        },
+    }
 }

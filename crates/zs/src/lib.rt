@@ -1,10 +1,11 @@
 // The C interface: thin exports. Each has the contract of the function that it calls, and beside it what the theorems say of that very call:
 // check, read and search are decided by the rules of the format. include/zs.h documents the interface for callers.
 //
-// C can't receive a slice as a result, so zs_record hands back where the part lies.
+// C can't receive a slice as a result, so zs_record and zs_metadata hand back where the part lies.
 ghost use mathlib.Core.Path.{_≡_};
 ghost use lib.ListN.{length};
 ghost use Rattle.output_list.specs.OutputList.{zeros};
+ghost use Rattle.header.specs.MetadataPart.{metadataPart};
 ghost use Rattle.query.specs.Query.{queryOf};
 ghost use Rattle.reader.specs.Read.{readOf, readAnswer, readList};
 ghost use Rattle.record.specs.Record.{isWithin, partStart, partLength};
@@ -104,4 +105,12 @@ pub extern "C" fn zs_within(file: &[u8], offset: u64, length: u64) -> bool
     ensures { λ r. ⌜ r ≡ isWithin (now (file .entry)) offset length ⌝ }
 {
     record::is_within(file, offset, length)
+}
+
+// Where the metadata lie (`header::metadata`); offset and length 0 where the header isn't sound.
+#[no_mangle]
+pub extern "C" fn zs_metadata(file: &[u8]) -> Part
+    ensures { λ r. ⌜ r ≡ metadataPart (now (file .entry)) ⌝ }
+{
+    header::metadata(file)
 }

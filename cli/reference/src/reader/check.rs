@@ -73,7 +73,7 @@ fn find_root(blocks: &[Ordinary], header: &Header) -> Result<usize, Refusal> {
             && block.is_index()
     };
     let found = blocks.iter().position(is_root);
-    found.ok_or(Refusal::of_file(17))
+    found.ok_or_else(|| Refusal::of_file(17))
 }
 
 /// 23: records of neighbouring data blocks, pairs front to back.

@@ -11,7 +11,7 @@ const CODEC_NONE: &[u8] = b"none\0\0\0\0\0\0\0\0\0\0\0\0";
 /// Bytes of the header data before the metadata.
 const FIXED_FIELDS: u64 = 80;
 
-/// What the later stages need of a sound header.
+/// What is needed of a sound header.
 pub struct Header {
     /// Where the blocks begin: 24+H.
     pub blocks_at: usize,
@@ -21,6 +21,8 @@ pub struct Header {
     pub root_size: u64,
     /// SHA-256 of all data payloads, as the header has it.
     pub hash: [u8; 32],
+    /// How long the metadata are: M.
+    pub metadata_length: u64,
 }
 
 /// Reads and tests the header.
@@ -33,9 +35,9 @@ pub fn header(file: &[u8]) -> Result<Header, Refusal> {
     if u64_at(file, 16 + data.len()) != Some(crc64(data)) {
         return Err(Refusal::of_file(5));
     }
-    let metadata = metadata(data).ok_or(Refusal::of_file(6))?;
+    let metadata = metadata(data).ok_or_else(|| Refusal::of_file(6))?;
     test_fields(file, data, metadata)?;
-    fields(data).ok_or(Refusal::of_file(6))
+    fields(data).ok_or_else(|| Refusal::of_file(6))
 }
 
 fn test_magic(file: &[u8]) -> Result<(), Refusal> {
@@ -78,13 +80,14 @@ fn test_fields(file: &[u8], data: &[u8], metadata: &[u8]) -> Result<(), Refusal>
     Ok(())
 }
 
-/// The fields that later stages use. None only where H is below 80.
+/// The fields that are needed. None only where H is below 80.
 fn fields(data: &[u8]) -> Option<Header> {
     Some(Header {
         blocks_at: 24 + data.len(),
         root_offset: u64_at(data, 0)?,
         root_size: u64_at(data, 8)?,
         hash: data.get(24..56)?.try_into().ok()?,
+        metadata_length: u64_at(data, 72)?,
     })
 }
 

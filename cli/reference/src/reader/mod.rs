@@ -1,4 +1,4 @@
-//! Reading ZS files: the check, reading front to back, the search, single records.
+//! Reading ZS files: the check, reading front to back, the search, single records, the metadata.
 //!
 //! Every function takes the whole file as bytes and answers for any bytes at all.
 //! A refusal gives its number and place, zero counts, and lists of zeros.
@@ -15,7 +15,7 @@ mod search;
 
 pub use check::{check, Checked};
 pub use number::{number, NumberFault};
-pub use part::{record, within};
+pub use part::{metadata, record, within};
 pub use query::{may_hold_match, Query};
 pub use read::{read, ReadAnswer};
 pub use search::{search, Found};

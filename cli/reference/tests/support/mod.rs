@@ -3,8 +3,6 @@
 //! This shares nothing with the reader but the checksums. It answers which refusals
 //! apply to a file at all, so that tests can tell a single fault from several.
 
-#![allow(dead_code)]
-
 pub mod tree;
 
 use std::collections::BTreeSet;

@@ -1,0 +1,87 @@
+//! What include/zs.h says is always enough: lengths of lists, and a small stack.
+
+use std::path::Path;
+use std::thread;
+
+use zs_library::{check, read, search, Query};
+use zs_reference::maker::{Image, Plan};
+
+const STACK: usize = 64 << 10;
+const ALL: Query = Query {
+    start: &[],
+    stop: None,
+    prefix: &[],
+};
+
+/// Data blocks of eleven bytes, one of them named by the root.
+fn least_blocks(count: usize) -> Vec<u8> {
+    let mut blocks = vec![Plan::data(&[""]); count];
+    blocks.push(Plan::index(1, &[("", 0)]));
+    Image::new(blocks).bytes()
+}
+
+/// One data block, and an index block on each of the 63 levels above it.
+fn deepest_tree() -> Vec<u8> {
+    let mut blocks = vec![Plan::data(&["a"])];
+    blocks.extend((1..=63).map(|level| Plan::index(level, &[("", usize::from(level) - 1)])));
+    Image::new(blocks).bytes()
+}
+
+/// The stored files of every kind, and the two above.
+fn files() -> Vec<Vec<u8>> {
+    let folder = Path::new(env!("CARGO_MANIFEST_DIR")).join("../../crates/test_archives/data");
+    let stored = std::fs::read_dir(folder).expect("the stored files");
+    let paths = stored.map(|entry| entry.expect("a stored file").path());
+    let mut files: Vec<Vec<u8>> = paths
+        .map(|path| std::fs::read(path).expect("its bytes"))
+        .collect();
+    files.extend([least_blocks(1000), deepest_tree()]);
+    files
+}
+
+#[test]
+fn a_work_place_for_eleven_bytes() {
+    for file in files() {
+        assert_ne!(check(&file, &mut vec![7; file.len() / 11]).number, 18);
+    }
+    let file = least_blocks(1000);
+    assert_eq!(check(&file, &mut [7; 1000]).number, 18);
+    assert_eq!(check(&file, &mut [7; 1001]).number, 20);
+}
+
+#[test]
+fn opened_and_result_places_by_the_counts_of_the_check() {
+    let mut accepted = 0;
+    for file in files() {
+        let checked = check(&file, &mut vec![7; file.len() / 11]);
+        if checked.number == 0 {
+            let mut opened = vec![7; checked.blocks as usize];
+            let mut results = vec![7; 2 * checked.records as usize];
+            let found = search(&file, &ALL, &mut opened, &mut results);
+            assert_eq!((found.number, found.matches), (0, checked.records));
+            assert_eq!(read(&file, &ALL, &mut results).number, 0);
+            accepted += 1;
+        }
+    }
+    assert!(accepted > 50, "{accepted} accepted files");
+}
+
+#[test]
+fn two_result_places_for_each_byte_when_reading_anything() {
+    for file in files() {
+        assert_ne!(read(&file, &ALL, &mut vec![7; 2 * file.len()]).number, 27);
+    }
+}
+
+#[test]
+fn a_stack_of_64_kib() {
+    let file = deepest_tree();
+    let calls = move || {
+        let checked = check(&file, &mut [7; 64]);
+        let found = search(&file, &ALL, &mut [7; 64], &mut [7; 2]);
+        (checked.number, checked.blocks, found.number, found.opened)
+    };
+    let small = thread::Builder::new().stack_size(STACK);
+    let answers = small.spawn(calls).expect("a thread").join();
+    assert_eq!(answers.expect("its answers"), (0, 64, 0, 64));
+}
