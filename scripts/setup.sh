@@ -1,9 +1,11 @@
 #!/bin/sh
-# Installs what cli/ and scripts/ need on a Debian 12 machine, and only what is missing; with --bench also what bench/ compares with.
-# apt-get isn't called at all where nothing is missing. Warns where the Rattle toolchain isn't the one that the file `toolchain` names.
+# Installs what cli/ and scripts/ need on a Debian 12 machine, and only what is missing; with --bench also what bench/ compares with, and
+# with --test what the gate would like to have. apt-get isn't called at all where nothing is missing. Warns where the Rattle toolchain isn't
+# the one that the file `toolchain` names.
 set -eu
 
 missing=""
+wanted=""
 
 # Notes a Debian package that isn't installed.
 need() {
@@ -40,6 +42,11 @@ if [ "${1:-}" = --bench ]; then
     have look || need bsdextrautils
 fi
 
+# Without it the gate says that it has skipped the scripts.
+if [ "${1:-}" = --test ]; then
+    have shellcheck || wanted="shellcheck"
+fi
+
 # A Rust tool chain from elsewhere does as well as Debian's (1.63 is enough).
 have cargo || need cargo
 have rustc || need rustc
@@ -49,15 +56,25 @@ need libc6-dev
 # scripts/check-claims is written in it.
 have python3 || need python3
 
-if [ -n "$missing" ]; then
+# install PROGRAM PACKAGE..: has apt-get install packages, as root or by way of the program.
+install() {
     as_root=""
     if [ "$(id -u)" -ne 0 ]; then
-        as_root="sudo"
+        as_root=$1
     fi
+    shift
     $as_root apt-get update
+    $as_root env DEBIAN_FRONTEND=noninteractive apt-get install -y --no-install-recommends "$@"
+}
+
+if [ -n "$missing" ]; then
     # Word splitting is meant: each word is a package.
     # shellcheck disable=SC2086
-    $as_root env DEBIAN_FRONTEND=noninteractive apt-get install -y --no-install-recommends $missing
+    install sudo $missing
+fi
+# What is only wanted is no reason to ask for a password, or to stop.
+if [ -n "$wanted" ]; then
+    install "sudo -n" "$wanted" || echo "setup: warning: $wanted can't be installed here" >&2
 fi
 
 # The proofs were last checked with this toolchain. Another may do as well, so a difference is no failure.

@@ -1,21 +1,25 @@
 #!/usr/bin/env bash
-# Checks the layout of the sources and what docs/CLAIMS.md cites, proves every crate from nothing, tries the must-fail edits and runs the programs;
-# then tests the independent reader, compares both readers on drawn files and prints how many cases that were, and holds the stored
-# cases to those that the independent reader makes.
+# Checks the layout of the sources, the scripts and what docs/CLAIMS.md cites, proves every crate from nothing, tries the must-fail edits and
+# runs the programs; then tests the independent reader, the command and the library, compares both readers on drawn files and prints how many
+# cases that were, and holds the stored cases to those that the independent reader makes.
 # `rt ci` removes target/, so whatever is built from the proved libraries comes after it.
 set -eu
 cd "$(dirname "$0")/.."
 PATH="$PATH:${CARGO_HOME:-$HOME/.cargo}/bin"
 
-scripts/setup.sh
+scripts/setup.sh --test
 rt fmt --check
 echo "1 passed, 0 failed"
+scripts/lint.sh --scripts
 scripts/check-claims
 # One job more than two processors, so that none waits for the last of a pair.
 RT_JOBS="${RT_JOBS:-3}" rt ci
 rt staticlib zs >/dev/null
-(cd cli && cargo test --offline --quiet --workspace --exclude zs-differential)
-(cd cli && cargo test --offline --quiet -p zs-differential -- --nocapture)
+# Both commands use one build: the same packages are named, so that these have the same features. What lets a later build begin from parts
+# of this one only costs time here.
+export CARGO_INCREMENTAL=0
+(cd cli && cargo test --offline --quiet --workspace -- --skip the_same_answers)
+(cd cli && cargo test --offline --quiet --workspace --test same_answers -- --nocapture)
 
 made=$(mktemp -d)
 trap 'rm -rf "$made"' EXIT

@@ -19,7 +19,7 @@ impl Archive {
     /// Reads and checks a file, or maps it unchecked.
     pub fn open(path: &Path, trust: &Trust) -> Result<Self, Failure> {
         let (input, known) = if trust.unchecked {
-            (map_unchecked(path)?, None)
+            (input::map(path)?, None)
         } else {
             let (input, contents) = read_and_check(path)?;
             (input, Some(contents))
@@ -30,6 +30,16 @@ impl Archive {
     pub fn bytes(&self) -> &[u8] {
         self.input.bytes()
     }
+
+    /// Says what isn't promised of an answer, if the file wasn't checked.
+    pub fn qualify_answer(&self, path: &Path) {
+        if self.known.is_none() {
+            let name = escape_name(path);
+            complain(&format!(
+                "{name}: not checked; that every match is found is promised for checked files only"
+            ));
+        }
+    }
 }
 
 /// Reads and checks a file.
@@ -38,14 +48,4 @@ pub fn read_and_check(path: &Path) -> Result<(Input, Contents), Failure> {
     let bytes = input.bytes();
     let contents = progress::show_while("checking", path, bytes.len(), || check(bytes))?;
     Ok((input, contents))
-}
-
-/// Maps a file, and says what isn't promised of it.
-fn map_unchecked(path: &Path) -> Result<Input, Failure> {
-    let input = input::map(path)?;
-    let name = escape_name(path);
-    complain(&format!(
-        "{name}: not checked; that every match is found is promised for checked files only"
-    ));
-    Ok(input)
 }

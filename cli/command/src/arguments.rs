@@ -100,7 +100,12 @@ pub struct Dump {
     #[arg(long, value_name = "T", default_value = "\\n", value_parser = bytes_parser(), allow_hyphen_values = true)]
     pub terminator: Bytes,
     /// Put each record's length before it instead
-    #[arg(long, value_name = "FORM", conflicts_with = "terminator")]
+    #[arg(
+        long,
+        value_name = "FORM",
+        conflicts_with = "terminator",
+        allow_hyphen_values = true
+    )]
     pub length_prefixed: Option<Length>,
     /// Write to this file, which appears once it is whole; - is standard output
     #[arg(short, long, value_name = "OUT")]
@@ -114,7 +119,7 @@ pub struct Dump {
     #[command(flatten)]
     pub trust: Trust,
     /// Refuse (27) where more than N records match
-    #[arg(long, value_name = "N")]
+    #[arg(long, value_name = "N", value_parser = parse_number, allow_hyphen_values = true)]
     pub max_results: Option<u64>,
 }
 
@@ -177,6 +182,12 @@ pub enum Length {
     Uleb128,
     /// Eight bytes, lowest first
     U64le,
+}
+
+fn parse_number(text: &str) -> Result<u64, String> {
+    let greatest = u64::MAX;
+    let words = format!("give a whole number from 0 to {greatest}");
+    text.parse().map_err(|_| words)
 }
 
 /// Takes an argument as bytes, with its escapes resolved.

@@ -24,11 +24,13 @@ pub fn run(asked: &Dump) -> Result<(), Failure> {
         let number = show_while("counting", &asked.file, file.len(), || {
             count(find, file, &query, known, limit)
         })?;
+        archive.qualify_answer(&asked.file);
         return output.write(&|out| writeln!(out, "{number}"));
     }
     let answer = show_while("reading", &asked.file, file.len(), || {
         find(file, &query, known, limit)
     })?;
+    archive.qualify_answer(&asked.file);
     output.write(&|out| write_records(asked, file, &answer, out))
 }
 

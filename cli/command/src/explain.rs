@@ -25,6 +25,7 @@ pub fn run(asked: &Explain) -> Result<(), Failure> {
     let answer = progress::show_while("searching", &asked.file, file.len(), || {
         search(file, &query, known, None)
     })?;
+    archive.qualify_answer(&asked.file);
     output::write(&asked.file, &|out| {
         let in_vain = write_blocks(file, &query, &answer, out)?;
         writeln!(out, "{}", summarise(&answer, known, &in_vain))

@@ -46,7 +46,7 @@ impl Failure {
     /// What to do about a refusal.
     pub fn advice(&self) -> Option<&'static str> {
         match self {
-            Failure::Refused(refusal) => refusal.advice(),
+            Failure::Refused(refusal) => refusal.advice,
             Failure::Trouble(_) | Failure::ReaderGone => None,
         }
     }

@@ -7,9 +7,10 @@ use std::path::Path;
 use zs_library::Mapping;
 
 use crate::cut_files::report_cut_files;
+use crate::escapes::escape_name;
 use crate::failure::Failure;
 use crate::refusals::Refusal;
-use crate::system::clone_descriptor;
+use crate::system::lend_descriptor;
 
 /// A longer file is refused by its length alone.
 pub const LONGEST: usize = 1 << 30;
@@ -61,7 +62,7 @@ fn load(path: &Path, longest_read: u64) -> Result<Input, Failure> {
     let name_fault = |error: io::Error| Failure::of_file(path, &error);
     let (file, length) = open(path).map_err(name_fault)?;
     if length.map_or(false, |length| length > longest_read) {
-        report_cut_files().map_err(name_fault)?;
+        report_cut_files(&escape_name(path)).map_err(name_fault)?;
         // SAFETY: nobody changes the file while it is mapped. With `--unchecked` this is assumed, and its help says so. Of a file above
         // 2^30 bytes only the length is used.
         let mapping = unsafe { zs_library::map(&file) }.map_err(name_fault)?;
@@ -73,8 +74,10 @@ fn load(path: &Path, longest_read: u64) -> Result<Input, Failure> {
     let mut bytes = Vec::new();
     let first = (&file).take(FIRST_BYTES).read_to_end(&mut bytes);
     first.map_err(name_fault)?;
-    if length.is_some() {
-        refuse_by_first_bytes(&bytes)?;
+    if let Some(number) = refused_by_first_bytes(&bytes) {
+        let is_long = length.is_none() && has_many_bytes(&file).map_err(name_fault)?;
+        let number = if is_long { 1 } else { number };
+        return Err(Failure::Refused(Refusal::of_file(number, 0, &bytes)));
     }
     read_rest(&file, length, &mut bytes).map_err(name_fault)?;
     Ok(Input::Read(bytes))
@@ -83,27 +86,42 @@ fn load(path: &Path, longest_read: u64) -> Result<Input, Failure> {
 /// Opens a file, and gives its length if it has one. Standard input is read from where it stands, whatever it is.
 fn open(path: &Path) -> io::Result<(File, Option<u64>)> {
     if is_standard_input(path) {
-        return Ok((clone_descriptor(0)?, None));
+        return Ok((lend_descriptor(0)?.try_clone()?, None));
     }
     let file = File::open(path)?;
     let about = file.metadata()?;
     Ok((file, about.is_file().then_some(about.len())))
 }
 
-/// Refuses what doesn't begin as an archive, before the rest is read. The library's 2 and 3 are about the first eight bytes alone; only 1
-/// comes before them, and the file is not too long.
-fn refuse_by_first_bytes(first: &[u8]) -> Result<(), Failure> {
-    match zs_library::check(first, &mut []).number {
-        number @ (2 | 3) => Err(Failure::Refused(Refusal::of_file(number, 0, first))),
-        _ => Ok(()),
-    }
+/// The refusal of what doesn't begin as an archive, before the rest is read. The library's 2 and 3 are about the first eight bytes alone;
+/// only 1 comes before them.
+fn refused_by_first_bytes(first: &[u8]) -> Option<u64> {
+    let number = zs_library::check(first, &mut []).number;
+    [2, 3].contains(&number).then_some(number)
+}
+
+/// Whether more bytes follow the first ones than an archive has. They are counted and not kept.
+fn has_many_bytes(file: &File) -> io::Result<bool> {
+    let most = LONGEST as u64 - FIRST_BYTES;
+    Ok(io::copy(&mut file.take(most + 1), &mut io::sink())? > most)
+}
+
+/// Whether a file begins as an archive, finished or not. What can't be read is taken for one.
+pub fn begins_as_archive(path: &Path) -> bool {
+    let mut first = Vec::new();
+    let file = File::open(system_path(path));
+    let read = file.and_then(|file| file.take(FIRST_BYTES).read_to_end(&mut first));
+    read.is_err() || refused_by_first_bytes(&first) != Some(3)
 }
 
 /// Reads what follows. One byte more than the longest file is enough to be refused.
 fn read_rest(file: &File, length: Option<u64>, bytes: &mut Vec<u8>) -> io::Result<()> {
     let expected = usize::try_from(length.unwrap_or(0)).unwrap_or(LONGEST);
     let room = bytes.try_reserve_exact(expected.min(LONGEST) + 1);
-    room.map_err(|_| io::Error::from(io::ErrorKind::OutOfMemory))?;
+    room.map_err(|_| {
+        let words = "there isn't enough memory to read it";
+        io::Error::new(io::ErrorKind::OutOfMemory, words)
+    })?;
     let most = LONGEST + 1 - bytes.len();
     file.take(most as u64).read_to_end(bytes)?;
     Ok(())

@@ -30,7 +30,6 @@ pub struct Entry<'a> {
 }
 
 pub fn header(file: &[u8]) -> Option<Header<'_>> {
-    let metadata_length = usize::try_from(u64_at(file, 88)?).ok()?;
     Some(Header {
         length: u64_at(file, 8)?,
         root_offset: u64_at(file, 16)?,
@@ -38,7 +37,7 @@ pub fn header(file: &[u8]) -> Option<Header<'_>> {
         total_length: total_length(file)?,
         hash: file.get(40..72)?,
         codec: codec_name(file)?,
-        metadata: file.get(96..)?.get(..metadata_length)?,
+        metadata: zs_library::metadata(file)?,
     })
 }
 

@@ -53,7 +53,7 @@ fn main() -> ExitCode {
     signals::survive_length_limit();
     let status = match Arguments::try_parse() {
         Ok(arguments) => run(&arguments.command),
-        Err(help_or_mistake) => report(STANDARD_OUTPUT, usage::show(&help_or_mistake)),
+        Err(help_or_mistake) => report(STANDARD_OUTPUT, usage::show(help_or_mistake)),
     };
     ExitCode::from(status as u8)
 }

@@ -5,6 +5,7 @@ use std::io::{self, BufWriter, ErrorKind, Write};
 use std::os::unix::fs::MetadataExt;
 use std::path::Path;
 
+use crate::cut_files::note_writing;
 use crate::escapes::escape_name;
 use crate::failure::{in_words, Failure};
 use crate::input::system_path;
@@ -40,21 +41,25 @@ impl Output {
 
     /// An archive isn't replaced by its own records, and nothing is added to it.
     pub fn refuse_archive(&self, archive: &Path) -> Result<(), Failure> {
-        if self.target.is_same_file(system_path(archive)) {
+        if self.is_file(archive) {
             let name = escape_name(archive);
-            let words = format!("{name}: the output is the archive itself");
+            let words = format!("{name}: the output is the archive itself; name another output");
             return Err(Failure::Trouble(words));
         }
         Ok(())
     }
 
+    pub fn is_file(&self, path: &Path) -> bool {
+        self.target.is_same_file(system_path(path))
+    }
+
     pub fn write(&self, writing: &Writing) -> Result<(), Failure> {
         let outcome = match &self.target {
-            Target::Open(file) => write_buffered(file, writing),
+            Target::Open(file) => write_through(file, writing),
             Target::Special(path) => OpenOptions::new()
                 .write(true)
                 .open(path)
-                .and_then(|file| write_buffered(&file, writing)),
+                .and_then(|file| write_through(&file, writing)),
             Target::Plain(path, about) => replace(path, Some(about), writing),
             Target::New(path) => replace(path, None, writing),
         };
@@ -86,7 +91,17 @@ pub fn format_count(number: u64, one: &str, more: &str) -> String {
 }
 
 fn describe(name: &str, error: &io::Error) -> Failure {
-    Failure::Trouble(format!("can't write {name}: {}", in_words(error)))
+    let words = match error.raw_os_error() {
+        Some(libc::EBADF) => "it isn't open for writing".into(),
+        _ => in_words(error),
+    };
+    Failure::Trouble(format!("can't write {name}: {words}"))
+}
+
+/// Writes to what takes every part of an answer at once, as a pipe does.
+fn write_through(file: &File, writing: &Writing) -> io::Result<()> {
+    note_writing();
+    write_buffered(file, writing)
 }
 
 /// Writes to what is open already, whole blocks at a time.
@@ -128,7 +143,9 @@ fn create_like(old: &Metadata, folder: &Path) -> io::Result<Temporary> {
     Ok(temporary)
 }
 
-/// Says what couldn't be done when an error came.
+/// Says why a file isn't replaced, and what to do.
 fn explain(what: &str, error: &io::Error) -> io::Error {
-    io::Error::new(error.kind(), format!("{what}: {}", in_words(error)))
+    let advice = "name a new file elsewhere, or write into this one with >";
+    let words = format!("{what} ({}); {advice}", in_words(error));
+    io::Error::new(error.kind(), words)
 }

@@ -1,4 +1,4 @@
-//! Refusals as a person reads them, in the words of the library's table.
+//! Refusals as a person reads them, in the words of the library's table; 27 in those of the command, which has no lists.
 
 use zs_library::refusals::find;
 
@@ -8,18 +8,24 @@ use crate::layout::{codec_name, header_end, total_length};
 /// A refusal as the library gives it, and what the file's own bytes tell about it.
 #[derive(Clone, Debug, PartialEq, Eq)]
 pub struct Refusal {
-    number: u64,
+    pub number: u64,
     place: u64,
+    sentence: &'static str,
     detail: Option<String>,
+    /// What to do about it.
+    pub advice: Option<&'static str>,
 }
 
 impl Refusal {
     /// The refusal of a file.
     pub fn of_file(number: u64, place: u64, file: &[u8]) -> Self {
+        let unknown = "a refusal that this command doesn't know";
         Refusal {
             number,
             place,
+            sentence: find(number).map_or(unknown, |row| row.sentence),
             detail: find_detail(number, file),
+            advice: find_advice(number, file),
         }
     }
 
@@ -29,32 +35,34 @@ impl Refusal {
         Refusal {
             number: 27,
             place: 0,
+            sentence: "more records match than --max-results allows",
             detail: Some(format!("at most {limit} {are} allowed")),
+            advice: Some("ask for fewer records, or give a greater --max-results"),
         }
     }
 
     /// Number, place if there is one, sentence and detail.
     pub fn describe(&self) -> String {
-        let sentence = find(self.number)
-            .map_or("a refusal that this command doesn't know", |row| {
-                row.sentence
-            });
-        let mut words = format!("refused {}", self.number);
         // No block begins at 0.
-        if self.place != 0 {
-            words.push_str(&format!(" at {}", self.place));
-        }
-        words.push_str(&format!(": {sentence}"));
-        if let Some(detail) = &self.detail {
-            words.push_str(&format!(" ({detail})"));
-        }
-        words
+        let place = match self.place {
+            0 => String::new(),
+            place => format!(" at {place}"),
+        };
+        let detail = match &self.detail {
+            Some(detail) => format!(" ({detail})"),
+            None => String::new(),
+        };
+        format!("refused {}{place}: {}{detail}", self.number, self.sentence)
     }
+}
 
-    /// What to do about it.
-    pub fn advice(&self) -> Option<&'static str> {
-        find(self.number).map(|row| row.advice)
-    }
+/// What to do about a refusal. Where a file is too long and no archive either, it was the wrong one.
+fn find_advice(number: u64, file: &[u8]) -> Option<&'static str> {
+    let meant = match number {
+        1 if begins_otherwise(file) => 3,
+        _ => number,
+    };
+    find(meant).map(|row| row.advice)
 }
 
 /// What the bytes tell about a refusal, for display.
@@ -102,7 +110,7 @@ mod tests {
             refusal.describe(),
             "refused 16 at 106: the records of this block are out of order"
         );
-        assert!(refusal.advice().is_some());
+        assert!(refusal.advice.is_some());
     }
 
     #[test]
@@ -110,6 +118,6 @@ mod tests {
         let refusal = Refusal::of_file(GREATEST + 1, 0, b"");
         let words = refusal.describe();
         assert!(words.ends_with(": a refusal that this command doesn't know"));
-        assert_eq!(refusal.advice(), None);
+        assert_eq!(refusal.advice, None);
     }
 }

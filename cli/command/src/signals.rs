@@ -7,13 +7,20 @@ use std::path::Path;
 use std::ptr;
 use std::sync::atomic::{AtomicPtr, Ordering};
 
-/// The signals with which a process is ended from outside.
-const ENDING: [libc::c_int; 6] = [
+/// The signals from outside whose usual action is to end the process, without SIGKILL, which can't be handled.
+const ENDING: [libc::c_int; 13] = [
     libc::SIGALRM,
     libc::SIGHUP,
     libc::SIGINT,
+    libc::SIGIO,
+    libc::SIGPROF,
+    libc::SIGPWR,
     libc::SIGQUIT,
+    libc::SIGSTKFLT,
     libc::SIGTERM,
+    libc::SIGUSR1,
+    libc::SIGUSR2,
+    libc::SIGVTALRM,
     libc::SIGXCPU,
 ];
 

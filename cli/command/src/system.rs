@@ -2,7 +2,8 @@
 
 use std::fs::File;
 use std::io;
-use std::os::unix::io::{AsRawFd, BorrowedFd, RawFd};
+use std::mem::ManuallyDrop;
+use std::os::unix::io::{AsRawFd, FromRawFd, RawFd};
 use std::sync::atomic::{AtomicBool, Ordering};
 
 /// Which of the descriptors 0 to 2 were closed when the process began.
@@ -19,22 +20,27 @@ static BEFORE_MAIN: extern "C" fn() = note_closed;
 
 extern "C" fn note_closed() {
     for (number, closed) in (0..).zip(&CLOSED) {
-        // SAFETY: this only asks for the flags of a descriptor, and fails where none is open.
-        let flags = unsafe { libc::fcntl(number, libc::F_GETFD) };
-        closed.store(flags == -1, Ordering::Relaxed);
+        closed.store(!is_open(number), Ordering::Relaxed);
     }
 }
 
-/// Gives a handle to what is open under a number. Both share the position.
-pub fn clone_descriptor(number: RawFd) -> io::Result<File> {
+fn is_open(number: RawFd) -> bool {
+    // SAFETY: this only asks for the flags of a descriptor, and fails where none is open.
+    unsafe { libc::fcntl(number, libc::F_GETFD) != -1 }
+}
+
+/// What whoever started the command has opened. It isn't closed where this is dropped.
+pub type Lent = ManuallyDrop<File>;
+
+/// Gives what is open under a number. It isn't duplicated: the command would then have opened a number that a name in /dev/fd may mean.
+pub fn lend_descriptor(number: RawFd) -> io::Result<Lent> {
     let noted = usize::try_from(number).ok().and_then(|at| CLOSED.get(at));
     let closed = noted.map_or(false, |closed| closed.load(Ordering::Relaxed));
-    if closed || number < 0 {
+    if closed || !is_open(number) {
         return Err(io::Error::new(io::ErrorKind::NotFound, "it is closed"));
     }
-    // SAFETY: the number isn't -1, and it is used for one call, which fails where nothing is open under it.
-    let lent = unsafe { BorrowedFd::borrow_raw(number) };
-    lent.try_clone_to_owned().map(File::from)
+    // SAFETY: the descriptor is open, so it isn't -1. Nobody in this process closes it: not the handle, and no other owns it.
+    Ok(ManuallyDrop::new(unsafe { File::from_raw_fd(number) }))
 }
 
 /// Gives a file to a user and a group.

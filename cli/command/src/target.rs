@@ -1,13 +1,13 @@
 //! What the name of an output stands for.
 
-use std::fs::{self, File, Metadata, OpenOptions};
+use std::fs::{self, Metadata, OpenOptions};
 use std::io::{self, ErrorKind};
 use std::os::unix::ffi::OsStrExt;
 use std::os::unix::fs::{FileTypeExt, MetadataExt};
 use std::os::unix::io::RawFd;
 use std::path::{Path, PathBuf};
 
-use crate::system;
+use crate::system::{lend_descriptor, Lent};
 
 /// More links one after the other are a loop, as the system has it.
 const MOST_LINKS: usize = 40;
@@ -16,7 +16,7 @@ const MOST_LINKS: usize = 40;
 pub enum Target {
     /// What whoever started the command has opened: standard output, or a number in /dev/fd. It is written through, also where it is a
     /// plain file.
-    Open(File),
+    Open(Lent),
     /// A device or a pipe. It is written as it is.
     Special(PathBuf),
     /// A plain file. It is replaced, and keeps owner and permissions.
@@ -27,14 +27,14 @@ pub enum Target {
 
 impl Target {
     pub fn standard_output() -> io::Result<Self> {
-        system::clone_descriptor(1).map(Target::Open)
+        lend_descriptor(1).map(Target::Open)
     }
 
     /// Finds what a name stands for, and refuses what can't be written.
     pub fn find(name: &Path) -> io::Result<Self> {
         let (path, descriptor) = follow_links(name)?;
         if let Some(number) = descriptor {
-            return system::clone_descriptor(number).map(Target::Open);
+            return lend_descriptor(number).map(Target::Open);
         }
         match fs::metadata(&path) {
             Ok(about) if about.is_file() => {

@@ -1,10 +1,8 @@
 //! Answers of the command, held to the independent reader.
 
-mod support;
-
 use std::fs;
 
-use support::{shell, zs, Folder, CONTACTS, SMALL};
+use crate::support::{shell, zs, Folder, CONTACTS, SMALL};
 use zs_reference::maker::random::{query, tree, Random};
 use zs_reference::maker::Tree;
 use zs_reference::reader::{self, Query};

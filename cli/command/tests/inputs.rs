@@ -1,13 +1,14 @@
 //! Inputs: standard input, files that are no archives, and files that are cut while they are read.
 
-mod support;
-
 use std::fs::{self, File};
 use std::io::{Read, Write};
 use std::process::{Command, Stdio};
 
-use support::{shell, zs, Folder, Run, SMALL, ZS};
+use crate::support::{shell, zs, Folder, Run, SMALL, ZS};
 use zs_reference::maker::Tree;
+
+/// Runs that are tried until an archive is cut before the output is whole.
+const RUNS: usize = 100;
 
 /// Runs the command with these bytes on its standard input, through a pipe.
 fn zs_with_input(arguments: &[&str], input: &[u8]) -> Run {
@@ -83,7 +84,8 @@ fn an_archive_on_standard_input_is_never_its_own_output() {
     ] {
         let run = shell(&format!("exec $ZS {words}"), &folder);
         assert_eq!(run.status, 2, "{words}");
-        assert_eq!(run.err, "zs: -: the output is the archive itself\n");
+        let due = "zs: -: the output is the archive itself; name another output\n";
+        assert_eq!(run.err, due);
         assert_eq!(fs::read(&file).expect("the archive"), bytes, "{words}");
     }
 }
@@ -92,6 +94,16 @@ fn an_archive_on_standard_input_is_never_its_own_output() {
 fn a_closed_standard_input_is_said_to_be_closed() {
     let run = shell("exec $ZS validate - <&-", &Folder::new());
     assert_eq!((run.status, run.err.as_str()), (2, "zs: -: it is closed\n"));
+}
+
+#[test]
+fn a_number_that_nobody_opened_is_no_file() {
+    for command in ["validate", "dump", "dump -o /dev/stdout", "info", "explain"] {
+        let line = format!("exec 3>&-; timeout 10 $ZS {command} /dev/fd/3 | cat");
+        let run = shell(&line, &Folder::new());
+        let due = "zs: /dev/fd/3: No such file or directory\n";
+        assert_eq!(run.err, due, "{command}");
+    }
 }
 
 #[test]
@@ -111,11 +123,35 @@ fn what_is_no_archive_is_refused_by_its_first_bytes() {
     }
 }
 
-/// Runs an unchecked dump, and cuts the file once the first byte is there. A pipe is far shorter than the file, so most of it is unread.
-fn cut_while_dumped(records: &[Vec<u8>]) -> Run {
+#[test]
+fn what_is_no_archive_is_not_kept() {
     let folder = Folder::new();
+    let limit = "ulimit -v 200000";
+    for (length, number) in [(500_000_000, 3), (1 << 30, 3), ((1 << 30) + 1, 1)] {
+        let line = format!("head -c {length} /dev/zero | ({limit}; exec $ZS validate -)");
+        let run = shell(&line, &folder);
+        let due = format!("-: refused {number}: ");
+        assert!(run.text().starts_with(&due), "{}{}", run.text(), run.err);
+        assert_eq!(run.status, 1);
+    }
+}
+
+/// Makes a file of these records.
+fn write_archive(folder: &Folder, records: &[Vec<u8>]) -> String {
     let groups: Vec<&[Vec<u8>]> = records.chunks(1000).collect();
-    let path = folder.write("cut.zs", &Tree::new(&groups).bytes());
+    folder.write("cut.zs", &Tree::new(&groups).bytes())
+}
+
+fn cut(path: &str) {
+    let file = File::options().write(true).open(path);
+    let cut = file.and_then(|file| file.set_len(1000));
+    cut.expect("a shorter file");
+}
+
+/// Runs an unchecked dump, and cuts the file once the first byte is there. A pipe is far shorter than the file, so most of it is unread.
+fn cut_while_dumped(records: &[Vec<u8>]) {
+    let folder = Folder::new();
+    let path = write_archive(&folder, records);
     let mut child = Command::new(ZS)
         .args(["dump", "--unchecked", &path])
         .stdout(Stdio::piped())
@@ -124,27 +160,55 @@ fn cut_while_dumped(records: &[Vec<u8>]) -> Run {
         .expect("the command runs");
     let mut pipe = child.stdout.take().expect("a pipe");
     pipe.read_exact(&mut [0]).expect("one byte");
-    let file = File::options().write(true).open(&path);
-    let cut = file.and_then(|file| file.set_len(1000));
-    cut.expect("a shorter file");
+    cut(&path);
     pipe.read_to_end(&mut Vec::new()).expect("the output");
-    Run::of(child.wait_with_output().expect("the command ends"))
+    let run = Run::of(child.wait_with_output().expect("the command ends"));
+    assert_eq!(run.status, 2, "{}", run.err);
+    let due = format!("zs: {path}: it was cut short while it was read, or can't be read; ");
+    assert!(run.err.contains(&due), "{}", run.err);
+    let written = "; what was written of the answer isn't whole\nzs: what to do: ";
+    assert!(run.err.contains(written), "{}", run.err);
+}
+
+/// Twenty thousand records of a hundred bytes.
+fn short_records() -> Vec<Vec<u8>> {
+    let record = |number: u32| format!("{number:0100}").into_bytes();
+    (0..20_000).map(record).collect()
 }
 
 #[test]
 fn a_mapped_file_that_is_cut_is_reported() {
-    let short: Vec<Vec<u8>> = (0..20_000)
-        .map(|number| format!("{number:0100}").into_bytes())
-        .collect();
-    let long = vec![vec![b'a'; 1 << 20]; 2];
-    for records in [short, long] {
-        let run = cut_while_dumped(&records);
-        assert_eq!(run.status, 2, "{}", run.err);
-        assert!(
-            run.err.contains("zs: the file was cut short"),
-            "{}",
-            run.err
-        );
-        assert!(run.err.contains("zs: what to do: "), "{}", run.err);
-    }
+    cut_while_dumped(&short_records());
+    let long = vec![b'a'; 1 << 20];
+    cut_while_dumped(&[long.clone(), long]);
+}
+
+/// Runs an unchecked dump of about 100 MB to a file, and cuts the archive once a temporary file is there. The dump may be over before.
+fn cut_while_written(folder: &Folder) -> Run {
+    let path = write_archive(folder, &short_records());
+    folder.write("out", b"kept");
+    let child = Command::new(ZS)
+        .args(["dump", "--unchecked", "cut.zs", "-o", "out"])
+        .args(["--terminator", &"x".repeat(5000)])
+        .current_dir(folder.path())
+        .stderr(Stdio::piped())
+        .spawn();
+    let mut child = child.expect("the command runs");
+    while folder.files().len() < 3 && child.try_wait().expect("a status").is_none() {}
+    cut(&path);
+    Run::of(child.wait_with_output().expect("the command ends"))
+}
+
+#[test]
+fn a_file_that_is_cut_leaves_no_output() {
+    let folder = Folder::new();
+    let mut runs = (0..RUNS).map(|_| cut_while_written(&folder));
+    let run = runs.find(|run| run.status != 0);
+    let run = run.expect("a cut before the output is whole");
+    assert_eq!(run.status, 2);
+    let says = "it was cut short while it was read, or can't be read; nothing was written";
+    let due = format!("zs: cut.zs: {says}\nzs: what to do: ");
+    assert!(run.err.contains(&due), "{}", run.err);
+    assert_eq!(folder.files(), ["cut.zs", "out"]);
+    assert_eq!(fs::read(folder.name("out")).expect("the output"), b"kept");
 }

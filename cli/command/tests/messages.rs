@@ -1,10 +1,8 @@
 //! Messages: what is wrong in this file, and what a person can do.
 
-mod support;
-
 use std::fs;
 
-use support::{shell, zs, Folder, CONTACTS, SMALL};
+use crate::support::{shell, zs, Folder, CONTACTS, SMALL};
 use zs_reference::maker::{Image, Plan, Tree};
 
 /// The line of `validate` for these bytes, without the file's name.
@@ -12,7 +10,7 @@ fn verdict(bytes: &[u8]) -> String {
     let folder = Folder::new();
     let file = folder.write("file.zs", bytes);
     let run = zs(&["validate", &file]);
-    assert_eq!((run.status, run.err.as_str()), (1, ""));
+    assert_eq!((run.status, run.err.lines().count()), (1, 1));
     let line = run.text().replace(&format!("{file}: "), "");
     line.trim_end().to_string()
 }
@@ -73,22 +71,59 @@ fn a_long_file_that_is_no_archive_is_said_to_be_none() {
         text.ends_with("(it doesn't begin as a ZS file either)\n"),
         "{text}"
     );
+    let right = "zs: what to do: make sure that this is the right file\n";
+    assert!(zs(&["dump", &path]).err.ends_with(right));
+}
+
+#[test]
+fn what_to_do_is_said_once_at_the_end() {
+    let folder = Folder::new();
+    let bytes = fs::read(SMALL).expect("the sample");
+    let mut changed = bytes.clone();
+    changed[200] ^= 1;
+    folder.write("changed.zs", &changed);
+    folder.write("cut.zs", &bytes[..300]);
+    folder.write("other", b"no archive");
+    let run = shell("$ZS validate other cut.zs changed.zs cut.zs other", &folder);
+    assert_eq!((run.status, run.text().lines().count()), (1, 5));
+    let due = "zs: what to do about 3: make sure that this is the right file
+zs: what to do about 8, 14: get an undamaged copy of the file\n";
+    assert_eq!(run.err, due);
+    assert_eq!(zs(&["validate", SMALL]).err, "");
+}
+
+#[test]
+fn a_refusal_is_not_said_to_be_unchecked() {
+    let folder = Folder::new();
+    let other = folder.write("other", b"no archive");
+    for command in ["dump", "explain"] {
+        let run = zs(&[command, "--unchecked", &other]);
+        let due = format!("zs: {other}: refused 3: ");
+        assert!(run.err.starts_with(&due), "{}", run.err);
+    }
+}
+
+#[test]
+fn too_little_memory_is_said() {
+    let folder = Folder::new();
+    let path = folder.write("large.zs", &fs::read(SMALL).expect("the sample"));
+    let file = fs::File::options().write(true).open(path);
+    let longer = file.and_then(|file| file.set_len(1 << 30));
+    longer.expect("room for a sparse file");
+    let run = shell("ulimit -v 200000; exec $ZS validate large.zs", &folder);
+    let due = "zs: large.zs: there isn't enough memory to read it\n";
+    assert_eq!((run.status, run.err.as_str()), (2, due));
 }
 
 #[test]
 fn the_number_of_matches_allowed_is_said() {
     for way in ["--scan", "--count", "--unchecked"] {
         let run = zs(&["dump", SMALL, "--max-results", "13", way]);
-        assert!(
-            run.err.contains(": refused 27: more records match than "),
-            "{}",
-            run.err
+        let due = format!(
+            "zs: {SMALL}: refused 27: more records match than --max-results allows (at most 13 are allowed)
+zs: what to do: ask for fewer records, or give a greater --max-results\n"
         );
-        assert!(
-            run.err.contains(" (at most 13 are allowed)\n"),
-            "{}",
-            run.err
-        );
+        assert_eq!(run.err, due);
     }
     let run = zs(&["dump", SMALL, "--max-results", "1", "--start", "A"]);
     assert!(run.err.contains(" (at most 1 is allowed)\n"), "{}", run.err);

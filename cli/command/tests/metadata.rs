@@ -1,12 +1,10 @@
 //! Metadata: shown as JSON only where it is JSON, in little memory, and never so that it steers a terminal.
 
-mod support;
-
-use support::{shell, zs, Folder, Run};
+use crate::support::{shell, zs, Folder, Run};
 use zs_reference::maker::Tree;
 
 /// Length of long metadata.
-const LONG: usize = 16 << 20;
+const LONG: usize = 4 << 20;
 
 /// A file with this metadata.
 fn write_file(folder: &Folder, metadata: &[u8]) -> String {
@@ -74,7 +72,7 @@ fn long_metadata_takes_little_memory() {
     *metadata.last_mut().expect("a byte") = b'}';
     write_file(&folder, &metadata);
     for (arguments, length) in [("info", 5 * LONG), ("info -m", LONG)] {
-        let line = format!("ulimit -v 200000; exec $ZS {arguments} file.zs | wc -c");
+        let line = format!("ulimit -v 50000; exec $ZS {arguments} file.zs | wc -c");
         let run = shell(&line, &folder);
         assert_eq!(run.err, "");
         let written: usize = run.text().trim().parse().expect("a number");

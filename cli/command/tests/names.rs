@@ -1,12 +1,10 @@
 //! Names of files in messages: one line each, and every byte can be told.
 
-mod support;
-
 use std::ffi::{OsStr, OsString};
 use std::fs;
 use std::os::unix::ffi::OsStrExt;
 
-use support::{shell, zs, Folder, Run, SMALL};
+use crate::support::{shell, zs, Folder, Run, SMALL};
 use zs_reference::maker::Tree;
 
 /// Names, and how they are shown.
@@ -85,7 +83,8 @@ fn the_archive_as_output_is_named_with_escapes() {
         &folder,
     );
     assert_eq!(run.status, 2);
-    assert_eq!(run.err, "zs: a\\nb: the output is the archive itself\n");
+    let due = "zs: a\\nb: the output is the archive itself; name another output\n";
+    assert_eq!(run.err, due);
 }
 
 #[test]

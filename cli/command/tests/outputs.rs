@@ -1,7 +1,5 @@
 //! Outputs: files that appear whole or not at all, readers that close the pipe, and what can't be written.
 
-mod support;
-
 use std::fs;
 use std::io::Read;
 use std::os::unix::fs::{symlink, PermissionsExt};
@@ -9,7 +7,7 @@ use std::os::unix::io::OwnedFd;
 use std::os::unix::net::UnixStream;
 use std::process::{Command, Stdio};
 
-use support::{shell, zs, Folder, CONTACTS, SMALL, ZS};
+use crate::support::{shell, zs, Folder, CONTACTS, SMALL, ZS};
 use zs_reference::maker::Tree;
 
 #[test]
@@ -68,7 +66,8 @@ fn the_archive_is_never_its_own_output() {
         let run = shell(line, &folder);
         assert_eq!((run.status, run.out.len()), (2, 0), "{line}");
         assert!(
-            run.err.ends_with(": the output is the archive itself\n"),
+            run.err
+                .ends_with(": the output is the archive itself; name another output\n"),
             "{line}: {}",
             run.err
         );
@@ -77,7 +76,32 @@ fn the_archive_is_never_its_own_output() {
     }
     // What is written to a device isn't read from it.
     let run = shell("$ZS validate /dev/null >/dev/null", &folder);
-    assert_eq!((run.status, run.err.as_str()), (1, ""));
+    assert_eq!((run.status, run.err.contains("output")), (1, false));
+}
+
+#[test]
+fn verdicts_may_go_to_a_file_among_those_named() {
+    let folder = Folder::new();
+    fs::copy(SMALL, folder.name("a.zs")).expect("a copy");
+    let verdict = "a.zs: valid, 14 records in 11 blocks\n";
+    folder.write("verdicts", b"");
+    for (line, due) in [
+        ("$ZS validate * >verdicts", verdict.to_string()),
+        ("$ZS validate * >verdicts", verdict.to_string()),
+        ("$ZS validate * >>verdicts", verdict.repeat(2)),
+        ("$ZS validate verdicts a.zs >>verdicts", verdict.repeat(3)),
+    ] {
+        let run = shell(line, &folder);
+        let says = "zs: verdicts: not checked; the output is written there\n";
+        assert_eq!((run.status, run.err.as_str()), (2, says), "{line}");
+        let written = fs::read_to_string(folder.name("verdicts"));
+        assert_eq!(written.expect("the verdicts"), due, "{line}");
+    }
+    // An unfinished archive is one, too.
+    folder.write("unfinished", b"\xabZStoBe\x01");
+    let run = shell("$ZS validate * >>unfinished", &folder);
+    let says = "zs: unfinished: the output is the archive itself; name another output\n";
+    assert_eq!((run.status, run.err.as_str()), (2, says));
 }
 
 #[test]
@@ -116,7 +140,7 @@ fn standard_output_that_cannot_be_written() {
         for (redirection, says) in [
             (">/dev/full", "No space left on device"),
             (">&-", "it is closed"),
-            ("1</dev/null", "Bad file descriptor"),
+            ("1</dev/null", "it isn't open for writing"),
         ] {
             let line = format!("$ZS {command} {redirection}").replace("FILE", SMALL);
             let run = shell(&line, &folder);
@@ -199,17 +223,20 @@ fn the_status_is_the_same_where_nobody_reads() {
     ] {
         assert_eq!(run_unread(words), (Some(0), String::new()), "{words:?}");
     }
-    for words in [
-        &["validate", &bad][..],
-        &["validate", &bad, SMALL],
-        &["validate", SMALL, CONTACTS, &bad],
+    for (words, status, lines) in [
+        (&["validate", &bad][..], 1, 1),
+        (&["validate", &bad, SMALL], 1, 1),
+        (&["validate", SMALL, CONTACTS, &bad], 1, 1),
+        (&["validate", SMALL, &bad, "missing"], 2, 2),
+        (&["dump", &bad], 1, 2),
     ] {
-        assert_eq!(run_unread(words), (Some(1), String::new()), "{words:?}");
+        let (given, err) = run_unread(words);
+        assert_eq!(
+            (given, err.lines().count()),
+            (Some(status), lines),
+            "{words:?}"
+        );
     }
-    let (status, err) = run_unread(&["dump", &bad]);
-    assert_eq!((status, err.lines().count()), (Some(1), 2));
-    let (status, err) = run_unread(&["validate", SMALL, &bad, "missing"]);
-    assert_eq!((status, err.lines().count()), (Some(2), 1));
 }
 
 #[test]

@@ -1,14 +1,12 @@
 //! Signals and limits while a file is written: it is whole or untouched, and nothing is left beside it.
 
-mod support;
-
 use std::fs;
 use std::os::unix::process::ExitStatusExt;
 use std::process::{Command, ExitStatus, Stdio};
 use std::thread::sleep;
 use std::time::Duration;
 
-use support::{shell, zs, Folder, CONTACTS, SMALL, ZS};
+use crate::support::{shell, zs, Folder, CONTACTS, SMALL, ZS};
 
 /// About 190 MB in all: after each of 1500 records nearly the longest argument that there can be.
 const TERMINATOR: usize = 128_000;
@@ -20,7 +18,7 @@ const USUAL: &str = "--default-signal";
 
 /// Starts a long dump to the file `out`, under an option of `env`, and sends a signal once a temporary file is there. The dump may be
 /// over before.
-fn interrupt(actions: &str, way: &[&str], signal: &str, folder: &Folder) -> ExitStatus {
+fn interrupt(actions: &str, way: &[&str], signal: i32, folder: &Folder) -> ExitStatus {
     folder.write("out", OLD);
     let mut child = Command::new("env")
         .args([actions, ZS, "dump", CONTACTS, "-o", "out"])
@@ -51,7 +49,7 @@ fn is_old(folder: &Folder) -> bool {
 }
 
 /// Gives the status of a dump that was interrupted before the new file was there.
-fn interrupt_in_time(way: &[&str], signal: &str, folder: &Folder) -> ExitStatus {
+fn interrupt_in_time(way: &[&str], signal: i32, folder: &Folder) -> ExitStatus {
     let mut ended = (0..RUNS).map(|_| interrupt(USUAL, way, signal, folder));
     let in_time = ended.find(|_| is_old(folder));
     in_time.expect("a signal before the new file is there")
@@ -60,23 +58,24 @@ fn interrupt_in_time(way: &[&str], signal: &str, folder: &Folder) -> ExitStatus 
 #[test]
 fn a_signal_leaves_the_old_file_and_nothing_else() {
     let folder = Folder::new();
-    for (name, number) in [("HUP", 1), ("INT", 2), ("ALRM", 14), ("TERM", 15)] {
-        let status = interrupt_in_time(&[], name, &folder);
-        assert_eq!(status.signal(), Some(number), "{status}");
+    // HUP, INT, USR1, USR2, ALRM, TERM, STKFLT, VTALRM, PROF, IO, PWR.
+    for signal in [1, 2, 10, 12, 14, 15, 16, 26, 27, 29, 30] {
+        let status = interrupt_in_time(&[], signal, &folder);
+        assert_eq!(status.signal(), Some(signal), "{status}");
     }
 }
 
 #[test]
 fn an_archive_that_is_cut_leaves_the_old_file_and_nothing_else() {
-    // This is the signal that comes where a mapped file is cut.
-    let status = interrupt_in_time(&["--unchecked"], "BUS", &Folder::new());
+    // SIGBUS comes where a mapped file is cut.
+    let status = interrupt_in_time(&["--unchecked"], 7, &Folder::new());
     assert_eq!(status.code(), Some(2), "{status}");
 }
 
 #[test]
 fn an_ignored_signal_stays_ignored() {
     let folder = Folder::new();
-    let status = interrupt("--ignore-signal=HUP", &[], "HUP", &folder);
+    let status = interrupt("--ignore-signal=HUP", &[], 1, &folder);
     assert_eq!(status.code(), Some(0), "{status}");
     assert!(!is_old(&folder));
 }

@@ -1,8 +1,6 @@
 //! What `-o` names: plain files, which are replaced; links, which are followed; devices, pipes and open files, which are written as they
 //! are.
 
-mod support;
-
 use std::fs;
 use std::io::Read;
 use std::os::unix::fs::{symlink, MetadataExt, PermissionsExt};
@@ -10,7 +8,7 @@ use std::os::unix::io::OwnedFd;
 use std::os::unix::net::UnixStream;
 use std::process::{Command, Stdio};
 
-use support::{shell, zs, Folder, SMALL, ZS};
+use crate::support::{shell, zs, Folder, SMALL, ZS};
 
 fn read(folder: &Folder, file: &str) -> Vec<u8> {
     fs::read(folder.path().join(file)).expect("a file")
@@ -75,13 +73,10 @@ fn an_open_file_that_is_none_or_not_ours() {
     let folder = Folder::new();
     folder.write("out", b"old");
     for (line, says) in [
-        (
-            "$ZS dump FILE -o /dev/fd/9",
-            "/dev/fd/9: Bad file descriptor",
-        ),
+        ("$ZS dump FILE -o /dev/fd/9", "/dev/fd/9: it is closed"),
         (
             "$ZS dump FILE -o /dev/fd/3 3<out",
-            "/dev/fd/3: Bad file descriptor",
+            "/dev/fd/3: it isn't open for writing",
         ),
         (
             "exec 3>>out; $ZS dump FILE -o /proc/$$/fd/3; exit $?",

@@ -1,8 +1,6 @@
 //! Searches of files that were never checked: they cost little, whatever the file asks for, and are explained rightly.
 
-mod support;
-
-use support::{shell, zs, Folder, Run};
+use crate::support::{shell, zs, Folder, Run};
 use zs_reference::corpus::Corpus;
 use zs_reference::maker::{Image, Plan, Target};
 use zs_reference::reader::{self, Query};

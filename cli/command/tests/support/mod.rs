@@ -1,5 +1,4 @@
 //! Runs the command, and keeps its files in a folder that is removed afterwards.
-#![allow(dead_code)]
 
 use std::ffi::OsStr;
 use std::fs;

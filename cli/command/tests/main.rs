@@ -1,0 +1,16 @@
+//! Tests of the command `zs`: it is run as a person or a script would run it.
+
+mod answers;
+mod arguments;
+mod counts;
+mod damage;
+mod inputs;
+mod messages;
+mod metadata;
+mod names;
+mod outputs;
+mod refusals;
+mod signals;
+mod support;
+mod targets;
+mod unchecked;
