@@ -5,7 +5,7 @@
 ghost use mathlib.Core.Path.{_≡_};
 ghost use Prim.Native.Nat.{_≤_};
 ghost use lib.ListN.{length, take, drop};
-ghost use Rattle.endian.specs.FixedWidth.{littleEndian, bigEndian, bigBytes};
+ghost use Rattle.endian.specs.FixedWidth.{littleEndian, littleBytes, bigEndian, bigBytes};
 
 fn wide(b: u8) -> u64
     ensures { λ r. ⌜ r ≡ b ⌝ }
@@ -94,5 +94,28 @@ pub fn be64_bytes(x: u64) -> [u8; 8]
         low[1],
         low[2],
         low[3],
+    ]
+}
+
+// The 8 bytes of a number, the lowest first.
+pub fn le64_bytes(x: u64) -> [u8; 8]
+    ensures { λ r. ⌜ r ≡ littleBytes 8 x ⌝ }
+{
+    let b = x / 256;
+    let c = b / 256;
+    let d = c / 256;
+    let e = d / 256;
+    let f = e / 256;
+    let g = f / 256;
+    let h = g / 256;
+    [
+        (x % 256) as u8,
+        (b % 256) as u8,
+        (c % 256) as u8,
+        (d % 256) as u8,
+        (e % 256) as u8,
+        (f % 256) as u8,
+        (g % 256) as u8,
+        (h % 256) as u8,
     ]
 }

@@ -1,19 +1,20 @@
--- Laws of counting the elements of a list that pass a test: where at most one does, it has one place.
+-- Laws of the elements of a list that pass a test, and of counting them: where at most one does, it has one place.
 -- Assumes nothing.
 use mathlib.Core.Path.{_≡_, refl, sym, ap, _∙_, subst}
-use mathlib.Core.Bool.{Bool, true, false}
+use mathlib.Core.Bool.{Bool, true, false, cond, true≢false}
 use mathlib.Core.Logic.{_⊎_, inl, inr}
-use mathlib.Core.List.{List, [], _∷_, _++_, flatMap, List·Memᴰ, List·Memᴰ·head, List·Memᴰ·tail, List·Memᴰ·not-nil, List·Memᴰ·cases-cons, Memᴰ·append-right}
-use Prim.Native.Nat.{_+_, _≤_}
+use mathlib.Core.List.{List, [], _∷_, _++_, flatMap, List·Memᴰ, List·Memᴰ·head, List·Memᴰ·tail, List·Memᴰ·not-nil}
+use mathlib.Core.List.{List·Memᴰ·cases-cons, Memᴰ·append-right, head-eq-of-cons-eq, tail-eq-of-cons-eq}
+use Prim.Native.Nat.{_+_, _≤_, suc}
 use native.Mathlib.Omega.{arith}
 use lib.ListN.{length, length-append}
 use Rattle.lists.specs.Lists.{keep}
-use Rattle.lists.proofs.ListsLaws.{keep-append, member-flatMap}
-use Rattle.lists.proofs.ListsLaws.{member-keep}
+use Rattle.lists.proofs.ListsLaws.{keep-append, member-flatMap, member-keep, keep-first}
 use Rattle.lists.proofs.RisingLaws.{member-some}
 
--- ---- what is kept of lists joined by a function
+-- ---- what is kept
 
+-- of lists joined by a function
 pub keep-flatMap : {A B : Type 0} (test : B → Bool) (f : A → List B) (xs : List A) → keep test (flatMap f xs) ≡ flatMap (λ x. keep test (f x)) xs
 unfolding keep flatMap
 keep-flatMap test f [] = refl
@@ -29,6 +30,35 @@ unfolding keep
 keep-all test [] h = refl
 keep-all {A} test (x ∷ xs) h =
     rw (h x (List·Memᴰ·head refl)) (ap (λ (l : List A). x ∷ l) (keep-all test xs (λ (y : A) (m : List·Memᴰ y xs). h y (List·Memᴰ·tail m))))
+
+module _ {A : Type 0} (test : A → Bool) where
+  -- around one that passes
+  pub keep-split : (xs front : List A) (x : A) (back : List A) → xs ≡ front ++ (x ∷ back) → test x ≡ true
+      → keep test xs ≡ keep test front ++ (x ∷ keep test back)
+  keep-split xs front x back e h = ap (keep test) e ∙ keep-append test front (x ∷ back) ∙ ap (λ (l : List A). keep test front ++ l) (keep-first test x back h)
+
+  -- at most as many as there are
+  pub keep-few : (xs : List A) → length (keep test xs) ≤ length xs
+  unfolding keep
+  keep-few [] = omega arith
+  keep-few (x ∷ xs) = go (test x) (keep-few xs)
+    where
+      go : (b : Bool) → length (keep test xs) ≤ length xs → length (cond b (x ∷ keep test xs) (keep test xs)) ≤ suc (length xs)
+      go true few = omega arith
+      go false few = omega arith
+
+  -- what a narrower test keeps of those kept is what it keeps of all
+  pub keep-narrower : (narrow : A → Bool) → ((x : A) → narrow x ≡ true → test x ≡ true) → (xs : List A) → keep narrow (keep test xs) ≡ keep narrow xs
+  unfolding keep
+  keep-narrower narrow h [] = refl
+  keep-narrower narrow h (x ∷ xs) = go (narrow x) (test x) refl refl (keep-narrower narrow h xs)
+    where
+      go : (n b : Bool) → narrow x ≡ n → test x ≡ b → keep narrow (keep test xs) ≡ keep narrow xs
+          → keep narrow (cond b (x ∷ keep test xs) (keep test xs)) ≡ cond n (x ∷ keep narrow xs) (keep narrow xs)
+      go true true p e same = rw p (ap (λ l. x ∷ l) same)
+      go true false p e same = absurd (true≢false (sym (h x p) ∙ e))
+      go false true p e same = rw p same
+      go false false p e same = same
 
 -- ---- counts
 
@@ -79,12 +109,6 @@ module _ {A B : Type 0} (f : A → List B) (test : B → Bool) where
       go (inr a) (inr b) rest = rest (let all = sum in omega arith) a b
 
 module _ {A : Type 0} (test : A → Bool) where
-  same-head : (x y : A) (xs ys : List A) → x ∷ xs ≡ y ∷ ys → x ≡ y
-  same-head x y xs ys e = cc
-
-  same-tail : (x y : A) (xs ys : List A) → x ∷ xs ≡ y ∷ ys → xs ≡ ys
-  same-tail x y xs ys e = cc
-
   count-cons : (x : A) (xs : List A) → length (keep test (x ∷ xs)) ≡ length (keep test (x ∷ [])) + length (keep test xs)
   count-cons x xs = count-append test (x ∷ []) xs
 
@@ -100,11 +124,11 @@ module _ {A : Type 0} (test : A → Bool) where
   pub one-place : (front : List A) (x : A) (back : List A) (front′ : List A) (x′ : A) (back′ : List A) → front ++ (x ∷ back) ≡ front′ ++ (x′ ∷ back′)
       → length (keep test (front ++ (x ∷ back))) ≤ 1
       → test x ≡ true → test x′ ≡ true → (front ≡ front′) × (x ≡ x′) × (back ≡ back′)
-  one-place [] x back [] x′ back′ same few p q = (refl, same-head x x′ back back′ same, same-tail x x′ back back′ same)
-  one-place [] x back (z ∷ front′) x′ back′ same few p q = absurd (two x back front′ x′ back′ (same-tail x z back (front′ ++ (x′ ∷ back′)) same) few p q)
+  one-place [] x back [] x′ back′ same few p q = (refl, head-eq-of-cons-eq same, tail-eq-of-cons-eq same)
+  one-place [] x back (z ∷ front′) x′ back′ same few p q = absurd (two x back front′ x′ back′ (tail-eq-of-cons-eq same) few p q)
   one-place (z ∷ front) x back [] x′ back′ same few p q =
-      absurd (two z (front ++ (x ∷ back)) front x back refl few (ap test (same-head z x′ (front ++ (x ∷ back)) back′ same) ∙ q) p)
+      absurd (two z (front ++ (x ∷ back)) front x back refl few (ap test (head-eq-of-cons-eq same) ∙ q) p)
   one-place (z ∷ front) x back (z′ ∷ front′) x′ back′ same few p q =
       let sum = count-cons z (front ++ (x ∷ back)) in
-      let rest = one-place front x back front′ x′ back′ (same-tail z z′ (front ++ (x ∷ back)) (front′ ++ (x′ ∷ back′)) same) (omega arith) p q in
-      (ap (λ (l : List A). z ∷ l) (rest .0) ∙ ap (λ (w : A). w ∷ front′) (same-head z z′ (front ++ (x ∷ back)) (front′ ++ (x′ ∷ back′)) same), rest .1, rest .2)
+      let rest = one-place front x back front′ x′ back′ (tail-eq-of-cons-eq same) (omega arith) p q in
+      (ap (λ (l : List A). z ∷ l) (rest .0) ∙ ap (λ (w : A). w ∷ front′) (head-eq-of-cons-eq same), rest .1, rest .2)

@@ -1,4 +1,5 @@
 -- Laws of lists.
 pub mod ListsLaws
+pub mod GroupsLaws
 pub mod RisingLaws
 pub mod CountLaws

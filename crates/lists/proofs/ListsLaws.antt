@@ -1,7 +1,7 @@
 -- Laws of lists: the elements that pass a test, whether any or all do, lists joined, and numbers that ascend.
 -- Assumes nothing.
 use mathlib.Core.Path.{_≡_, refl, sym, ap, _∙_, subst}
-use mathlib.Core.Bool.{Bool, true, false, _&&_, _||_, cond, and-eq-true-iff, or-assoc, or-true}
+use mathlib.Core.Bool.{Bool, true, false, _&&_, _||_, cond, and-eq-true-iff, or-assoc, or-true, true≢false, false≢true, and-assoc}
 use mathlib.Core.Logic.{_⊎_, inl, inr}
 use mathlib.Core.List.{List, [], _∷_, _++_, flatMap, map, append-assoc, List·Memᴰ, List·Memᴰ·head, List·Memᴰ·tail, List·Memᴰ·not-nil}
 use mathlib.Core.List.{List·Memᴰ·cases-cons, List·Memᴰ·append-cases, Memᴰ·append-left, Memᴰ·append-right, Memᴰ·map}
@@ -163,8 +163,12 @@ both-false a b e = rw e
 pub both-rest : (a b : Bool) → a ≡ true → (a && b) ≡ b
 both-rest a b e = rw e
 
-pub false-not-true : false ≡ true → ⊥
-false-not-true e = let z : _≡_ {A = ℕ} 0 1 = cc in omega arith
+-- two tests that imply each other
+pub same-tests : (a b : Bool) → (a ≡ true → b ≡ true) → (b ≡ true → a ≡ true) → a ≡ b
+same-tests true true h k = refl
+same-tests true false h k = sym (h refl)
+same-tests false true h k = k refl
+same-tests false false h k = refl
 
 -- ---- tests over the members: what holds of the whole list holds of each, and back
 
@@ -181,11 +185,34 @@ module _ {A : Type 0} (test : A → Bool) where
   member-all [] h = refl
   member-all (x ∷ xs) h = both (test x) (all test xs) (h x (List·Memᴰ·head refl)) (member-all xs (λ y m. h y (List·Memᴰ·tail m)))
 
+  pub all-append : (xs ys : List A) → all test (xs ++ ys) ≡ (all test xs && all test ys)
+  unfolding all
+  all-append [] ys = refl
+  all-append (x ∷ xs) ys = ap (λ (b : Bool). test x && b) (all-append xs ys) ∙ sym (and-assoc (test x) (all test xs) (all test ys))
+
+  -- one that fails, where not all pass, and back
+  pub not-all : (xs : List A) → all test xs ≡ false → (x : A) × List·Memᴰ x xs × (test x ≡ false)
+  unfolding all
+  not-all [] h = absurd (true≢false h)
+  not-all (x ∷ xs) h = go (test x) refl h (not-all xs)
+    where
+      go : (b : Bool) → test x ≡ b → (b && all test xs) ≡ false → (all test xs ≡ false → (y : A) × List·Memᴰ y xs × (test y ≡ false))
+          → (y : A) × List·Memᴰ y (x ∷ xs) × (test y ≡ false)
+      go true e k rest = let r = rest k in (r .0, List·Memᴰ·tail (r .1), r .2)
+      go false e k rest = (x, List·Memᴰ·head refl, e)
+
+  pub false-all : (xs : List A) (x : A) → List·Memᴰ x xs → test x ≡ false → all test xs ≡ false
+  false-all xs x m e = go (all test xs) refl
+    where
+      go : (b : Bool) → all test xs ≡ b → b ≡ false
+      go true p = absurd (false≢true (sym e ∙ all-member xs p x m))
+      go false p = refl
+
   -- any
 
   pub any-member : (xs : List A) → any test xs ≡ true → (x : A) × List·Memᴰ x xs × (test x ≡ true)
   unfolding any
-  any-member [] h = absurd (false-not-true h)
+  any-member [] h = absurd (false≢true h)
   any-member (x ∷ xs) h = go (test x) refl h (λ (k : any test xs ≡ true). any-member xs k)
     where
       go : (b : Bool) → test x ≡ b → (b || any test xs) ≡ true → (any test xs ≡ true → (y : A) × List·Memᴰ y xs × (test y ≡ true))
@@ -197,6 +224,11 @@ module _ {A : Type 0} (test : A → Bool) where
   unfolding any
   member-any xs x (List·Memᴰ·head {x = y} {xs = ys} e) h = ap (λ (b : Bool). b || any test ys) (sym (ap test e) ∙ h)
   member-any xs x (List·Memᴰ·tail {x = y} {xs = ys} m) h = ap (λ (b : Bool). test y || b) (member-any ys x m h) ∙ or-true (test y)
+
+  pub any-false : (xs : List A) → ((x : A) → List·Memᴰ x xs → test x ≡ false) → any test xs ≡ false
+  unfolding any
+  any-false [] h = refl
+  any-false (y ∷ xs) h = ap (λ (b : Bool). b || any test xs) (h y (List·Memᴰ·head refl)) ∙ any-false xs (λ x m. h x (List·Memᴰ·tail m))
 
   -- keep
 

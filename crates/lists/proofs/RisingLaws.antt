@@ -61,6 +61,12 @@ unfolding flatMap
 flatMap-flatMap f g [] = refl
 flatMap-flatMap {A} {B} {C} f g (x ∷ xs) = flatMap-append f (g x) (flatMap g xs) ∙ ap (λ (l : List C). flatMap f (g x) ++ l) (flatMap-flatMap f g xs)
 
+-- lists of one, joined
+pub each-once : {A : Type 0} (xs : List A) → flatMap (λ x. x ∷ []) xs ≡ xs
+unfolding flatMap
+each-once [] = refl
+each-once (x ∷ xs) = ap (λ l. x ∷ l) (each-once xs)
+
 -- elements that add nothing may be left out
 pub flatMap-keep : {A B : Type 0} (f : A → List B) (test : A → Bool) (xs : List A) → ((x : A) → List·Memᴰ x xs → test x ≡ false → f x ≡ [])
     → flatMap f (keep test xs) ≡ flatMap f xs

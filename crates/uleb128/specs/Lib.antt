@@ -1,2 +1,3 @@
 -- The meaning of a number of the format.
 pub mod Number
+pub mod Encoding

@@ -1,6 +1,8 @@
-// Reading a number of the format (uleb128) at the front of a part of a slice.
+// Numbers of the format (uleb128): reading one at the front of a part of a slice, and how long its shortest form is.
 ghost use mathlib.Core.Path.{_≡_};
+ghost use lib.ListN.{length};
 ghost use Rattle.uleb128.specs.Number.{reading, readingSaid};
+ghost use Rattle.uleb128.specs.Encoding.{encoding};
 
 // What stands at the front of the part.
 pub enum Number {
@@ -42,4 +44,17 @@ pub fn read_number(part: &[u8]) -> Number
         n += 1;
     }
     Number::CutOff
+}
+
+// How many bytes the shortest form of a number takes.
+pub fn number_length(value: u64) -> usize
+    ensures { λ r. ⌜ r ≡ length (encoding value) ⌝ }
+{
+    let mut rest = value;
+    let mut count: usize = 1;
+    while 128 <= rest {
+        rest /= 128;
+        count += 1;
+    }
+    count
 }

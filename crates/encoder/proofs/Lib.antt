@@ -1,0 +1,2 @@
+-- Laws of putting numbers and blocks.
+pub mod PutLaws

@@ -1,0 +1,2 @@
+-- Laws of putting a header.
+pub mod HeaderPutLaws

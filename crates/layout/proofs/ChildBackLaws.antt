@@ -1,0 +1,86 @@
+-- A block that is laid, as a reader of its frame and its first text finds it.
+-- Assumes nothing.
+use mathlib.Core.Path.{_≡_, refl, ap, _∙_, subst}
+use mathlib.Core.List.{List, [], _∷_, _++_, flatMap, append-assoc}
+use Prim.Native.Nat.{ℕ, _+_, _^_, _<_}
+use native.Mathlib.Omega.{arith}
+use lib.ListN.{length, take, length-append}
+use Rattle.lists.specs.Groups.{firstOr}
+use Rattle.endian.specs.FixedWidth.{littleBytes}
+use Rattle.uleb128.specs.Encoding.{encoding}
+use Rattle.crc64.specs.Crc64.{crc64}
+use Rattle.outcome.specs.Outcome.{Outcome, answer, _>>=_}
+use Rattle.outcome.proofs.OutcomeLaws.{bind-answer}
+use Rattle.items.specs.Items.{Step}
+use Rattle.framing.specs.declared.Frame.{Frame}
+use Rattle.framing.specs.Frame.{frameAt}
+use Rattle.payload.specs.Payload.{Text, textAt}
+use Rattle.layout.specs.Blocks.{textBytes, blockBytes, recordsBytes, dataBytes}
+use Rattle.layout.specs.Index.{IndexEntry, IndexBlock, entryBytes, indexBytes, firstKey}
+use Rattle.layout.specs.Placed.{placedText, placedFrame}
+use Rattle.layout.proofs.LiesLaws.{Lies, lies-front, lies-back, lies-take}
+use Rattle.layout.proofs.ReadBackLaws.{body-lies, frame-back, text-back, length-text}
+
+-- the payload lies between the level byte and the end of the frame, also in what comes before that end
+pub payload-lies : (s : List ℕ) (at level : ℕ) (payload : List ℕ) → Lies s at (blockBytes level payload)
+    → Lies (take (placedFrame level at (length payload) .end) s) (placedFrame level at (length payload) .body + 1) payload
+unfolding placedFrame
+payload-lies s at level payload l =
+    let body = at + length (encoding (length payload + 1)) in
+    let held = lies-front s body (level ∷ payload) (littleBytes 8 (crc64 (level ∷ payload))) (body-lies s at level payload l) in
+    lies-take s (body + 1) payload (body + (length payload + 1)) (omega arith) (lies-back s body (level ∷ []) payload held)
+
+-- the first text, as a step
+unfoldable pub firstText : (level at payload : ℕ) → List ℕ → Step Text
+firstText level at payload key =
+    let from = placedFrame level at payload .body + 1 in
+    record { item = placedText from key; next = from + length (textBytes key) }
+
+module _ (s : List ℕ) (at level : ℕ) (payload key rest : List ℕ) (begins : payload ≡ textBytes key ++ rest) (small : length payload + 1 < 2 ^ 63)
+    (l : Lies s at (blockBytes level payload)) where
+  pub first-back : (place : ℕ)
+      → textAt place (take (placedFrame level at (length payload) .end) s) (placedFrame level at (length payload) .body + 1)
+      ≡ answer (firstText level at (length payload) key)
+  unfolding firstText
+  first-back place =
+      let long = ap length begins ∙ length-append (textBytes key) rest in
+      let text = length-text key in
+      text-back place _ _ key (omega arith)
+      (lies-front _ _ (textBytes key) rest (subst (Lies _ _) begins (payload-lies s at level payload l)))
+
+  -- reading the frame and then the first text
+  pub child-back : {R : Type 0} (place : ℕ) (next : Frame → Step Text → Outcome R)
+      → (frameAt s at >>= λ f. textAt place (take (f .end) s) (f .body + 1) >>= next f)
+      ≡ next (placedFrame level at (length payload)) (firstText level at (length payload) key)
+  child-back place next =
+      bind-answer (frameAt s at) _ (placedFrame level at (length payload)) (frame-back s at level payload l small)
+      ∙ bind-answer _ (next (placedFrame level at (length payload))) (firstText level at (length payload) key) (first-back place)
+
+-- a data block begins with its first record, and an index block with its first key
+pub records-begin : (rs : List (List ℕ)) → 0 < length rs → (rest : List ℕ) × (recordsBytes rs ≡ textBytes (firstOr [] rs) ++ rest)
+unfolding recordsBytes flatMap firstOr
+records-begin [] h = absurd (omega arith)
+records-begin (r ∷ rs) h = (recordsBytes rs, refl)
+
+pub entries-begin : (es : List IndexEntry) → 0 < length es → (rest : List ℕ) × (flatMap entryBytes es ≡ textBytes (firstKey es) ++ rest)
+unfolding flatMap entryBytes firstKey
+entries-begin [] h = absurd (omega arith)
+entries-begin (e ∷ es) h = ((encoding (e .offset) ++ encoding (e .size)) ++ flatMap entryBytes es, append-assoc (textBytes (e .key)) _ _)
+
+module _ {R : Type 0} (s : List ℕ) (at place : ℕ) (next : Frame → Step Text → Outcome R) where
+  pub data-child-back : (rs : List (List ℕ)) → 0 < length rs → length (recordsBytes rs) + 1 < 2 ^ 63 → Lies s at (dataBytes rs)
+      → (frameAt s at >>= λ f. textAt place (take (f .end) s) (f .body + 1) >>= next f)
+      ≡ next (placedFrame 0 at (length (recordsBytes rs))) (firstText 0 at (length (recordsBytes rs)) (firstOr [] rs))
+  unfolding dataBytes
+  data-child-back rs some small l =
+      let first = records-begin rs some in
+      child-back s at 0 (recordsBytes rs) (firstOr [] rs) (first .0) (first .1) small l place next
+
+  pub index-child-back : (b : IndexBlock) → 0 < length (b .entries) → length (flatMap entryBytes (b .entries)) + 1 < 2 ^ 63 → Lies s at (indexBytes b)
+      → (frameAt s at >>= λ f. textAt place (take (f .end) s) (f .body + 1) >>= next f)
+      ≡ next (placedFrame (b .level) at (length (flatMap entryBytes (b .entries))))
+      (firstText (b .level) at (length (flatMap entryBytes (b .entries))) (firstKey (b .entries)))
+  unfolding indexBytes
+  index-child-back b some small l =
+      let first = entries-begin (b .entries) some in
+      child-back s at (b .level) (flatMap entryBytes (b .entries)) (firstKey (b .entries)) (first .0) (first .1) small l place next

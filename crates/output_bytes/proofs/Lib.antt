@@ -1,0 +1,2 @@
+-- Laws of lent outputs.
+pub mod OutputBytesLaws

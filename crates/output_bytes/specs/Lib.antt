@@ -1,0 +1,2 @@
+-- A lent output of bytes.
+pub mod OutputBytes

@@ -1,0 +1,143 @@
+-- The key rule for the entries over the data blocks of a written file.
+-- Assumes nothing.
+use mathlib.Core.Path.{_≡_, refl, sym, ap, _∙_, subst}
+use mathlib.Core.Logic.{_≢_, _⊎_, inl, inr}
+use mathlib.Core.Bool.{true}
+use mathlib.Core.Option.{Option, none, some}
+use mathlib.Core.List.{List, [], _∷_, _++_, flatMap, map, append-nil, append-assoc, List·Memᴰ, List·Memᴰ·head, List·Memᴰ·tail, List·Memᴰ·not-nil}
+use mathlib.Core.List.{List·Memᴰ·cases-cons, List·Memᴰ·append-cases, Memᴰ·append-left, Memᴰ·map}
+use Prim.Native.Nat.{ℕ, _+_, _<_}
+use native.Mathlib.Omega.{arith}
+use lib.ListN.{length}
+use Rattle.byte_string.specs.Order.{atMost}
+use Rattle.byte_string.proofs.OrderLaws.{atMost-trans}
+use Rattle.lists.specs.Groups.{firstOr, lastOr}
+use Rattle.payload.specs.Payload.{Text}
+use Rattle.block.specs.Block.{Block}
+use Rattle.block.specs.Survey.{recordsOf}
+use Rattle.tree.specs.Tree.{blockRecords, leaves, under}
+use Rattle.tree.proofs.TreeLaws.{records-at}
+use Rattle.layout.specs.Blocks.{dataBytes}
+use Rattle.layout.specs.Index.{IndexEntry}
+use Rattle.layout.specs.File.{keyFor, dataEntries, rootEntry}
+use Rattle.layout.specs.Placed.{placedData, placedDatas, placedBlocks}
+use Rattle.layout.proofs.KeyLaws.{key-atMost-first, before-atMost-key}
+use Rattle.theorems_check.specs.Rules.{Sorted}
+use Rattle.theorems_write.specs.WrittenTree.{joined, Writable}
+use Rattle.theorems_write.proofs.IndexNames.{lastOr-member}
+use Rattle.theorems_write.proofs.PlacedLaws.{data-block, data-start}
+use Rattle.theorems_write.proofs.WrittenNames.{data-member}
+use Rattle.theorems_write.proofs.WrittenWalk.{written-Tree}
+use Rattle.theorems_write.proofs.SortedParts.{sorted-left, sorted-right, sorted-apart, sorted-last}
+use Rattle.theorems_write.proofs.WrittenRecords.{First, data-first, records-placed}
+use Rattle.theorems_write.proofs.WrittenKeys.{Leads}
+
+-- ---- the record before a block
+
+-- `before` is the last of the records before, if any, and lies between those and the later ones
+unfoldable pub Between : Option (List ℕ) → (earlier : List Text) (later : List (List ℕ)) → Type 0
+Between none earlier later = earlier ≡ []
+Between (some x) earlier later = ((r : Text) → List·Memᴰ r earlier → atMost (r .bytes) x ≡ true) × ((y : List ℕ) → List·Memᴰ y later → atMost x y ≡ true)
+
+-- what stands before is at most what comes later
+between-apart : (before : Option (List ℕ)) (earlier : List Text) (later : List (List ℕ)) → Between before earlier later
+    → (r : Text) → List·Memᴰ r earlier → (y : List ℕ) → List·Memᴰ y later → atMost (r .bytes) y ≡ true
+unfolding Between
+between-apart none earlier later h r m y n = absurd (List·Memᴰ·not-nil (subst (List·Memᴰ r) h m))
+between-apart (some x) earlier later h r m y n = atMost-trans (r .bytes) x y (h .0 r m) (h .1 y n)
+
+-- and at most the key of the next
+between-key : (before : Option (List ℕ)) (earlier : List Text) (later : List (List ℕ)) → Between before earlier later
+    → (r : Text) → List·Memᴰ r earlier → (first : List ℕ) → List·Memᴰ first later → atMost (r .bytes) (keyFor before first) ≡ true
+unfolding Between
+between-key none earlier later h r m first n = absurd (List·Memᴰ·not-nil (subst (List·Memᴰ r) h m))
+between-key (some x) earlier later h r m first n = atMost-trans (r .bytes) x (keyFor (some x) first) (h .0 r m) (before-atMost-key x first (h .1 first n))
+
+-- the last record of a block lies between those up to it and the later ones
+between-next : (before : Option (List ℕ)) (earlier own : List Text) (s : List ℕ) (rs later : List (List ℕ)) → Between before earlier ((s ∷ rs) ++ later)
+    → map (λ r. r .bytes) own ≡ s ∷ rs → Sorted ((s ∷ rs) ++ later) → Between (some (lastOr [] (s ∷ rs))) (earlier ++ own) later
+unfolding Between lastOr
+between-next before earlier own s rs later h bytes sorted =
+    (λ r m. go r (List·Memᴰ·append-cases earlier m), λ y m. sorted-apart (s ∷ rs) later sorted (lastOr s rs) y (lastOr-member s rs) m)
+  where
+    go : (r : Text) → List·Memᴰ r earlier ⊎ List·Memᴰ r own → atMost (r .bytes) (lastOr s rs) ≡ true
+    go r (inl i) = between-apart before earlier ((s ∷ rs) ++ later) h r i (lastOr s rs) (Memᴰ·append-left later (lastOr-member s rs))
+    go r (inr i) =
+        sorted-last s (s ∷ rs) (sorted-left (s ∷ rs) later sorted) (r .bytes) (subst (List·Memᴰ (r .bytes)) bytes (Memᴰ·map (λ (t : Text). t .bytes) i))
+
+module _ (perIndex from : ℕ) (blocks : List (List (List ℕ))) (good : Writable perIndex blocks) where
+  abbrev bs : List Block
+  bs = placedBlocks perIndex from blocks
+
+  -- the key is at most the first record, and at least every record of the file before that one
+  unfoldable pub KeyHolds : (key : List ℕ) (first : Text) → Type 0
+  KeyHolds key first = (atMost key (first .bytes) ≡ true) × ((r : Text) → List·Memᴰ r (recordsOf bs) → r .at < first .at → atMost (r .bytes) key ≡ true)
+
+  abbrev KeyLeads : IndexEntry → Type 0
+  KeyLeads e = Leads perIndex from blocks good KeyHolds 0 e
+
+  -- one block, after the records `earlier`
+  leads-first : (before : Option (List ℕ)) (at : ℕ) (s : List ℕ) (rs : List (List ℕ)) (more : List (List (List ℕ))) (earlier : List Text)
+      → recordsOf bs ≡ earlier ++ flatMap (λ b. b .records) (placedDatas at ((s ∷ rs) ∷ more)) → List·Memᴰ (placedData at (s ∷ rs)) bs
+      → Between before earlier (joined ((s ∷ rs) ∷ more)) → (size : ℕ)
+      → KeyLeads (record { key = keyFor before s; offset = at; size = size })
+  unfolding under leaves KeyHolds joined flatMap
+  leads-first before at s rs more earlier all member between size =
+      record {
+        first = f .first;
+        rest = f .rest;
+        under-is = append-nil (blockRecords bs at) ∙ ap (blockRecords bs) (sym (data-start at (s ∷ rs)))
+            ∙ records-at bs (rootEntry perIndex from blocks .offset) (written-Tree perIndex from blocks good) (placedData at (s ∷ rs)) member
+            ∙ f .records-are;
+        holds = (
+          subst (λ (l : List ℕ). atMost (keyFor before s) l ≡ true) (sym (f .bytes-are)) (key-atMost-first before s),
+          λ r m less. go r less (List·Memᴰ·append-cases earlier (subst (List·Memᴰ r) all m)),
+        );
+      }
+    where
+      f : First at s rs more
+      f = data-first at s rs more
+
+      go : (r : Text) → r .at < f .first .at → List·Memᴰ r earlier ⊎ List·Memᴰ r (flatMap (λ b. b .records) (placedDatas at ((s ∷ rs) ∷ more)))
+          → atMost (r .bytes) (keyFor before s) ≡ true
+      go r less (inl i) =
+          between-key before earlier (joined ((s ∷ rs) ∷ more)) between r i s (Memᴰ·append-left {s = s ∷ rs} (joined more) (List·Memᴰ·head {xs = rs} refl))
+      go r less (inr i) = let after = f .least r i in absurd (omega arith)
+
+  leads-data : (before : Option (List ℕ)) (at : ℕ) (more : List (List (List ℕ))) (earlier : List Text)
+      → recordsOf bs ≡ earlier ++ flatMap (λ b. b .records) (placedDatas at more) → ((d : Block) → List·Memᴰ d (placedDatas at more) → List·Memᴰ d bs)
+      → ((rs : List (List ℕ)) → List·Memᴰ rs more → rs ≢ []) → Sorted (joined more) → Between before earlier (joined more)
+      → (e : IndexEntry) → List·Memᴰ e (dataEntries before at more) → KeyLeads e
+  unfolding dataEntries placedDatas joined flatMap firstOr
+  leads-data before at [] earlier all within each sorted between e m = absurd (List·Memᴰ·not-nil m)
+  leads-data before at ([] ∷ more) earlier all within each sorted between e m = absurd (each [] (List·Memᴰ·head refl) refl)
+  leads-data before at ((s ∷ rs) ∷ more) earlier all within each sorted between e m =
+      go (List·Memᴰ·cases-cons m)
+      (λ i. leads-data (some (lastOr [] (s ∷ rs))) next more (earlier ++ own) regrouped
+      (λ d j. within d (List·Memᴰ·tail j)) (λ xs j. each xs (List·Memᴰ·tail j)) (sorted-right (s ∷ rs) (joined more) sorted)
+      (between-next before earlier own s rs (joined more) between (data-block at (s ∷ rs) .bytes-are) sorted) e i)
+    where
+      next : ℕ
+      next = at + length (dataBytes (s ∷ rs))
+
+      own : List Text
+      own = placedData at (s ∷ rs) .records
+
+      first : IndexEntry
+      first = record { key = keyFor before s; offset = at; size = length (dataBytes (s ∷ rs)) }
+
+      regrouped : recordsOf bs ≡ (earlier ++ own) ++ flatMap (λ b. b .records) (placedDatas next more)
+      regrouped = all ∙ sym (append-assoc earlier own (flatMap (λ b. b .records) (placedDatas next more)))
+
+      go : (e ≡ first) ⊎ List·Memᴰ e (dataEntries (some (lastOr [] (s ∷ rs))) next more)
+          → (List·Memᴰ e (dataEntries (some (lastOr [] (s ∷ rs))) next more) → KeyLeads e) → KeyLeads e
+      go (inl same) rest =
+          subst KeyLeads (sym same)
+          (leads-first before at s rs more earlier all (within (placedData at (s ∷ rs)) (List·Memᴰ·head refl)) between (length (dataBytes (s ∷ rs))))
+      go (inr later) rest = rest later
+
+  -- every entry over a data block keeps the key rule
+  pub leads-lowest : (e : IndexEntry) → List·Memᴰ e (dataEntries none from blocks) → Leads perIndex from blocks good KeyHolds 0 e
+  unfolding Between
+  leads-lowest e m =
+      leads-data none from blocks [] (records-placed perIndex from blocks) (data-member perIndex from blocks) (good .each) (good .rise) refl e m

@@ -1,0 +1,67 @@
+-- A written file keeps the rules of the format: it is accepted, with the blocks and the records that were written.
+-- Assumes nothing.
+use mathlib.Core.Path.{_≡_, sym, ap, _∙_}
+use mathlib.Core.Logic.{_≢_}
+use mathlib.Core.List.{List, []}
+use Prim.Native.Nat.{ℕ, _+_}
+use native.Mathlib.Omega.{arith}
+use lib.ListN.{length}
+use Rattle.outcome.specs.Outcome.{answer}
+use Rattle.sha256.specs.Sha256.{sha256}
+use Rattle.header.specs.declared.Header.{Header}
+use Rattle.header.specs.Header.{H}
+use Rattle.header.proofs.HeaderLaws.{IsHeader, is-header}
+use Rattle.block.specs.Block.{Block, blocksAt}
+use Rattle.tree.specs.Stages.{payloads}
+use Rattle.layout.specs.File.{blocksStart, rootEntry, fileOf}
+use Rattle.layout.specs.Placed.{placedBlocks}
+use Rattle.layout.proofs.FileBackLaws.{FileFits, file-header-back, file-blocks-back, file-payloads-back, file-hash-back}
+use Rattle.checker.specs.Check.{acceptOf}
+use Rattle.theorems_check.specs.Rules.{TreeRules, Rules}
+use Rattle.theorems_check.proofs.HeaderRuleLaws.{header⇒HeaderRules}
+use Rattle.theorems_check.proofs.BlockRuleLaws.{blocks⇒Fill}
+use Rattle.theorems_check.proofs.AcceptLaws.{Rules⇒accepted}
+use Rattle.theorems_write.specs.WrittenTree.{joined, Writable}
+use Rattle.theorems_write.proofs.WritableLaws.{file-writable}
+use Rattle.theorems_write.proofs.WrittenTree.{written-rules}
+
+module _ (metadata : List ℕ) (blocks : List (List (List ℕ))) (perIndex : ℕ) (fits : FileFits metadata blocks perIndex) (some : blocks ≢ []) where
+  abbrev file : List ℕ
+  file = fileOf metadata blocks perIndex
+
+  abbrev from : ℕ
+  from = blocksStart metadata
+
+  abbrev bs : List Block
+  bs = placedBlocks perIndex from blocks
+
+  pub fits-writable : Writable perIndex blocks
+  unfolding joined
+  fits-writable =
+      file-writable metadata blocks perIndex (fits .two) some
+      (λ rs m none. let long = fits .filled rs m in let z = ap length none in omega arith) (fits .sorted) (fits .short)
+
+  abbrev header : Header
+  header = record { blocks = from; root = rootEntry perIndex from blocks .offset; rootsize = rootEntry perIndex from blocks .size; metadata = length metadata }
+
+  header-is : IsHeader file header
+  header-is = is-header file header (file-header-back metadata blocks perIndex fits)
+
+  pub file-tree-rules : TreeRules file bs
+  unfolding payloads
+  file-tree-rules =
+      written-rules perIndex from blocks fits-writable file (sym (header-is .is-root)) (sym (header-is .is-rootsize))
+      (file-hash-back metadata blocks perIndex ∙ ap sha256 (sym (file-payloads-back metadata blocks perIndex fits)))
+
+  pub file-rules : Rules file bs
+  file-rules =
+      record {
+        header = header⇒HeaderRules file header (file-header-back metadata blocks perIndex fits);
+        tiled = blocks⇒Fill file (24 + H file) bs (header-is .whole)
+            (ap (blocksAt file) (sym (header-is .is-blocks)) ∙ file-blocks-back metadata blocks perIndex fits);
+        tree = file-tree-rules;
+      }
+
+  -- a written file is accepted
+  pub file-accepted : acceptOf file ≡ answer bs
+  file-accepted = Rules⇒accepted file bs file-rules
