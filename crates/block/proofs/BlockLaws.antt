@@ -5,15 +5,17 @@ use mathlib.Core.Bool.{Bool, true, false}
 use mathlib.Core.List.{List, []}
 use Prim.Native.Nat.{ℕ, _+_, _-_, _≤_, _<_}
 use native.Mathlib.Omega.{arith}
+use lib.Dec.{leb}
 use lib.ListN.{length, take, length-take}
-use borrow.Author.Tests.{le-leb, lt-leb, eq-eqb, ne-eqb}
+use borrow.Author.Tests.{le-leb, lt-leb, eq-eqb, ne-eqb, leb-true, leb-false}
 use Rattle.outcome.specs.Outcome.{Outcome, answer, refused, _>>=_}
-use Rattle.items.specs.Items.{Step, itemsFrom}
-use Rattle.outcome.proofs.OutcomeLaws.{answer-injective, kept⁻¹, bind-answer, bind-refused, bind⁻¹, map-refused⁻¹}
+use Rattle.items.specs.Items.{Step}
+use Rattle.outcome.proofs.OutcomeLaws.{answer-injective, bind-answer, bind-refused, bind⁻¹, map-refused⁻¹}
 use Rattle.items.proofs.ItemsLaws.{items-length}
 use Rattle.framing.specs.declared.Frame.{Frame}
 use Rattle.framing.specs.Frame.{soundFrameAt}
 use Rattle.payload.specs.Payload.{Text, payloadAt, recordsAt, entriesAt}
+use Rattle.payload.proofs.ReadLaws.{payload⁻¹}
 use Rattle.block.specs.Block.{Block, isData, isOrdinary, blockIn, blockAt}
 use Rattle.payload.specs.Answers.{counted}
 use Rattle.block.specs.Answers.{Tallied, tallied}
@@ -36,6 +38,20 @@ ordinary-level level h = le-leb level 63 h
 pub reserved-level : (level : ℕ) → 63 < level → isOrdinary level ≡ false
 unfolding isOrdinary
 reserved-level level h = lt-leb level 63 h
+
+-- level 0 is data, 1 to 63 index, and higher ones are reserved
+pub data LevelOf (level : ℕ) : Type 0 where
+  is-data : level ≡ 0 → LevelOf level
+  is-index : 1 ≤ level → level ≤ 63 → LevelOf level
+  is-reserved : 63 < level → LevelOf level
+
+pub level-of : (level : ℕ) → LevelOf level
+level-of level = go (leb 1 level) refl (leb level 63) refl
+  where
+    go : (some : Bool) → leb 1 level ≡ some → (ordinary : Bool) → leb level 63 ≡ ordinary → LevelOf level
+    go false p o q = let none = leb-false 1 level p in is-data (omega arith)
+    go true p true q = is-index (leb-true 1 level p) (leb-true level 63 q)
+    go true p false q = is-reserved (leb-false level 63 q)
 
 -- ---- the block that a frame encloses
 
@@ -85,15 +101,31 @@ module _ (file : List ℕ) (f : Frame) where
 
 -- ---- a block that was read
 
+-- the block in a frame, by its level
+module _ (file : List ℕ) (f : Frame) (b : Block) (e : blockIn file f ≡ answer b) where
+  pub inside-data : f .level ≡ 0 → (recordsAt (f .start) (take (f .end) file) (f .body + 1) ≡ answer (b .records)) × (b .frame ≡ f) × (b .entries ≡ [])
+  inside-data level =
+      let all = bind⁻¹ (recordsAt (f .start) (take (f .end) file) (f .body + 1)) _ b (sym (block-data file f (data-level (f .level) level)) ∙ e) in
+      let same = answer-injective _ b (all .2) in
+      (all .1 ∙ ap (λ (c : Block). answer (c .records)) same, sym (ap (λ (c : Block). c .frame) same), sym (ap (λ (c : Block). c .entries) same))
+
+  pub inside-index : (f .level ≡ 0 → ⊥) → f .level ≤ 63
+      → (entriesAt (f .start) (take (f .end) file) (f .body + 1) ≡ answer (b .entries)) × (b .frame ≡ f) × (b .records ≡ [])
+  inside-index some few =
+      let index = block-index file f (not-data-level (f .level) some) (ordinary-level (f .level) few) in
+      let all = bind⁻¹ (entriesAt (f .start) (take (f .end) file) (f .body + 1)) _ b (sym index ∙ e) in
+      let same = answer-injective _ b (all .2) in
+      (all .1 ∙ ap (λ (c : Block). answer (c .entries)) same, sym (ap (λ (c : Block). c .frame) same), sym (ap (λ (c : Block). c .records) same))
+
+  pub inside-reserved : 63 < f .level → (b .frame ≡ f) × (b .records ≡ []) × (b .entries ≡ [])
+  inside-reserved many =
+      let reserved = block-reserved file f (not-data-level (f .level) (λ z. omega arith)) (reserved-level (f .level) many) in
+      let same = answer-injective _ b (sym reserved ∙ e) in
+      (sym (ap (λ (c : Block). c .frame) same), sym (ap (λ (c : Block). c .records) same), sym (ap (λ (c : Block). c .entries) same))
+
 -- at most as many records as bytes
 payload-few : {A : Type 0} (step : ℕ → Outcome (Step A)) (textOf : A → Text) (unsorted place end at : ℕ) (xs : List A) → payloadAt step textOf unsorted place end at ≡ answer xs → length xs ≤ end - at
-unfolding payloadAt
-payload-few step textOf unsorted place end at xs e =
-    let some = kept⁻¹ _ 15 place _ xs e in
-    let items = bind⁻¹ (itemsFrom step end (end - at) at) _ xs (some .1) in
-    let sorted = kept⁻¹ _ unsorted place _ xs (items .2) in
-    let same = answer-injective (items .0) xs (sorted .1) in
-    subst (λ l. length l ≤ end - at) same (items-length step end (end - at) at (items .0) (items .1))
+payload-few step textOf unsorted place end at xs e = items-length step end (end - at) at xs (payload⁻¹ step textOf unsorted place end at xs e .items)
 
 -- where a block that was read lies, and that it has fewer records than bytes
 pub record BlockRead (file : List ℕ) (at : ℕ) (b : Block) : Type 0 where
@@ -105,7 +137,7 @@ pub record BlockRead (file : List ℕ) (at : ℕ) (b : Block) : Type 0 where
 -- the block in a frame has that frame, and fewer records than the frame has bytes
 inside-frame : (file : List ℕ) (at : ℕ) (f : Frame) (b : Block) → Framed file at f → blockIn file f ≡ answer b → (b .frame ≡ f) × (length (b .records) < f .size)
 unfolding recordsAt
-inside-frame file at f b l e = by-data (isData (f .level)) refl
+inside-frame file at f b l e = go (level-of (f .level))
   where
     some : f .body < f .end
     some = l .some
@@ -116,24 +148,16 @@ inside-frame file at f b l e = by-data (isData (f .level)) refl
     number : at < f .body
     number = l .number
 
-    none : (c : Block) → c ≡ b → c .frame ≡ f → c .records ≡ [] → (b .frame ≡ f) × (length (b .records) < f .size)
-    none c same frame empty =
-        (ap (λ (d : Block). d .frame) (sym same) ∙ frame, subst (λ (d : List Text). length d < f .size) (sym empty ∙ ap (λ (d : Block). d .records) same) (omega arith))
+    none : b .records ≡ [] → length (b .records) < f .size
+    none empty = subst (λ (rs : List Text). length rs < f .size) (sym empty) (omega arith)
 
-    by-ordinary : (o : Bool) → isOrdinary (f .level) ≡ o → isData (f .level) ≡ false → (b .frame ≡ f) × (length (b .records) < f .size)
-    by-ordinary true p q =
-        let all = bind⁻¹ (entriesAt (f .start) (take (f .end) file) (f .body + 1)) _ b (sym (block-index file f q p) ∙ e) in
-        none (record { frame = f; records = []; entries = all .0 }) (answer-injective _ b (all .2)) refl refl
-    by-ordinary false p q = none (record { frame = f; records = []; entries = [] }) (answer-injective _ b (sym (block-reserved file f q p) ∙ e)) refl refl
-
-    by-data : (d : Bool) → isData (f .level) ≡ d → (b .frame ≡ f) × (length (b .records) < f .size)
-    by-data true p =
-        let all = bind⁻¹ (recordsAt (f .start) (take (f .end) file) (f .body + 1)) _ b (sym (block-data file f p) ∙ e) in
-        let same = answer-injective _ b (all .2) in
-        let few = payload-few _ _ 16 (f .start) (length (take (f .end) file)) (f .body + 1) (all .0) (all .1) in
-        let short : length (all .0) < f .size = omega (arith, simp length-take at few) in
-        (sym (ap (λ (d : Block). d .frame) same), subst (λ (d : Block). length (d .records) < f .size) same short)
-    by-data false p = by-ordinary (isOrdinary (f .level)) refl p
+    go : LevelOf (f .level) → (b .frame ≡ f) × (length (b .records) < f .size)
+    go (is-data level) =
+        let r = inside-data file f b e level in
+        let few = payload-few _ _ 16 (f .start) (length (take (f .end) file)) (f .body + 1) (b .records) (r .0) in
+        (r .1, omega (arith, simp length-take at few))
+    go (is-index more level) = let r = inside-index file f b e (λ z. omega arith) level in (r .1, none (r .2))
+    go (is-reserved level) = let r = inside-reserved file f b e level in (r .0, none (r .1))
 
 pub block⇒BlockRead : (file : List ℕ) (at : ℕ) (b : Block) → blockAt file at ≡ answer b → BlockRead file at b
 unfolding blockAt
@@ -154,16 +178,6 @@ block⇒BlockRead file at b e =
         }
 
 -- ---- the frame, then the block in it
-
-pub frame-bounds : (file : List ℕ) (at : ℕ) (f : Frame) → soundFrameAt file at ≡ answer f → (f .body < f .end) × (f .end ≤ length file)
-frame-bounds file at f e =
-    let l = frame⇒Framed file at f (soundFrame⁻¹ file at f e .0) in
-    let sized = l .sized in
-    let within = l .within in
-    (l .some, omega arith)
-
-pub frame-start : (file : List ℕ) (at : ℕ) (f : Frame) → soundFrameAt file at ≡ answer f → f .start ≡ at
-frame-start file at f e = frame⇒Framed file at f (soundFrame⁻¹ file at f e .0) .starts
 
 pub block-framed : (file : List ℕ) (at : ℕ) (f : Frame) (o : Outcome Tallied) → soundFrameAt file at ≡ answer f → o ≡ tallied (blockIn file f) → o ≡ tallied (blockAt file at)
 unfolding blockAt

@@ -1,17 +1,14 @@
 -- What a block that was read holds: its records or entries by its level, where they stand, their order, and what reading them again finds.
 -- Assumes nothing.
-use mathlib.Core.Path.{_≡_, refl, sym, ap, _∙_, subst}
-use mathlib.Core.Bool.{Bool, true, false}
+use mathlib.Core.Path.{_≡_, refl, sym, ap, subst}
+use mathlib.Core.Bool.{true}
 use mathlib.Core.List.{List, [], map, List·Memᴰ, List·Memᴰ·not-nil}
 use Prim.Native.Nat.{ℕ, _+_, _-_, _≤_, _<_}
 use native.Mathlib.Omega.{arith}
-use lib.Dec.{leb}
 use lib.ListN.{length, take, getD}
 use lib.Seq.{length-take-le}
-use borrow.Author.Tests.{leb-true, leb-false}
 use Rattle.outcome.specs.Outcome.{Outcome, answer}
 use Rattle.items.specs.Items.{Step, soundFrom}
-use Rattle.outcome.proofs.OutcomeLaws.{answer-injective, bind⁻¹}
 use Rattle.items.proofs.ItemsLaws.{Row, items⇒row, row⇒items, row-change, row-some, items⇒sound}
 use Rattle.lists.proofs.ListsLaws.{AscendingIn, ascending-wider}
 use Rattle.framing.specs.declared.Frame.{Frame}
@@ -19,7 +16,8 @@ use Rattle.framing.specs.Frame.{frameAt}
 use Rattle.payload.specs.Payload.{Text, Entry, textAt, entryAt, payloadAt, recordsAt, entriesAt, rising}
 use Rattle.block.specs.Block.{Block, blockAt}
 use Rattle.framing.proofs.FrameLaws.{Framed, soundFrame⁻¹}
-use Rattle.block.proofs.BlockLaws.{BlockRead, block⇒BlockRead, data-level, not-data-level, ordinary-level, reserved-level, block-data, block-index, block-reserved}
+use Rattle.block.proofs.BlockLaws.{BlockRead, block⇒BlockRead, inside-data, inside-index, inside-reserved}
+use Rattle.block.proofs.BlockLaws.{LevelOf, is-data, is-index, is-reserved, level-of}
 use Rattle.payload.proofs.ReadLaws.{Stands, stands-wider, stands-take, Filled, payload⁻¹, steps-forward, row-ascending, row-stands, text-stands, text-within, text-any-place, key-stands, entry-within, entry-any-place}
 
 -- ---- the items of a payload
@@ -84,20 +82,6 @@ module _ {A : Type 0} (stepAt : ℕ → List ℕ → ℕ → Outcome (Step A)) (
 
 -- ---- a block that was read, by its level
 
--- level 0 is data, 1 to 63 index, and higher ones are reserved
-pub data LevelOf (level : ℕ) : Type 0 where
-  is-data : level ≡ 0 → LevelOf level
-  is-index : 1 ≤ level → level ≤ 63 → LevelOf level
-  is-reserved : 63 < level → LevelOf level
-
-pub level-of : (level : ℕ) → LevelOf level
-level-of level = go (leb 1 level) refl (leb level 63) refl
-  where
-    go : (some : Bool) → leb 1 level ≡ some → (ordinary : Bool) → leb level 63 ≡ ordinary → LevelOf level
-    go false p o q = let none = leb-false 1 level p in is-data (omega arith)
-    go true p true q = is-index (leb-true 1 level p) (leb-true level 63 q)
-    go true p false q = is-reserved (leb-false level 63 q)
-
 module _ (file : List ℕ) (at : ℕ) (b : Block) (e : blockAt file at ≡ answer b) where
   block-read : BlockRead file at b
   block-read = block⇒BlockRead file at b e
@@ -112,29 +96,16 @@ module _ (file : List ℕ) (at : ℕ) (b : Block) (e : blockAt file at ≡ answe
 
   -- a data block has records and no entries
   pub data-records : b .frame .level ≡ 0 → (recordsAt (b .frame .start) (take (b .frame .end) file) (b .frame .body + 1) ≡ answer (b .records)) × (b .entries ≡ [])
-  data-records level =
-      let f = b .frame in
-      let all = bind⁻¹ (recordsAt (f .start) (take (f .end) file) (f .body + 1)) _ b (sym (block-data file f (data-level (f .level) level)) ∙ block-read .inside) in
-      let same = answer-injective _ b (all .2) in
-      (all .1 ∙ ap (λ (c : Block). answer (c .records)) same, sym (ap (λ (c : Block). c .entries) same))
+  data-records level = let r = inside-data file (b .frame) b (block-read .inside) level in (r .0, r .2)
 
   -- an index block has entries and no records
   pub index-entries : 1 ≤ b .frame .level → b .frame .level ≤ 63
       → (entriesAt (b .frame .start) (take (b .frame .end) file) (b .frame .body + 1) ≡ answer (b .entries)) × (b .records ≡ [])
-  index-entries some level =
-      let f = b .frame in
-      let index = sym (block-index file f (not-data-level (f .level) (λ z. omega arith)) (ordinary-level (f .level) level)) in
-      let all = bind⁻¹ (entriesAt (f .start) (take (f .end) file) (f .body + 1)) _ b (index ∙ block-read .inside) in
-      let same = answer-injective _ b (all .2) in
-      (all .1 ∙ ap (λ (c : Block). answer (c .entries)) same, sym (ap (λ (c : Block). c .records) same))
+  index-entries some level = let r = inside-index file (b .frame) b (block-read .inside) (λ z. omega arith) level in (r .0, r .2)
 
   -- a reserved block has neither
   pub reserved-empty : 63 < b .frame .level → (b .records ≡ []) × (b .entries ≡ [])
-  reserved-empty level =
-      let f = b .frame in
-      let reserved = sym (block-reserved file f (not-data-level (f .level) (λ z. omega arith)) (reserved-level (f .level) level)) in
-      let same = answer-injective _ b (reserved ∙ block-read .inside) in
-      (sym (ap (λ (c : Block). c .records) same), sym (ap (λ (c : Block). c .entries) same))
+  reserved-empty level = let r = inside-reserved file (b .frame) b (block-read .inside) level in (r .1, r .2)
 
   -- its items
 

@@ -1,23 +1,24 @@
 -- Laws of blocks as they lie in a file: of an accepted file they are its blocks.
 -- Assumes nothing.
-use mathlib.Core.Path.{_≡_, refl, sym, ap, _∙_, subst}
-use mathlib.Core.Bool.{Bool, true, false}
-use mathlib.Core.List.{List, [], _∷_}
-use Prim.Native.Nat.{ℕ, zero, suc, _+_, _-_, _≤_}
+use mathlib.Core.Path.{_≡_, sym, ap, _∙_}
+use mathlib.Core.List.{List, []}
+use Prim.Native.Nat.{ℕ, _+_, _-_, _≤_, _<_}
 use native.Mathlib.Omega.{arith}
 use lib.ListN.{length, take}
 use lib.Seq.{length-take-le}
 use Rattle.outcome.specs.Outcome.{Outcome, answer, refused}
-use Rattle.outcome.proofs.OutcomeLaws.{answer-injective, bind⁻¹, bind-answer, bind-refused, kept⁻¹}
-use Rattle.items.specs.Items.{Step, itemsFrom, soundFrom}
-use Rattle.items.proofs.ItemsLaws.{Read, at-end, one-more, items⁻¹, items⇒sound, sound-end, sound-step}
+use Rattle.outcome.proofs.OutcomeLaws.{answer-injective, bind⁻¹, bind-answer, bind-refused}
+use Rattle.items.specs.Items.{Step, soundFrom}
+use Rattle.items.proofs.ItemsLaws.{items⇒sound, items⇒sound-same}
 use Rattle.framing.specs.declared.Frame.{Frame}
 use Rattle.framing.specs.Frame.{frameAt}
 use Rattle.framing.proofs.FrameLaws.{soundFrame⁻¹}
 use Rattle.payload.specs.Payload.{Text, Entry, textAt, entryAt, payloadAt, recordsAt, entriesAt}
-use Rattle.block.specs.Block.{Block, isData, isOrdinary, blockIn, blockAt, blockStep, blocksAt}
+use Rattle.payload.proofs.ReadLaws.{payload⁻¹}
+use Rattle.block.specs.Block.{Block, blockIn, blockAt, blockStep, blocksAt}
 use Rattle.block.specs.Laid.{laidItems, laidRecords, laidEntries, laidIn, laidAt, laidFrom}
-use Rattle.block.proofs.BlockLaws.{data-level, not-data-level, ordinary-level, reserved-level, block-data, block-index, block-reserved, block⇒BlockRead, BlockRead}
+use Rattle.block.proofs.BlockLaws.{data-level, not-data-level, ordinary-level, block⇒BlockRead, BlockRead, reserved-level}
+use Rattle.block.proofs.BlockLaws.{inside-data, inside-index, inside-reserved, LevelOf, is-data, is-index, is-reserved, level-of}
 
 -- ---- the block at an offset
 
@@ -43,16 +44,17 @@ module _ (file : List ℕ) (f : Frame) where
   unfolding laidRecords laidEntries
   laid-index h few = (rw (not-data-level (f .level) h), rw (not-data-level (f .level) h, ordinary-level (f .level) few))
 
--- ---- a block that was accepted
+  -- only a data block has records
+  pub laid-no-records : (f .level ≡ 0 → ⊥) → laidRecords file f ≡ []
+  unfolding laidRecords
+  laid-no-records h = rw (not-data-level (f .level) h)
 
-pub payload⇒items : {A : Type 0} (step : ℕ → Outcome (Step A)) (textOf : A → Text) (unsorted place end at : ℕ) (xs : List A)
-    → payloadAt step textOf unsorted place end at ≡ answer xs → itemsFrom step end (end - at) at ≡ answer xs
-unfolding payloadAt
-payload⇒items step textOf unsorted place end at xs e =
-    let some = kept⁻¹ _ 15 place _ xs e in
-    let items = bind⁻¹ (itemsFrom step end (end - at) at) _ xs (some .1) in
-    let sorted = kept⁻¹ _ unsorted place _ xs (items .2) in
-    items .1 ∙ ap answer (answer-injective (items .0) xs (sorted .1))
+  -- a reserved block has no entries
+  pub laid-reserved : 63 < f .level → laidEntries file f ≡ []
+  unfolding laidEntries
+  laid-reserved h = rw (not-data-level (f .level) (λ z. omega arith), reserved-level (f .level) h)
+
+-- ---- a block that was accepted
 
 module _ (file : List ℕ) (f : Frame) (within : f .end ≤ length file) where
   ends : length (take (f .end) file) ≡ f .end
@@ -64,24 +66,32 @@ module _ (file : List ℕ) (f : Frame) (within : f .end ≤ length file) where
   items-laid step textOf unsorted xs e =
       let s = take (f .end) file in
       ap (λ (n : ℕ). soundFrom (step (f .start) s) n (n - (f .body + 1)) (f .body + 1)) (sym ends)
-      ∙ items⇒sound (step (f .start) s) (length s) (length s - (f .body + 1)) (f .body + 1) xs (payload⇒items (step (f .start) s) textOf unsorted (f .start) (length s) (f .body + 1) xs e)
+      ∙ items⇒sound (step (f .start) s) (length s) (length s - (f .body + 1)) (f .body + 1) xs
+      (payload⁻¹ (step (f .start) s) textOf unsorted (f .start) (length s) (f .body + 1) xs e .items)
 
   -- the block in a frame
   pub inside⇒laid : (b : Block) → blockIn file f ≡ answer b → laidIn file f ≡ b
-  unfolding laidIn laidRecords laidEntries recordsAt entriesAt
-  inside⇒laid b e = by-data (isData (f .level)) refl
+  unfolding laidIn recordsAt entriesAt
+  inside⇒laid b e = go (level-of (f .level))
     where
-      by-ordinary : (o : Bool) → isOrdinary (f .level) ≡ o → isData (f .level) ≡ false → laidIn file f ≡ b
-      by-ordinary true o d =
-          let all = bind⁻¹ (entriesAt (f .start) (take (f .end) file) (f .body + 1)) _ b (sym (block-index file f d o) ∙ e) in
-          rw (d, o) (ap (λ (es : List Entry). record { frame = f; records = []; entries = es }) (items-laid entryAt (λ x. x .key) 21 (all .0) (all .1)) ∙ answer-injective _ b (all .2))
-      by-ordinary false o d = rw (d, o) (answer-injective _ b (sym (block-reserved file f d o) ∙ e))
+      joined : f ≡ b .frame → laidRecords file f ≡ b .records → laidEntries file f ≡ b .entries → laidIn file f ≡ b
+      joined frame records entries =
+          ap (λ (g : Frame). record { frame = g; records = laidRecords file f; entries = laidEntries file f }) frame
+          ∙ ap (λ (rs : List Text). record { frame = b .frame; records = rs; entries = laidEntries file f }) records
+          ∙ ap (λ (es : List Entry). record { frame = b .frame; records = b .records; entries = es }) entries
 
-      by-data : (d : Bool) → isData (f .level) ≡ d → laidIn file f ≡ b
-      by-data true d =
-          let all = bind⁻¹ (recordsAt (f .start) (take (f .end) file) (f .body + 1)) _ b (sym (block-data file f d) ∙ e) in
-          rw d (ap (λ (rs : List Text). record { frame = f; records = rs; entries = [] }) (items-laid textAt (λ x. x) 16 (all .0) (all .1)) ∙ answer-injective _ b (all .2))
-      by-data false d = by-ordinary (isOrdinary (f .level)) refl d
+      go : LevelOf (f .level) → laidIn file f ≡ b
+      go (is-data level) =
+          let r = inside-data file f b e level in
+          let l = laid-data file f level in
+          joined (sym (r .1)) (l .0 ∙ items-laid textAt (λ x. x) 16 (b .records) (r .0)) (l .1 ∙ sym (r .2))
+      go (is-index some few) =
+          let r = inside-index file f b e (λ z. omega arith) few in
+          let l = laid-index file f (λ z. omega arith) few in
+          joined (sym (r .1)) (l .0 ∙ sym (r .2)) (l .1 ∙ items-laid entryAt (λ x. x .key) 21 (b .entries) (r .0))
+      go (is-reserved many) =
+          let r = inside-reserved file f b e many in
+          joined (sym (r .0)) (laid-no-records file f (λ z. omega arith) ∙ sym (r .1)) (laid-reserved file f many ∙ sym (r .2))
 
 pub block⇒laid : (file : List ℕ) (at : ℕ) (b : Block) → blockAt file at ≡ answer b → laidAt file at ≡ answer (record { item = b; next = at + b .frame .size })
 block⇒laid file at b e =
@@ -95,20 +105,6 @@ unfolding blockStep
 step⇒laid file at s e =
     let all = bind⁻¹ (blockAt file at) _ s e in
     block⇒laid file at (all .0) (all .1) ∙ ap answer (answer-injective (record { item = all .0; next = at + all .0 .frame .size }) s (all .2))
-
--- where a second step reads all that the first one reads, it reads the same items
-items⇒sound-same : {A : Type 0} (step other : ℕ → Outcome (Step A)) (end : ℕ) → ((at : ℕ) (s : Step A) → step at ≡ answer s → other at ≡ answer s)
-    → (fuel at : ℕ) (xs : List A) → itemsFrom step end fuel at ≡ answer xs → soundFrom other end fuel at ≡ xs
-unfolding itemsFrom soundFrom
-items⇒sound-same step other end same zero at xs e = answer-injective [] xs e
-items⇒sound-same {A} step other end same (suc fuel) at xs e =
-    go xs (items⁻¹ step end fuel at xs e) (λ (s : Step A) (more : List A). items⇒sound-same step other end same fuel (s .next) more)
-  where
-    go : (ys : List A) → Read step end fuel at ys
-        → ((s : Step A) (more : List A) → itemsFrom step end fuel (s .next) ≡ answer more → soundFrom other end fuel (s .next) ≡ more)
-        → soundFrom other end (suc fuel) at ≡ ys
-    go ys (at-end h) rest = sound-end other end (suc fuel) at h
-    go ys (one-more s more h p r) rest = sound-step other end fuel at s h (same at s p) ∙ ap (λ (l : List A). s .item ∷ l) (rest s more r)
 
 -- of an accepted file the blocks as they lie are its blocks
 pub blocks⇒laid : (file : List ℕ) (from : ℕ) (bs : List Block) → blocksAt file from ≡ answer bs → laidFrom file from ≡ bs

@@ -20,10 +20,10 @@ use Rattle.part.proofs.PartLaws.{drop-take, drop-later, part-later, getD-inside
 use Rattle.items.proofs.ItemsLaws.{items-agree, sound-agree}
 use Rattle.framing.specs.declared.Frame.{Frame}
 use Rattle.framing.specs.Frame.{readAs, numberAt, framed, frameAt, crcRight, soundFrameAt}
-use Rattle.payload.specs.Payload.{Text, Entry, textAt, entryAt, entrySized, payloadAt, recordsAt, entriesAt, rising}
+use Rattle.payload.specs.Payload.{Text, textAt, entryAt, entrySized, payloadAt, recordsAt, entriesAt, rising}
+use Rattle.payload.proofs.ReadLaws.{text-forward, entry-forward}
 use Rattle.block.specs.Block.{Block, isData, isOrdinary, blockIn, blockAt}
 use Rattle.framing.proofs.FrameLaws.{numbered, number-read, Framed, frame⇒Framed, framed-found, framed⁻¹, frameOf, sound-frame, soundFrame⁻¹}
-use Rattle.payload.proofs.PayloadLaws.{text⇒Placed, entry⇒Entered}
 use Rattle.block.proofs.BlockLaws.{block⇒BlockRead}
 
 -- ---- byte strings of the same length that agree from an offset on
@@ -60,7 +60,7 @@ module _ (s t : List ℕ) (sized : length s ≡ length t) where
       (number-agree 15 place (offset .next) (after-offset (key .next) offset q k))))
     where
       after-key : (key : Step Text) → textAt place s at ≡ answer key → drop (key .next) s ≡ drop (key .next) t
-      after-key key p = let q = text⇒Placed place s at key p in let f = q .forward in let ends = q .ends in drop-later s t at (key .next) (omega arith) e
+      after-key key p = let f = text-forward place s at key p in drop-later s t at (key .next) (omega arith) e
 
       after-offset : (from : ℕ) (n : Step ℕ) → numberAt 15 place s from ≡ answer n → drop from s ≡ drop from t → drop (n .next) s ≡ drop (n .next) t
       after-offset from n p k = let f = numbered 15 place s from n p .forward in drop-later s t from (n .next) (omega arith) k
@@ -72,12 +72,6 @@ unfolding payloadAt
 payload-agree {A} step other textOf unsorted place end at forward same =
     ap (λ (o : Outcome (List A)). must (ltb at end) 15 place >> (o >>= λ xs. must (rising (map (λ x. textOf x .bytes) xs)) unsorted place >> answer xs))
     (items-agree step other end at forward same (end - at) at (omega arith))
-
-text-forward : (place : ℕ) (s : List ℕ) (at : ℕ) (x : Step Text) → textAt place s at ≡ answer x → at < x .next
-text-forward place s at x e = let p = text⇒Placed place s at x e in let f = p .forward in let ends = p .ends in omega arith
-
-entry-forward : (place : ℕ) (s : List ℕ) (at : ℕ) (x : Step Entry) → entryAt place s at ≡ answer x → at < x .next
-entry-forward place s at x e = entry⇒Entered place s at x e .forward
 
 module _ (s t : List ℕ) (sized : length s ≡ length t) (place at : ℕ) (e : drop at s ≡ drop at t) where
   texts-agree : (a : ℕ) → at ≤ a → textAt place s a ≡ textAt place t a

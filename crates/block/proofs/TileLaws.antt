@@ -9,9 +9,10 @@ use lib.ListN.{length}
 use Rattle.outcome.specs.Outcome.{answer}
 use Rattle.items.specs.Items.{Step}
 use Rattle.outcome.proofs.OutcomeLaws.{answer-injective, bind⁻¹}
-use Rattle.items.proofs.ItemsLaws.{Row, row-end, row-more, items⇒row, ReadFrom, row-member}
+use Rattle.items.proofs.ItemsLaws.{Row, row-end, row-more, items⇒row}
 use Rattle.lists.proofs.ListsLaws.{Ascending, AscendingIn, ascending-wider, ascending-append, ascending-all, ascending-unique, flatMap-member, member-flatMap}
 use Rattle.payload.specs.Payload.{Text}
+use Rattle.items.proofs.RunLaws.{ReadFrom, row-member}
 use Rattle.block.specs.Block.{Block, blockAt, blockStep, blocksAt}
 use Rattle.block.specs.Survey.{recordsOf}
 use Rattle.block.proofs.BlockLaws.{block⇒BlockRead}

@@ -7,7 +7,6 @@ use Prim.Native.Nat.{ℕ, zero, suc, _+_, _-_, _^_, _≤_, _<_}
 use native.Mathlib.Omega.{arith}
 use lib.Dec.{leb}
 use lib.ListN.{length, drop, length-append, length-drop}
-use lib.Seq.{append-snoc}
 use borrow.Author.Tests.{le-leb, lt-leb, leb-true, leb-false}
 use Rattle.byte_string.specs.Order.{begins}
 use Rattle.byte_string.proofs.PrefixLaws.{length-begins}
@@ -21,7 +20,7 @@ use Rattle.part.specs.Part.{part}
 use Rattle.part.proofs.PartLaws.{length-part}
 use Rattle.items.specs.Items.{soundFrom}
 use Rattle.items.proofs.ItemsLaws.{sound-end, sound-step, sound-refused}
-use Rattle.items.proofs.GoingLaws.{Going, going-start, going-end, going-refused, going-more}
+use Rattle.items.proofs.GoingLaws.{SoundProgress, sound-progress-start, sound-progress-end, sound-progress-refused, sound-progress-more}
 use Rattle.lists.proofs.ListsLaws.{flatMap-append}
 use Rattle.framing.specs.declared.Frame.{Frame}
 use Rattle.framing.specs.Frame.{frameAt}
@@ -56,29 +55,28 @@ holds-after file m s f h = go (isData (f .level))
 
 -- ---- the pass
 
--- blocks, and then these
-abbrev pub then-these : List Block → List Block → List Block
-then-these rest seen = seen ++ rest
-
 -- the blocks seen, which the state holds, and those to come
 pub record Passed (file : List ℕ) (from at : ℕ) (s : State) : Type 0 where
   pub seen : List Block
-  pub going : Going then-these (laidAt file) (length file) (laidFrom file from) at seen
+  pub going : SoundProgress (laidAt file) (length file) from at seen
   pub holds : Holds (payloads file seen) s
 
 pub passed-start : (file : List ℕ) (from : ℕ) → Passed file from from begun
-unfolding payloads flatMap laidFrom
-passed-start file from = record { seen = []; going = going-start _ _ _ _ from [] refl; holds = none }
+unfolding payloads flatMap
+passed-start file from = record { seen = []; going = sound-progress-start (laidAt file) (length file) from; holds = none }
 
 module _ (file : List ℕ) (from at : ℕ) (s : State) (p : Passed file from at s) where
-  all-seen : laidFrom file from ≡ p .seen ++ [] → Holds (payloads file (laidFrom file from)) s
-  all-seen e = subst (λ (l : List Block). Holds (payloads file l) s) (sym (e ∙ append-nil (p .seen))) (p .holds)
+  all-seen : laidFrom file from ≡ p .seen → Holds (payloads file (laidFrom file from)) s
+  all-seen e = subst (λ (l : List Block). Holds (payloads file l) s) (sym e) (p .holds)
 
   pub passed-end : length file ≤ at → Holds (payloads file (laidFrom file from)) s
-  passed-end h = all-seen (going-end _ _ _ _ at (p .seen) (p .going) h)
+  unfolding laidFrom
+  passed-end h = all-seen (sound-progress-end (laidAt file) (length file) from at (p .seen) (p .going) h)
 
   pub passed-refused : at < length file → (number place : ℕ) → frameAt file at ≡ refused number place → Holds (payloads file (laidFrom file from)) s
-  passed-refused h number place e = all-seen (going-refused _ _ _ _ at (p .seen) h (p .going) number place (laid-refused file at number place e))
+  unfolding laidFrom
+  passed-refused h number place e =
+      all-seen (sound-progress-refused (laidAt file) (length file) from at (p .seen) (p .going) h number place (laid-refused file at number place e))
 
   pub passed-more : at < length file → (f : Frame) → frameAt file at ≡ answer f → (next : State) → next ≡ stateAfter file s f
       → Passed file from (at + f .size) next
@@ -92,8 +90,8 @@ module _ (file : List ℕ) (from at : ℕ) (s : State) (p : Passed file from at 
       record {
         seen = p .seen ++ (b ∷ []);
         going =
-            going-more _ _ _ _ at (p .seen) h (p .going) (record { item = b; next = at + f .size }) (laid-found file at f e) (omega arith)
-            (p .seen ++ (b ∷ [])) (λ rest. sym (append-snoc (p .seen) b rest));
+            sound-progress-more (laidAt file) (length file) from at (p .seen) (p .going) (record { item = b; next = at + f .size }) h (laid-found file at f e)
+            (omega arith);
         holds =
             subst (Holds (payloads file (p .seen ++ (b ∷ [])))) (sym same)
             (subst (λ (m : List ℕ). Holds m (stateAfter file s f)) (sym (payloads-snoc file (p .seen) b)) (holds-after file (payloads file (p .seen)) s f (p .holds)));

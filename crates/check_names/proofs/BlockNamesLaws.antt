@@ -5,11 +5,11 @@ use mathlib.Core.Bool.{Bool, true, false}
 use mathlib.Core.List.{List, [], _∷_, _++_, flatMap, append-nil, List·Memᴰ}
 use Prim.Native.Nat.{ℕ, _+_, _-_, _%_, _^_, _≤_, _<_}
 use native.Mathlib.Omega.{arith}
-use lib.ListN.{length, getD, take, drop, drop-of-length-le}
+use lib.ListN.{length, getD, take, drop}
 use lib.Seq.{take-all}
 use Rattle.outcome.specs.Outcome.{answer, refused}
 use Rattle.outcome.specs.Refusal.{refusalOf}
-use Rattle.outcome.proofs.OutcomeLaws.{answer-injective, answer-not-refused, kept, broken}
+use Rattle.outcome.proofs.OutcomeLaws.{answer-injective, answer-not-refused, fault-none}
 use Rattle.items.specs.Items.{soundFrom}
 use Rattle.lists.proofs.ListsLaws.{flatMap-append}
 use Rattle.framing.specs.declared.Frame.{Frame}
@@ -19,6 +19,7 @@ use Rattle.block.specs.Block.{Block}
 use Rattle.block.specs.Survey.{ordinary}
 use Rattle.block.specs.Laid.{laidItems, laidFrom}
 use Rattle.tree.specs.Stages.{each, entriesFit}
+use Rattle.tree.proofs.StageLaws.{each-kept, each-broken, each-none}
 use Rattle.check_names.specs.Starts.{startsOf, startAt}
 use Rattle.check_names.specs.Names.{entriesOf, WordsKept, EntriesSeen, AllSeen}
 use Rattle.check_names.proofs.LaidNamesLaws.{LaidBlock, data-entries, index-entries}
@@ -60,25 +61,6 @@ module _ (file : List ℕ) (first : ℕ) (seen : List Entry) (work : List ℕ) (
         subst (λ (es : List Entry). EntriesSeen file first (b .frame .level) seen es later n r) (sym entries)
         (subst (λ (g : Frame). EntriesSeen file first (g .level) seen (laidItems file entryAt g) later n r) (sym same) (done first (f .start) seen k))
 
--- ---- a rule for each block
-
-module _ (rule : Block → Bool) (number : ℕ) where
-  pub each-kept : (l more : List Block) (b : Block) → l ≡ b ∷ more → rule b ≡ true → each rule number l ≡ each rule number more
-  unfolding each
-  each-kept l more b split e = ap (each rule number) split ∙ kept (rule b) number (b .frame .start) (each rule number more) e
-
-  pub each-broken : (l more : List Block) (b : Block) → l ≡ b ∷ more → rule b ≡ false → each rule number l ≡ refused number (b .frame .start)
-  unfolding each
-  each-broken l more b split e = ap (each rule number) split ∙ broken (rule b) number (b .frame .start) (each rule number more) e
-
-  pub each-none : (i : ℕ) (l : List Block) → length l ≤ i → each rule number (drop i l) ≡ answer tt
-  unfolding each
-  each-none i l h = ap (each rule number) (drop-of-length-le l h)
-
-pub no-fault : refusalOf (record { number = 0; place = 0 }) ≡ answer tt
-unfolding refusalOf
-no-fault = refl
-
 -- ---- 19: the pass over all blocks
 
 module _ (file work₀ : List ℕ) (n : ℕ) where
@@ -110,7 +92,7 @@ module _ (file work₀ : List ℕ) (n : ℕ) where
         let long = length-starts (laidFrom file first) in
         let all : length (blocks first) ≤ i = omega arith in
         record {
-          fault = no-fault ∙ sym (q .leads ∙ each-none (rule first) 19 i (blocks first) all);
+          fault = fault-none _ refl ∙ sym (q .leads ∙ each-none (rule first) 19 i (blocks first) all);
           kept = λ z. subst (λ (l : List Block). WordsKept file first (entriesOf l) work n) (take-all i (blocks first) all) (q .kept);
         }
 

@@ -17,12 +17,13 @@ use Rattle.block.specs.Survey.{ordinary}
 use Rattle.block.specs.Laid.{laidFrom}
 use Rattle.tree.specs.Tree.{namings}
 use Rattle.tree.specs.Stages.{each, namedRightly}
+use Rattle.outcome.proofs.OutcomeLaws.{fault-none}
+use Rattle.tree.proofs.StageLaws.{each-kept, each-broken, each-none}
 use Rattle.check_names.specs.Starts.{startsOf, startAt}
 use Rattle.check_names.specs.Names.{entriesOf, timesNamed, upToTwo, WordsKept}
 use Rattle.check_names.proofs.LaidNamesLaws.{laid-member, reserved-entries}
 use Rattle.check_names.proofs.StartsLaws.{AtIndex, length-starts}
 use Rattle.check_names.proofs.WordLaws.{kept-block, kept-start-at, kept-count}
-use Rattle.check_names.proofs.BlockNamesLaws.{each-kept, each-broken, each-none, no-fault}
 
 -- all entries are those of ordinary blocks
 file-entries : (file : List ℕ) (from : ℕ) → entriesOf (ordinary (laidFrom file from)) ≡ entriesOf (laidFrom file from)
@@ -74,7 +75,7 @@ module _ (work : List ℕ) (n root : ℕ) where
     counting-end past file first k =
         let many = k .many in
         let long = length-starts (laidFrom file first) in
-        no-fault ∙ sym (p .leads file first k ∙ each-none (rule file first) 20 i (blocks file first) (omega arith))
+        fault-none _ refl ∙ sym (p .leads file first k ∙ each-none (rule file first) 20 i (blocks file first) (omega arith))
 
     module _ (inside : i < n) (file : List ℕ) (first : ℕ) (k : WordsKept file first (entriesOf (blocks file first)) work n) where
       its-block : AtIndex (blocks file first) i

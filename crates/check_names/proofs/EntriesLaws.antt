@@ -8,16 +8,15 @@ use native.Mathlib.Omega.{arith}
 use lib.ListN.{length, getD, set, take, length-set}
 use Rattle.outcome.specs.Outcome.{Outcome, answer, refused}
 use Rattle.items.specs.Items.{Step, soundFrom}
+use Rattle.items.proofs.GoingLaws.{SoundProgress, sound-progress-start, sound-progress-more, sound-progress-next, sound-progress-end, sound-progress-refused}
 use Rattle.lists.specs.Lists.{all}
+use Rattle.lists.proofs.ListsLaws.{all-append}
 use Rattle.payload.specs.Payload.{Entry, entryAt}
-use Rattle.payload.proofs.PayloadLaws.{entry⇒Entered}
+use Rattle.payload.proofs.ReadLaws.{entry-forward}
 use Rattle.block.specs.Laid.{laidFrom}
 use Rattle.tree.specs.Tree.{names}
 use Rattle.check_names.specs.Names.{marked, WordsKept, Named, EntriesSeen}
-use Rattle.check_names.proofs.SoundItemsLaws.{SoundProgress, sound-progress-start, sound-progress-more, sound-progress-next}
-use Rattle.check_names.proofs.SoundItemsLaws.{sound-progress-end, sound-progress-refused}
 use Rattle.check_names.proofs.WordLaws.{kept-mark}
-use Rattle.check_names.proofs.EntryLaws.{all-append}
 
 -- no entries, nothing seen
 pub none-seen : (file : List ℕ) (from level : ℕ) (seen es : List Entry) (work : List ℕ) (n : ℕ) → WordsKept file from seen work n → es ≡ []
@@ -84,7 +83,7 @@ module _ (file : List ℕ) (level from end : ℕ) (work₀ : List ℕ) (n : ℕ)
     module _ (inside : at < end) (s : Step Entry) (reads : (place : ℕ) → stepAt place at ≡ answer s) (i : ℕ)
         (named : (first : ℕ) (seen : List Entry) → WordsKept file first seen work n → Named (laidFrom file first) level (s .item) n i) where
       forward : at < s .next
-      forward = entry⇒Entered 0 (take end file) at s (reads 0) .forward
+      forward = entry-forward 0 (take end file) at s (reads 0)
 
       -- the entry names no fitting block
       pub marked-unfit : n ≤ i → (first place : ℕ) (seen : List Entry) → WordsKept file first seen work₀ n

@@ -1,15 +1,11 @@
 -- Laws of one entry: whether it names a fitting block, as the search and the frame there tell.
 -- Assumes nothing.
-use mathlib.Core.Path.{_≡_, refl, sym, ap, _∙_}
-use mathlib.Core.Bool.{Bool, true, false, _&&_, _||_}
-use mathlib.Core.List.{List, [], _∷_, _++_, List·Memᴰ, List·Memᴰ·head, List·Memᴰ·tail}
+use mathlib.Core.Path.{_≡_, sym, ap, _∙_}
+use mathlib.Core.List.{List, List·Memᴰ}
 use Prim.Native.Nat.{ℕ, _+_, _≤_, _<_}
 use native.Mathlib.Omega.{arith}
-use lib.Dec.{eqb}
 use lib.ListN.{getD}
-use borrow.Author.Tests.{eq-eqb, eqb-true}
 use Rattle.outcome.specs.Outcome.{answer, refused}
-use Rattle.lists.specs.Lists.{any, all}
 use Rattle.outcome.proofs.OutcomeLaws.{answer-injective, answer-not-refused}
 use Rattle.framing.specs.declared.Frame.{Frame}
 use Rattle.framing.specs.Frame.{frameAt}
@@ -18,52 +14,11 @@ use Rattle.block.specs.Block.{Block}
 use Rattle.block.specs.Survey.{ordinary}
 use Rattle.block.specs.Laid.{laidFrom}
 use Rattle.tree.specs.Tree.{names}
-use Rattle.lists.proofs.ListsLaws.{member-any}
+use Rattle.tree.proofs.StageLaws.{names-true, names-false}
 use Rattle.check_names.specs.Starts.{startsOf, StartsRise, Located}
 use Rattle.check_names.specs.Names.{WordsKept, Named}
 use Rattle.check_names.proofs.StartsLaws.{AtIndex, index-of, length-starts, ordinary-laid, ordinary-unique}
 use Rattle.check_names.proofs.WordLaws.{kept-block, kept-start-at, kept-rise}
-
--- ---- lists
-
-module _ {A : Type 0} (test : A → Bool) where
-  pub any-false : (xs : List A) → ((x : A) → List·Memᴰ x xs → test x ≡ false) → any test xs ≡ false
-  unfolding any
-  any-false [] h = refl
-  any-false (y ∷ xs) h = ap (λ (b : Bool). b || any test xs) (h y (List·Memᴰ·head refl)) ∙ any-false xs (λ x m. h x (List·Memᴰ·tail m))
-
-  pub all-append : (xs ys : List A) → all test (xs ++ ys) ≡ (all test xs && all test ys)
-  unfolding all
-  all-append [] ys = refl
-  all-append (x ∷ xs) ys = ap (λ (b : Bool). test x && b) (all-append xs ys) ∙ assoc (test x)
-    where
-      assoc : (b : Bool) → (b && (all test xs && all test ys)) ≡ ((b && all test xs) && all test ys)
-      assoc true = refl
-      assoc false = refl
-
--- ---- the definition
-
-pub names-true : (bs : List Block) (level : ℕ) (e : Entry) (c : Block) → List·Memᴰ c (ordinary bs)
-    → c .frame .start ≡ e .offset → c .frame .size ≡ e .size → c .frame .level + 1 ≡ level → names bs level e ≡ true
-unfolding names
-names-true bs level e c m start size lower =
-    member-any _ (ordinary bs) c m
-    (rw (eq-eqb (c .frame .start) (e .offset) start, eq-eqb (c .frame .size) (e .size) size, eq-eqb (c .frame .level + 1) level lower))
-
-pub names-false : (bs : List Block) (level : ℕ) (e : Entry)
-    → ((c : Block) → List·Memᴰ c (ordinary bs) → c .frame .start ≡ e .offset → c .frame .size ≡ e .size → c .frame .level + 1 ≡ level → ⊥)
-    → names bs level e ≡ false
-unfolding names
-names-false bs level e none =
-    any-false _ (ordinary bs)
-    (λ c m. not-all (eqb (c .frame .start) (e .offset)) (eqb (c .frame .size) (e .size)) (eqb (c .frame .level + 1) level)
-    (λ x y z. none c m (eqb-true (c .frame .start) (e .offset) x) (eqb-true (c .frame .size) (e .size) y) (eqb-true (c .frame .level + 1) level z)))
-  where
-    not-all : (x y z : Bool) → (x ≡ true → y ≡ true → z ≡ true → ⊥) → ((x && y) && z) ≡ false
-    not-all true true true h = absurd (h refl refl refl)
-    not-all true true false h = refl
-    not-all true false z h = refl
-    not-all false y z h = refl
 
 -- ---- the test of the code
 

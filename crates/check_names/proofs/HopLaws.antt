@@ -13,6 +13,7 @@ use Rattle.lists.specs.Lists.{keep}
 use Rattle.output_list.specs.OutputList.{withNumber}
 use Rattle.output_list.proofs.OutputListLaws.{place-some, length-withNumber}
 use Rattle.outcome.specs.Outcome.{answer, refused}
+use Rattle.items.proofs.GoingLaws.{SoundProgress, sound-progress-start, sound-progress-more, sound-progress-end, sound-progress-refused}
 use Rattle.framing.specs.declared.Frame.{Frame}
 use Rattle.framing.specs.Frame.{frameAt}
 use Rattle.framing.proofs.FrameLaws.{frame⇒Framed}
@@ -21,7 +22,6 @@ use Rattle.block.specs.Survey.{ordinary}
 use Rattle.block.specs.Laid.{laidIn, laidAt, laidFrom}
 use Rattle.block.proofs.LaidLaws.{laid-found, laid-refused}
 use Rattle.check_names.specs.Starts.{startsOf, Begins}
-use Rattle.check_names.proofs.SoundItemsLaws.{SoundProgress, sound-progress-start, sound-progress-more, sound-progress-end, sound-progress-refused}
 use Rattle.check_names.proofs.LaidNamesLaws.{laid-forward}
 use Rattle.check_names.proofs.StartsLaws.{starts-ordinary, starts-reserved, length-starts}
 

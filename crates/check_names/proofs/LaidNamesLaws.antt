@@ -1,7 +1,6 @@
 -- Laws of the blocks as they lie in a file: each has the frame at its start and the items of that frame, and their starts ascend.
 -- Assumes nothing.
 use mathlib.Core.Path.{_≡_, refl, sym, ap, _∙_, subst}
-use mathlib.Core.Bool.{Bool, true, false, _&&_, cond, not}
 use mathlib.Core.List.{List, [], map, List·Memᴰ}
 use Prim.Native.Nat.{ℕ, _+_, _-_, _≤_, _<_}
 use native.Mathlib.Omega.{arith}
@@ -9,16 +8,14 @@ use lib.ListN.{length}
 use Rattle.outcome.specs.Outcome.{answer}
 use Rattle.outcome.proofs.OutcomeLaws.{answer-injective, bind⁻¹}
 use Rattle.items.specs.Items.{Step}
-use Rattle.items.proofs.ItemsLaws.{ReadFrom}
+use Rattle.items.proofs.RunLaws.{Run, run-end, run-more, sound⇒run, ReadFrom, run-member}
 use Rattle.lists.proofs.ListsLaws.{Ascending, AscendingIn, ascending-wider, ascending-all}
 use Rattle.framing.specs.Frame.{frameAt}
 use Rattle.framing.proofs.FrameLaws.{frame⇒Framed}
 use Rattle.payload.specs.Payload.{entryAt}
-use Rattle.block.specs.Block.{Block, isData}
+use Rattle.block.specs.Block.{Block}
 use Rattle.block.specs.Laid.{laidItems, laidEntries, laidIn, laidAt, laidFrom}
-use Rattle.block.proofs.BlockLaws.{reserved-level}
-use Rattle.block.proofs.LaidLaws.{laid-data, laid-index}
-use Rattle.check_names.proofs.SoundItemsLaws.{Run, run-end, run-more, sound⇒run, run-member}
+use Rattle.block.proofs.LaidLaws.{laid-data, laid-index, laid-reserved}
 
 module _ (file : List ℕ) where
   -- ---- one block
@@ -76,12 +73,7 @@ module _ (file : List ℕ) where
     data-entries level = entries-are ∙ laid-data file (b .frame) level .1
 
     pub reserved-entries : 63 < b .frame .level → b .entries ≡ []
-    unfolding laidEntries
-    reserved-entries level = entries-are ∙ rw (reserved-level (b .frame .level) level) (neither (isData (b .frame .level)))
-      where
-        neither : (d : Bool) → cond (not d && false) (laidItems file entryAt (b .frame)) [] ≡ []
-        neither true = refl
-        neither false = refl
+    reserved-entries level = entries-are ∙ laid-reserved file (b .frame) level
 
     -- those of an index block are the items of its payload
     pub index-entries : (b .frame .level ≡ 0 → ⊥) → b .frame .level ≤ 63 → b .entries ≡ laidItems file entryAt (b .frame)

@@ -1,5 +1,4 @@
 -- What the code of refusals 18, 19 and 20 rests on.
-pub mod SoundItemsLaws
 pub mod LaidNamesLaws
 pub mod SearchLaws
 pub mod StartsLaws

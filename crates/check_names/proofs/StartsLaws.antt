@@ -8,14 +8,14 @@ use Prim.Native.Nat.{ℕ, zero, suc, _+_, _≤_, _<_}
 use native.Mathlib.Omega.{arith}
 use native.Mathlib.Numerals.{add-one}
 use lib.ListN.{length, getD, drop, take, length-map}
-use borrow.Author.Tests.{leb-true}
 use Rattle.lists.specs.Lists.{keep}
-use Rattle.lists.proofs.ListsLaws.{keep-append, keep-member, Ascending, ascending-unique}
+use Rattle.lists.proofs.ListsLaws.{keep-append, Ascending, ascending-unique}
 use Rattle.lists.proofs.RisingLaws.{ascending-keep}
 use Rattle.block.specs.Block.{Block, isOrdinary}
 use Rattle.block.specs.Survey.{ordinary}
 use Rattle.block.specs.Laid.{laidFrom}
 use Rattle.block.proofs.BlockLaws.{ordinary-level, reserved-level}
+use Rattle.tree.proofs.StageLaws.{ordinary-member}
 use Rattle.check_names.specs.Starts.{startsOf}
 use Rattle.check_names.proofs.LaidNamesLaws.{LaidBlock, laid-member, laid-ascend}
 
@@ -89,12 +89,10 @@ module _ (file : List ℕ) (from : ℕ) where
 
   module _ (b : Block) (m : List·Memᴰ b (ordinary (laidFrom file from))) where
     pub ordinary-laid : LaidBlock file b
-    unfolding ordinary
-    ordinary-laid = laid-member file from b (keep-member (λ c. isOrdinary (c .frame .level)) (laidFrom file from) b m .0)
+    ordinary-laid = laid-member file from b (ordinary-member (laidFrom file from) b m .0)
 
     pub ordinary-level-of : b .frame .level ≤ 63
-    unfolding ordinary isOrdinary
-    ordinary-level-of = leb-true (b .frame .level) 63 (keep-member (λ c. isOrdinary (c .frame .level)) (laidFrom file from) b m .1)
+    ordinary-level-of = ordinary-member (laidFrom file from) b m .1
 
     -- ordinary blocks with the same start are the same
     pub ordinary-unique : (c : Block) → List·Memᴰ c (ordinary (laidFrom file from)) → b .frame .start ≡ c .frame .start → b ≡ c

@@ -2,22 +2,23 @@
 -- Assumes nothing.
 use mathlib.Core.Path.{_≡_, refl, sym, ap, _∙_, subst}
 use mathlib.Core.Logic.{_≢_, _⊎_, inl, inr}
-use mathlib.Core.Bool.{Bool, true, false, _&&_, _||_, cond}
+use mathlib.Core.Bool.{Bool, true, false, _||_, cond, false≢true}
 use mathlib.Core.List.{List, [], _∷_, _++_, map, List·Memᴰ, List·Memᴰ·head, List·Memᴰ·tail, List·Memᴰ·not-nil, List·Memᴰ·cases-cons, List·Memᴰ·append-cases, List·Memᴰ·eq-of-singleton, Memᴰ·append-left, Memᴰ·append-right}
 use Prim.Native.Nat.{ℕ, zero, suc, _-_, _≤_, _<_}
 use native.Mathlib.Omega.{arith}
 use lib.Dec.{ltb, eqb}
-use borrow.Author.Tests.{eqb-true, eqb-false, ltb-true, ltb-false, leb-true, le-leb}
+use borrow.Author.Tests.{eqb-true, eqb-false, ltb-true, ltb-false}
 use Rattle.outcome.specs.Outcome.{answer, _>>_, must}
 use Rattle.lists.specs.Lists.{all}
 use Rattle.outcome.proofs.OutcomeLaws.{kept, broken}
-use Rattle.lists.proofs.ListsLaws.{Ascending, false-not-true, below-member, flatMap-member, member-flatMap, all-member, keep-member, member-keep}
+use Rattle.lists.proofs.ListsLaws.{Ascending, below-member, flatMap-member, member-flatMap, not-all, false-all}
 use Rattle.lists.proofs.RisingLaws.{member-split, split-member, ascending-keep}
 use Rattle.payload.specs.Payload.{Entry}
 use Rattle.block.specs.Block.{Block, isOrdinary}
 use Rattle.block.specs.Survey.{ordinary}
 use Rattle.tree.specs.Tree.{blockEntries, blockLevel, under, keyFits}
 use Rattle.tree.specs.Stages.{each, keysFit}
+use Rattle.tree.proofs.StageLaws.{ordinary-member, member-ordinary}
 use Rattle.check_walk.specs.Keys.{earlier}
 use Rattle.check_walk.specs.Walk.{placeSaid}
 use Rattle.check_walk.proofs.WalkedLaws.{said-none, said-place}
@@ -101,7 +102,7 @@ each-first rule number (x ∷ xs) m rise some f = go (rule x) refl (each-first r
         by (y, i, s, k) = at (List·Memᴰ·cases-cons i)
           where
             at : (y ≡ x) ⊎ List·Memᴰ y xs → (z : Block) × List·Memᴰ z xs × (z .frame .start ≡ m) × (rule z ≡ false)
-            at (inl same) = absurd (false-not-true (sym (ap rule (sym same) ∙ k) ∙ e))
+            at (inl same) = absurd (false≢true (sym (ap rule (sym same) ∙ k) ∙ e))
             at (inr inside) = (y, inside, s, k)
 
     place : rule x ≡ false → x .frame .start ≡ m
@@ -112,7 +113,7 @@ each-first rule number (x ∷ xs) m rise some f = go (rule x) refl (each-first r
         at y (inr inside) s = let a = later y inside in let b = f .least x (List·Memᴰ·head refl) e in absurd (omega arith)
 
         go : (b : Bool) → eqb m 0 ≡ b → x .frame .start ≡ m
-        go true p = absurd (false-not-true (sym e ∙ f .none (eqb-true m 0 p) x (List·Memᴰ·head refl)))
+        go true p = absurd (false≢true (sym e ∙ f .none (eqb-true m 0 p) x (List·Memᴰ·head refl)))
         go false p = let w = f .broken-by (eqb-false m 0 p) in at (w .0) (List·Memᴰ·cases-cons (w .1)) (w .2)
 
     go : (b : Bool) → rule x ≡ b → (First rule xs m → each rule number xs ≡ placeSaid number m)
@@ -124,23 +125,6 @@ each-first rule number (x ∷ xs) m rise some f = go (rule x) refl (each-first r
         ∙ ap (placeSaid number) (place e)
 
 -- ---- the misfits of a tree
-
-not-all : {A : Type 0} (test : A → Bool) (xs : List A) → all test xs ≡ false → (x : A) × List·Memᴰ x xs × (test x ≡ false)
-unfolding all
-not-all test [] h = absurd (false-not-true (sym h))
-not-all {A} test (x ∷ xs) h = go (test x) refl h (not-all test xs)
-  where
-    go : (b : Bool) → test x ≡ b → (b && all test xs) ≡ false → (all test xs ≡ false → (y : A) × List·Memᴰ y xs × (test y ≡ false))
-        → (y : A) × List·Memᴰ y (x ∷ xs) × (test y ≡ false)
-    go true e k rest = let r = rest k in (r .0, List·Memᴰ·tail (r .1), r .2)
-    go false e k rest = (x, List·Memᴰ·head refl, e)
-
-false-all : {A : Type 0} (test : A → Bool) (xs : List A) (x : A) → List·Memᴰ x xs → test x ≡ false → all test xs ≡ false
-false-all test xs x m e = go (all test xs) refl
-  where
-    go : (b : Bool) → all test xs ≡ b → b ≡ false
-    go true p = absurd (false-not-true (sym e ∙ all-member test xs p x m))
-    go false p = refl
 
 -- a block of the file with a key that does not fit
 pub record Misfit (bs : List Block) (y : ℕ) : Type 0 where
@@ -215,7 +199,7 @@ module _ (bs : List Block) (root : ℕ) (t : Tree bs root) where
   unfolding ordinary isOrdinary
   keys-first some =
       each-first (keysFit bs) 24 (ordinary bs) l (ascending-keep (λ b. b .frame .start) (λ b. isOrdinary (b .frame .level)) bs (t .rise))
-      (λ x i. some x (keep-member (λ b. isOrdinary (b .frame .level)) bs x i .0))
+      (λ x i. some x (ordinary-member bs x i .0))
       (record { none = none; broken-by = by; least = least })
     where
       all-misfits : List ℕ
@@ -230,22 +214,21 @@ module _ (bs : List Block) (root : ℕ) (t : Tree bs root) where
       q : Least 0 all-misfits l
       q = leastOf-least 0 all-misfits (λ y i z. let b = bad y i in some (b .block) (b .member) (b .starts ∙ z))
 
-      few : (x : Block) → List·Memᴰ x (ordinary bs) → List·Memᴰ x bs × (x .frame .level ≤ 63)
-      few x i = let k = keep-member (λ b. isOrdinary (b .frame .level)) bs x i in (k .0, leb-true (x .frame .level) 63 (k .1))
-
       none : l ≡ 0 → (x : Block) → List·Memᴰ x (ordinary bs) → keysFit bs x ≡ true
       none z x i = go (keysFit bs x) refl
         where
           go : (b : Bool) → keysFit bs x ≡ b → b ≡ true
           go true e = refl
-          go false e = absurd (List·Memᴰ·not-nil (subst (List·Memᴰ (x .frame .start)) (q .none z .1) (wrong-misfits x (few x i .0) (few x i .1) e)))
+          go false e =
+              let o = ordinary-member bs x i in
+              absurd (List·Memᴰ·not-nil (subst (List·Memᴰ (x .frame .start)) (q .none z .1) (wrong-misfits x (o .0) (o .1) e)))
 
       by : l ≢ 0 → (x : Block) × List·Memᴰ x (ordinary bs) × (x .frame .start ≡ l) × (keysFit bs x ≡ false)
       by h = go (q .one h)
         where
           go : (l ≡ 0) ⊎ List·Memᴰ l all-misfits → (x : Block) × List·Memᴰ x (ordinary bs) × (x .frame .start ≡ l) × (keysFit bs x ≡ false)
           go (inl z) = absurd (h z)
-          go (inr i) = let b = bad l i in (b .block, member-keep (λ c. isOrdinary (c .frame .level)) bs (b .block) (b .member) (le-leb (b .block .frame .level) 63 (b .few)), b .starts, b .wrong)
+          go (inr i) = let b = bad l i in (b .block, member-ordinary bs (b .block) (b .member) (b .few), b .starts, b .wrong)
 
       least : (x : Block) → List·Memᴰ x (ordinary bs) → keysFit bs x ≡ false → l ≤ x .frame .start
-      least x i e = q .least (x .frame .start) (wrong-misfits x (few x i .0) (few x i .1) e)
+      least x i e = let o = ordinary-member bs x i in q .least (x .frame .start) (wrong-misfits x (o .0) (o .1) e)

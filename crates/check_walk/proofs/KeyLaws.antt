@@ -100,12 +100,6 @@ lent-at-most file x y r e =
     ∙ ap (λ (l : List ℕ). atMost l (take (endOf y - y .offset) (drop (y .offset) file))) (lent-part file (x .offset) (x .length))
     ∙ ap (atMost (part file (x .offset) (x .length))) (lent-part file (y .offset) (y .length))
 
-pub both-true : (a b r : Bool) → a ≡ true → r ≡ b → r ≡ (a && b)
-both-true a b r h k = rw h k
-
-pub both-false : (a b : Bool) → a ≡ false → false ≡ (a && b)
-both-false a b h = rw h
-
 -- ---- an entry
 
 pub entry-is : (file : List ℕ) (at : ℕ) (key : List ℕ) (before child : Keys) (span : Span) (m : ℕ) → span ≡ spanJoined (before .span) (child .span)

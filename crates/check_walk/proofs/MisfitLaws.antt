@@ -10,7 +10,7 @@ use Rattle.byte_string.specs.Order.{atMost}
 use Rattle.byte_string.proofs.OrderLaws.{nil-atMost, atMost-trans}
 use Rattle.outcome.specs.Outcome.{answer}
 use Rattle.lists.specs.Lists.{all}
-use Rattle.lists.proofs.ListsLaws.{Ascending, flatMap-append, all-member, member-all}
+use Rattle.lists.proofs.ListsLaws.{Ascending, flatMap-append, all-member, member-all, same-tests}
 use Rattle.payload.specs.Payload.{Text, Entry, risingFrom}
 use Rattle.block.specs.Block.{Block, blocksAt}
 use Rattle.block.specs.Survey.{recordsOf}
@@ -22,7 +22,7 @@ use Rattle.check_walk.specs.Keys.{earlier, fitsBetween, entryKeys, overK
 use Rattle.check_walk.proofs.AscentLaws.{walk-entries}
 use Rattle.check_walk.proofs.SpanLaws.{lastBytes, lastBytes-append, Spans}
 use Rattle.check_walk.proofs.WalkLaws.{recordsAll, Met, met-last, met-entry, met-entering, walk-met}
-use Rattle.check_walk.proofs.NeighbourLaws.{same-tests, from-each, last-of}
+use Rattle.check_walk.proofs.NeighbourLaws.{from-each, last-of}
 use Rattle.tree.proofs.TreeLaws.{Tree}
 use Rattle.tree.proofs.TreeWays.{Way, by-entry, leavesBefore, pre, records-cut, way-block, under-some}
 use Rattle.tree.proofs.TreeWays.{Met as MetBlock}

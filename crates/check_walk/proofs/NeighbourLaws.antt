@@ -3,7 +3,7 @@
 use mathlib.Core.Path.{_≡_, refl, sym, ap, _∙_}
 use mathlib.Core.Logic.{_≢_, _⊎_, inl, inr}
 use mathlib.Core.Bool.{Bool, true, false, _&&_, not, cond}
-use mathlib.Core.List.{List, [], _∷_, _++_, map, flatMap, List·Memᴰ, List·Memᴰ·head, List·Memᴰ·tail, List·Memᴰ·not-nil, List·Memᴰ·cases-cons}
+use mathlib.Core.List.{List, [], _∷_, _++_, map, flatMap, List·Memᴰ, List·Memᴰ·head, List·Memᴰ·tail, List·Memᴰ·not-nil, List·Memᴰ·cases-cons, Memᴰ·map}
 use Prim.Native.Nat.{ℕ, _<_}
 use native.Mathlib.Omega.{arith}
 use lib.ListN.{length}
@@ -13,22 +13,16 @@ use Rattle.byte_string.proofs.OrderLaws.{atMost-refl, atMost-trans, nil-atMost}
 use Rattle.outcome.specs.Outcome.{_>>_, must}
 use Rattle.lists.specs.Lists.{all}
 use Rattle.outcome.proofs.OutcomeLaws.{kept, broken}
-use Rattle.lists.proofs.ListsLaws.{both⁻¹, all-member, member-all}
+use Rattle.lists.proofs.ListsLaws.{both⁻¹, all-member, member-all, same-tests}
 use Rattle.payload.specs.Payload.{Text, rising, risingFrom}
 use Rattle.block.specs.Block.{Block}
 use Rattle.tree.specs.Tree.{blockRecords}
 use Rattle.tree.specs.Stages.{allAtMost, neighboursOf, neighbours}
+use Rattle.payload.proofs.ScanLaws.{risingFrom-each}
 use Rattle.check_walk.specs.Walk.{placeSaid}
 use Rattle.check_walk.proofs.SpanLaws.{lastBytes}
 use Rattle.check_walk.proofs.WalkedLaws.{said-none, said-place}
 use Rattle.check_walk.proofs.WalkLaws.{firstFits, outOf, recordsAll}
-
--- two tests that imply each other
-pub same-tests : (a b : Bool) → (a ≡ true → b ≡ true) → (b ≡ true → a ≡ true) → a ≡ b
-same-tests true true h k = refl
-same-tests true false h k = sym (h refl)
-same-tests false true h k = k refl
-same-tests false false h k = refl
 
 -- ---- records that rise
 
@@ -50,17 +44,6 @@ from-each x (q ∷ rs) h r m =
         → (List·Memᴰ r rs → atMost (r .bytes) (lastBytes (q .bytes) rs) ≡ true) → atMost (r .bytes) (lastBytes (q .bytes) rs) ≡ true
     go (inl same) k rest = ap (λ (s : Text). atMost (s .bytes) (lastBytes (q .bytes) rs)) same ∙ from-last (q .bytes) rs k
     go (inr inside) k rest = rest inside
-
-from-first : (x : List ℕ) (rs : List Text) → risingFrom x (map (λ r. r .bytes) rs) ≡ true → (r : Text) → List·Memᴰ r rs → atMost x (r .bytes) ≡ true
-unfolding risingFrom
-from-first x [] h r m = absurd (List·Memᴰ·not-nil m)
-from-first x (q ∷ rs) h r m =
-    let p = both⁻¹ (atMost x (q .bytes)) (risingFrom (q .bytes) (map (λ s. s .bytes) rs)) h in
-    go (List·Memᴰ·cases-cons m) (p .0) (λ (i : List·Memᴰ r rs). from-first (q .bytes) rs (p .1) r i)
-  where
-    go : (r ≡ q) ⊎ List·Memᴰ r rs → atMost x (q .bytes) ≡ true → (List·Memᴰ r rs → atMost (q .bytes) (r .bytes) ≡ true) → atMost x (r .bytes) ≡ true
-    go (inl same) k rest = ap (λ (s : Text). atMost x (s .bytes)) same ∙ k
-    go (inr inside) k rest = atMost-trans x (q .bytes) (r .bytes) k (rest inside)
 
 -- the last is one of them
 pub last-of : (x : Text) (rs : List Text) → (r : Text) × List·Memᴰ r (x ∷ rs) × (lastBytes (x .bytes) rs ≡ r .bytes)
@@ -88,7 +71,7 @@ all-pairs (x ∷ xs) (y ∷ ys) some more h k = same-tests (all (λ r. all (λ s
 
     high : (s : Text) → (s ≡ y) ⊎ List·Memᴰ s ys → atMost (y .bytes) (s .bytes) ≡ true
     high s (inl same) = ap (λ (q : Text). atMost (y .bytes) (q .bytes)) same ∙ atMost-refl (y .bytes)
-    high s (inr inside) = from-first (y .bytes) ys k s inside
+    high s (inr inside) = risingFrom-each (y .bytes) (map (λ q. q .bytes) ys) k (s .bytes) (Memᴰ·map (λ (q : Text). q .bytes) inside)
 
     back : atMost (lastBytes (x .bytes) xs) (y .bytes) ≡ true → all (λ r. all (λ s. atMost (r .bytes) (s .bytes)) (y ∷ ys)) (x ∷ xs) ≡ true
     back e = member-all (λ r. all (λ s. atMost (r .bytes) (s .bytes)) (y ∷ ys)) (x ∷ xs)

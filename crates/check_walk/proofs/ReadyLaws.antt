@@ -2,18 +2,18 @@
 -- Assumes nothing.
 use mathlib.Core.Path.{_≡_, refl, sym, ap, _∙_, subst}
 use mathlib.Core.Logic.{_≢_}
-use mathlib.Core.Bool.{Bool, true, false, cond}
+use mathlib.Core.Bool.{Bool, true, false}
 use mathlib.Core.List.{List, [], map, flatMap, List·Memᴰ, Memᴰ·of-map}
 use Prim.Native.Nat.{ℕ, _+_, _≤_, _<_}
 use native.Mathlib.Omega.{arith}
 use lib.Dec.{eqb}
 use lib.ListN.{length}
-use borrow.Author.Tests.{eqb-true, eqb-false, eq-eqb, ne-eqb}
+use borrow.Author.Tests.{eqb-true, eqb-false}
 use Rattle.outcome.specs.Outcome.{Outcome, answer, refused, _>>_}
 use Rattle.part.specs.Part.{part}
 use Rattle.lists.specs.Lists.{keep}
 use Rattle.outcome.proofs.OutcomeLaws.{after-answer, after-refused}
-use Rattle.lists.proofs.ListsLaws.{Ascending, all-member, keep-member}
+use Rattle.lists.proofs.ListsLaws.{Ascending, keep-member}
 use Rattle.framing.specs.Frame.{frameAt}
 use Rattle.payload.specs.Payload.{Text, Entry, rising, risingFrom}
 use Rattle.block.specs.Block.{Block, isData, blocksAt}
@@ -21,9 +21,9 @@ use Rattle.block.specs.Survey.{ordinary, recordsOf}
 use Rattle.block.proofs.HeldLaws.{block-frame, entry⇒index, data-some, records-rising}
 use Rattle.block.proofs.TileLaws.{blocks-read, ReadBlock, file-records-all}
 use Rattle.check_walk.specs.declared.keys.Keys.{Keys}
-use Rattle.tree.specs.Tree.{blockLevel, names, namings, leaves, under, blockRecords}
-use Rattle.tree.specs.Stages.{each, entriesFit, namedRightly, ascending, neighbours, keysFit, namingOf, walkRulesOf}
-use Rattle.tree.proofs.StageLaws.{each-member, member-ordinary, names⁻¹, ascending⁻¹, naming⁻¹}
+use Rattle.tree.specs.Tree.{blockLevel, leaves, under, blockRecords}
+use Rattle.tree.specs.Stages.{each, ascending, neighbours, keysFit, namingOf, walkRulesOf}
+use Rattle.tree.proofs.StageLaws.{ascending⁻¹, naming⁻¹, fit⁻¹, rightly⇒once, rightly⇒unnamed}
 use Rattle.tree.proofs.TreeLaws.{Tree, level-at, records-at}
 use Rattle.tree.proofs.TreeWays.{at-root, leavesBefore, pre, leaves-file-order, root-records}
 use Rattle.tree.proofs.TreeBlocks.{blocks⇒Tree}
@@ -70,22 +70,13 @@ module _ (file : List ℕ) (from root : ℕ) (bs : List Block) (ready : Ready fi
 
   named : (b : Block) → List·Memᴰ b bs → (e : Entry) → List·Memᴰ e (b .entries)
       → (c : Block) × List·Memᴰ c bs × (c .frame .start ≡ e .offset) × (c .frame .size ≡ e .size) × (c .frame .level + 1 ≡ b .frame .level)
-  unfolding entriesFit
-  named b m e n =
-      let few = entry⇒index file (b .frame .start) b (read-at b m .read) e n .1 in
-      names⁻¹ bs (b .frame .level) e
-      (all-member (names bs (b .frame .level)) (b .entries)
-      (each-member (entriesFit bs) 19 (ordinary bs) (naming⁻¹ bs root (ready .named) .0) b (member-ordinary bs b m few)) e n)
-
-  rightly : (b : Block) → List·Memᴰ b bs → b .frame .level ≤ 63 → namings bs (b .frame .start) ≡ cond (eqb (b .frame .start) root) 0 1
-  unfolding namedRightly
-  rightly b m few = eqb-true _ _ (each-member (namedRightly bs root) 20 (ordinary bs) (naming⁻¹ bs root (ready .named) .1) b (member-ordinary bs b m few))
+  named b m e n = fit⁻¹ bs (naming⁻¹ bs root (ready .named) .0) b m (entry⇒index file (b .frame .start) b (read-at b m .read) e n .1) e n
 
   tree : Tree bs root
   tree =
       blocks⇒Tree file from bs (ready .read) whole root named
-      (λ b m few other. rightly b m few ∙ ap (λ (t : Bool). cond t 0 1) (ne-eqb (b .frame .start) root other))
-      (ap (namings bs) (sym top-start) ∙ rightly top top-member top-few ∙ ap (λ (t : Bool). cond t 0 1) (eq-eqb (top .frame .start) root top-start))
+      (rightly⇒once bs root (naming⁻¹ bs root (ready .named) .1))
+      (rightly⇒unnamed bs root (naming⁻¹ bs root (ready .named) .1) top top-member top-few top-start)
       (ready .rooted)
 
   -- the level that the walk begins with

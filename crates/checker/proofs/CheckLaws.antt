@@ -11,7 +11,8 @@ use borrow.Author.Tests.{le-leb, lt-leb, leb-true}
 use Rattle.outcome.specs.Outcome.{Outcome, answer, refused, _>>_, must, numberOf, placeOf, countOf}
 use Rattle.outcome.specs.declared.Refusal.{Refusal}
 use Rattle.outcome.specs.Refusal.{refusalOf}
-use Rattle.outcome.proofs.OutcomeLaws.{answer-injective, kept, kept⁻¹, broken, bind-answer, bind-refused, bind⁻¹, map-refused⁻¹, after-answer, after-refused, after-assoc, passed⁻¹}
+use Rattle.outcome.proofs.OutcomeLaws.{answer-injective, kept, kept⁻¹, broken, bind-answer, bind-refused, bind⁻¹, map-refused⁻¹}
+use Rattle.outcome.proofs.OutcomeLaws.{after-answer, after-refused, after-assoc, passed⁻¹, must⁻¹, fault-none, fault-some}
 use Rattle.header.specs.declared.Header.{Header}
 use Rattle.header.specs.Header.{headerOf, blocksFrom}
 use Rattle.block.specs.declared.Survey.{Survey}
@@ -20,8 +21,7 @@ use Rattle.block.specs.Survey.{ordinary, recordsOf, surveyed, surveyOf}
 use Rattle.tree.specs.Stages.{treeOf, hasRoot}
 use Rattle.checker.specs.declared.Checked.{Checked}
 use Rattle.checker.specs.Check.{checkWith, acceptOf, checkOf, checkAnswer, laidTreeOf}
-use Rattle.checker.proofs.StageLaws.{fault-none, fault-some, tree-accepted}
-use Rattle.tree.proofs.StageLaws.{must⁻¹}
+use Rattle.checker.proofs.StageLaws.{tree-accepted}
 
 -- ---- what is reported
 

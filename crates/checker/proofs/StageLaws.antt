@@ -1,7 +1,7 @@
 -- 18 to 25 as the code judges them: where the blocks are accepted and have a root, the names, the walks and the hash of the blocks as they lie
 -- give what the rules state.
 -- Assumes nothing.
-use mathlib.Core.Path.{_≡_, refl, sym, ap, _∙_}
+use mathlib.Core.Path.{_≡_, sym, ap, _∙_}
 use mathlib.Core.Logic.{_≢_}
 use mathlib.Core.Bool.{true}
 use mathlib.Core.List.{List}
@@ -9,11 +9,10 @@ use Prim.Native.Nat.{ℕ, _^_, _≤_}
 use native.Mathlib.Omega.{arith}
 use lib.Dec.{leb}
 use lib.ListN.{length}
-use borrow.Author.Tests.{eq-eqb, ne-eqb}
-use Rattle.outcome.specs.Outcome.{Outcome, answer, refused, _>>_, must}
+use Rattle.outcome.specs.Outcome.{Outcome, answer, _>>_, must}
 use Rattle.outcome.specs.declared.Refusal.{Refusal}
 use Rattle.outcome.specs.Refusal.{refusalOf}
-use Rattle.outcome.proofs.OutcomeLaws.{after-answer, after-refused, after-assoc, passed⁻¹}
+use Rattle.outcome.proofs.OutcomeLaws.{after-answer, after-refused, after-assoc, passed⁻¹, after-same, fault-none, fault-some}
 use Rattle.header.specs.declared.Header.{Header}
 use Rattle.header.specs.Header.{headerOf, blocksFrom}
 use Rattle.header.proofs.HeaderLaws.{is-header, blocks-from}
@@ -28,16 +27,6 @@ use Rattle.check_walk.proofs.ReadyLaws.{Ready, walked-rules}
 use Rattle.check_hash.specs.Hash.{hashOf}
 use Rattle.check_hash.proofs.HashLaws.{hash-accepted}
 use Rattle.checker.specs.Check.{laidTreeOf}
-
--- ---- what a refusal says
-
-pub fault-none : (f : Refusal) → f .number ≡ 0 → refusalOf f ≡ answer tt
-unfolding refusalOf
-fault-none f z = rw (eq-eqb (f .number) 0 z)
-
-pub fault-some : (f : Refusal) → f .number ≢ 0 → refusalOf f ≡ refused (f .number) (f .place)
-unfolding refusalOf
-fault-some f h = rw (ne-eqb (f .number) 0 h)
 
 -- ---- one after the other
 
@@ -65,11 +54,6 @@ module _ (file : List ℕ) (from root places : ℕ) (names : Refusal) (is : refu
     tree-hash z = named ∙ after-answer (walkedOf file root) _ tt (sym walked ∙ fault-none walk z)
 
 -- ---- of an accepted file
-
-after-same : {B : Type 0} (o : Outcome (Unit {0})) (p q : Outcome B) → (o ≡ answer tt → p ≡ q) → (o >> p) ≡ (o >> q)
-unfolding _>>_
-after-same (answer u) p q h = h refl
-after-same (refused number place) p q h = refl
 
 -- a header was read, and its blocks have passed 17
 module _ (file : List ℕ) (h : Header) (bs : List Block) (header : headerOf file ≡ answer h) (read : blocksAt file (blocksFrom h) ≡ answer bs) (root : hasRoot h bs ≡ true) where

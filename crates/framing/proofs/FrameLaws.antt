@@ -7,7 +7,6 @@ use Prim.Native.Nat.{ℕ, _+_, _-_, _^_, _≤_, _<_}
 use native.Mathlib.Omega.{arith}
 use lib.Dec.{leb}
 use lib.ListN.{length, take, drop, getD, drop-of-length-le, length-drop}
-use lib.Seq.{take-all}
 use borrow.Author.Tests.{le-leb, lt-leb, leb-true}
 use Rattle.uleb128.specs.Number.{Reading, number, cutOff, reading, continuing, readingSaid}
 use Rattle.uleb128.specs.declared.Number.{Number}
@@ -17,19 +16,16 @@ use Rattle.uleb128.proofs.NumberLaws.{number-used, number-lt, reading-cut}
 use Rattle.outcome.specs.Outcome.{answer, refused}
 use Rattle.items.specs.Items.{Step}
 use Rattle.outcome.proofs.OutcomeLaws.{answer-injective, refused-not-answer, kept, broken, kept⁻¹, bind-answer, bind⁻¹}
+use Rattle.part.proofs.PartLaws.{lent-drop}
 use Rattle.framing.specs.declared.Frame.{Frame}
 use Rattle.framing.specs.Frame.{readAs, numberAt, framed, frameAt, crcRight, soundFrameAt}
 
 -- ---- numbers
 
--- what is left of s from `at` on, as code lends it
-pub rest : (s : List ℕ) (at : ℕ) → take (length s - at) (drop at s) ≡ drop at s
-rest s at = take-all (length s - at) (drop at s) (simp length-drop (omega arith))
-
 -- the number at an offset is what reading the rest finds
 pub number-found : (cut place : ℕ) (s : List ℕ) (at : ℕ) (n : Number) → readingSaid n ≡ reading (take (length s - at) (drop at s)) → readAs cut place at (readingSaid n) ≡ numberAt cut place s at
 unfolding numberAt
-number-found cut place s at n e = ap (readAs cut place at) (e ∙ ap reading (rest s at))
+number-found cut place s at n e = ap (readAs cut place at) (e ∙ ap reading (lent-drop s at))
 
 -- a value that was read
 pub value-read : (s : List ℕ) (n : Number) (value used : ℕ) → n ≡ Value value used → readingSaid n ≡ reading s → reading s ≡ number value used
@@ -161,3 +157,13 @@ soundFrame⁻¹ file at f e =
     let right = kept⁻¹ (crcRight file (g .body) (g .end)) 14 at (answer g) f (first .2) in
     let same = answer-injective g f (right .1) in
     (first .1 ∙ ap answer same, ap (λ (h : Frame). crcRight file (h .body) (h .end)) (sym same) ∙ right .0)
+
+pub frame-bounds : (file : List ℕ) (at : ℕ) (f : Frame) → soundFrameAt file at ≡ answer f → (f .body < f .end) × (f .end ≤ length file)
+frame-bounds file at f e =
+    let l = frame⇒Framed file at f (soundFrame⁻¹ file at f e .0) in
+    let sized = l .sized in
+    let within = l .within in
+    (l .some, omega arith)
+
+pub frame-start : (file : List ℕ) (at : ℕ) (f : Frame) → soundFrameAt file at ≡ answer f → f .start ≡ at
+frame-start file at f e = frame⇒Framed file at f (soundFrame⁻¹ file at f e .0) .starts

@@ -2,3 +2,4 @@
 pub mod MetadataLaws
 pub mod RuleLaws
 pub mod HeaderLaws
+pub mod MetadataPartLaws

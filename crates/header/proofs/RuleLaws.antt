@@ -18,8 +18,8 @@ use Rattle.part.proofs.PartLaws.{lent-part, lent-drop}
 use Rattle.header.specs.Metadata.{isMetadata}
 use Rattle.header.specs.Header.{magic, unfinishedMagic, codecNone, fieldAt, H, M, holdsHeader, headerCrcRight, holdsMetadata}
 use Rattle.header.specs.Header.{headerNumbers, fieldsOf, dataOf, sizeRule, frontRules, headerOf}
+
 -- the name under which the theorems cite it
-unfoldable pub use Rattle.header.specs.Header.{headerNumbers as numbersOf}
 
 -- ---- tests
 

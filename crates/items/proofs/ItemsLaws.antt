@@ -2,8 +2,7 @@
 -- Assumes nothing.
 use mathlib.Core.Path.{_≡_, refl, sym, ap, _∙_, subst}
 use mathlib.Core.Bool.{Bool, true, false, cond}
-use mathlib.Core.Logic.{_⊎_, inl, inr}
-use mathlib.Core.List.{List, [], _∷_, _++_, append-nil, List·Memᴰ, List·Memᴰ·not-nil, List·Memᴰ·cases-cons}
+use mathlib.Core.List.{List, [], _∷_, _++_, append-nil}
 use Prim.Native.Nat.{ℕ, zero, suc, _-_, _≤_, _<_}
 use native.Mathlib.Omega.{arith}
 use lib.Dec.{leb}
@@ -69,18 +68,6 @@ module _ {A : Type 0} (step : ℕ → Outcome (Step A)) (end : ℕ) where
           read [] (at-end h) (answer-injective [] xs (sym (items-end (suc fuel) at h) ∙ e))
       by-end false p = stepped (step at) refl (leb-false end at p)
 
-  -- the items that are all read are those in front of the first refusal
-  pub items⇒sound : (fuel at : ℕ) (xs : List A) → itemsFrom step end fuel at ≡ answer xs → soundFrom step end fuel at ≡ xs
-  unfolding itemsFrom soundFrom
-  items⇒sound zero at xs e = answer-injective [] xs e
-  items⇒sound (suc fuel) at xs e = go xs (items⁻¹ fuel at xs e) (λ (s : Step A) (more : List A). items⇒sound fuel (s .next) more)
-    where
-      go : (ys : List A) → Read fuel at ys
-          → ((s : Step A) (more : List A) → itemsFrom step end fuel (s .next) ≡ answer more → soundFrom step end fuel (s .next) ≡ more)
-          → soundFrom step end (suc fuel) at ≡ ys
-      go ys (at-end h) rest = sound-end (suc fuel) at h
-      go ys (one-more s more h p q) rest = sound-step fuel at s h p ∙ ap (λ (l : List A). s .item ∷ l) (rest s more q)
-
   -- ---- a loop that goes through the items
 
   -- Going on at `at` with the items seen so far gives what going through all items from `from` gives.
@@ -137,17 +124,6 @@ module _ {A : Type 0} (step : ℕ → Outcome (Step A)) (end : ℕ) where
       go zero enough leads = absurd (omega arith)
       go (suc fuel) enough leads = leads ∙ ap (λ (o : Outcome (List A)). o >>= λ more. answer (seen ++ more)) (items-refused fuel at number place h e)
 
-  -- there are at most as many items as the fuel
-  pub items-length : (fuel at : ℕ) (xs : List A) → itemsFrom step end fuel at ≡ answer xs → length xs ≤ fuel
-  unfolding itemsFrom
-  items-length zero at xs e = subst (λ (l : List A). length l ≤ 0) (answer-injective [] xs e) (omega arith)
-  items-length (suc fuel) at xs e = go xs (items⁻¹ fuel at xs e) (λ (s : Step A) (more : List A). items-length fuel (s .next) more)
-    where
-      go : (ys : List A) → Read fuel at ys → ((s : Step A) (more : List A) → itemsFrom step end fuel (s .next) ≡ answer more → length more ≤ fuel)
-          → length ys ≤ suc fuel
-      go ys (at-end h) rest = omega arith
-      go ys (one-more s more h p q) rest = let few = rest s more q in omega arith
-
   -- ---- items in a row
 
   -- items from `at` to the end, each read where the one before it ends
@@ -159,15 +135,6 @@ module _ {A : Type 0} (step : ℕ → Outcome (Step A)) (end : ℕ) where
   pub row-some : (at : ℕ) (xs : List A) → Row at xs → at < end → 0 < length xs
   row-some at xs (row-end h) before = absurd (omega arith)
   row-some at xs (row-more s more h e r) before = omega arith
-
-  -- where an item of a row was read
-  pub record ReadFrom (from : ℕ) (x : A) : Type 0 where
-    pub read-at : ℕ
-    pub read : Step A
-    pub after : from ≤ read-at
-    pub before : read-at < end
-    pub stepped : step read-at ≡ answer read
-    pub is-item : read .item ≡ x
 
   module _ (forward : (at : ℕ) (s : Step A) → step at ≡ answer s → at < s .next) where
     -- with enough fuel the items that are all read are the row
@@ -188,34 +155,6 @@ module _ {A : Type 0} (step : ℕ → Outcome (Step A)) (end : ℕ) where
         let f = forward at s e in
         items-step fuel at s h e ∙ bind-answer (itemsFrom step end fuel (s .next)) _ more (row⇒items (s .next) more r fuel (omega arith))
 
-    pub row-member : (at : ℕ) (xs : List A) → Row at xs → (x : A) → List·Memᴰ x xs → ReadFrom at x
-    row-member at xs (row-end h) x m = absurd (List·Memᴰ·not-nil m)
-    row-member at xs (row-more s more h e r) x m = go (List·Memᴰ·cases-cons m) (λ (i : List·Memᴰ x more). row-member (s .next) more r x i)
-      where
-        later : ReadFrom (s .next) x → ReadFrom at x
-        later q =
-            let f = forward at s e in
-            record {
-              read-at = q .read-at;
-              read = q .read;
-              after = omega arith;
-              before = q .before;
-              stepped = q .stepped;
-              is-item = q .is-item;
-            }
-
-        go : (x ≡ s .item) ⊎ List·Memᴰ x more → (List·Memᴰ x more → ReadFrom (s .next) x) → ReadFrom at x
-        go (inl same) rest =
-            record {
-              read-at = at;
-              read = s;
-              after = omega arith;
-              before = h;
-              stepped = e;
-              is-item = sym same;
-            }
-        go (inr inside) rest = later (rest inside)
-
 -- ---- two ways to read
 
 -- where one way answers what the other answers, it reads the same row
@@ -223,6 +162,44 @@ pub row-change : {A : Type 0} (step other : ℕ → Outcome (Step A)) (end : ℕ
     → (at : ℕ) (xs : List A) → Row step end at xs → Row other end at xs
 row-change step other end same at xs (row-end h) = row-end h
 row-change step other end same at xs (row-more s more h e r) = row-more s more h (same at s e) (row-change step other end same (s .next) more r)
+
+-- and the same items, in front of its first refusal
+pub items⇒sound-same : {A : Type 0} (step other : ℕ → Outcome (Step A)) (end : ℕ) → ((at : ℕ) (s : Step A) → step at ≡ answer s → other at ≡ answer s)
+    → (fuel at : ℕ) (xs : List A) → itemsFrom step end fuel at ≡ answer xs → soundFrom other end fuel at ≡ xs
+unfolding itemsFrom soundFrom
+items⇒sound-same step other end same zero at xs e = answer-injective [] xs e
+items⇒sound-same {A} step other end same (suc fuel) at xs e =
+    go xs (items⁻¹ step end fuel at xs e) (λ (s : Step A) (more : List A). items⇒sound-same step other end same fuel (s .next) more)
+  where
+    go : (ys : List A) → Read step end fuel at ys
+        → ((s : Step A) (more : List A) → itemsFrom step end fuel (s .next) ≡ answer more → soundFrom other end fuel (s .next) ≡ more)
+        → soundFrom other end (suc fuel) at ≡ ys
+    go ys (at-end h) rest = sound-end other end (suc fuel) at h
+    go ys (one-more s more h p r) rest = sound-step other end fuel at s h (same at s p) ∙ ap (λ (l : List A). s .item ∷ l) (rest s more r)
+
+-- the items that are all read are those in front of the first refusal
+pub items⇒sound : {A : Type 0} (step : ℕ → Outcome (Step A)) (end fuel at : ℕ) (xs : List A) → itemsFrom step end fuel at ≡ answer xs
+    → soundFrom step end fuel at ≡ xs
+items⇒sound step end fuel at xs e = items⇒sound-same step step end (λ a s p. p) fuel at xs e
+
+-- there are at most as many items as the fuel
+pub sound-few : {A : Type 0} (step : ℕ → Outcome (Step A)) (end fuel at : ℕ) → length (soundFrom step end fuel at) ≤ fuel
+unfolding soundFrom whereAnswered
+sound-few step end zero at = omega arith
+sound-few step end (suc fuel) at = by-end (leb end at) (by-step (step at) (λ next. sound-few step end fuel next))
+  where
+    by-step : (o : Outcome (Step _)) → ((next : ℕ) → length (soundFrom step end fuel next) ≤ fuel)
+        → length (whereAnswered o (λ s. s .item ∷ soundFrom step end fuel (s .next))) ≤ suc fuel
+    by-step (answer s) rest = let few = rest (s .next) in omega arith
+    by-step (refused number place) rest = omega arith
+
+    by-end : (b : Bool) → length (whereAnswered (step at) (λ s. s .item ∷ soundFrom step end fuel (s .next))) ≤ suc fuel
+        → length (cond b [] (whereAnswered (step at) (λ s. s .item ∷ soundFrom step end fuel (s .next)))) ≤ suc fuel
+    by-end true few = omega arith
+    by-end false few = few
+
+pub items-length : {A : Type 0} (step : ℕ → Outcome (Step A)) (end fuel at : ℕ) (xs : List A) → itemsFrom step end fuel at ≡ answer xs → length xs ≤ fuel
+items-length {A} step end fuel at xs e = subst (λ (l : List A). length l ≤ fuel) (items⇒sound step end fuel at xs e) (sound-few step end fuel at)
 
 -- two ways to read that agree from an offset on read the same items from there on, or refuse the same
 module _ {A : Type 0} (step other : ℕ → Outcome (Step A)) (end from : ℕ) (forward : (at : ℕ) (s : Step A) → step at ≡ answer s → at < s .next)

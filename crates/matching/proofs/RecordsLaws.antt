@@ -13,17 +13,12 @@ use Rattle.payload.specs.Payload.{textAt}
 use Rattle.payload.specs.Answers.{textIn}
 use Rattle.payload.proofs.PayloadLaws.{text⇒Placed}
 use Rattle.query.specs.Query.{Query, matches}
+use Rattle.lists.proofs.RisingLaws.{each-once}
 use Rattle.matching.specs.Matching.{matching, recordsFrom}
 use Rattle.matching.specs.ResultList.{withRecord, Stored, put, putAll}
 use Rattle.matching.proofs.MatchLaws.{matching-nil, matching-kept, matching-passed}
 use Rattle.matching.proofs.ResultListLaws.{length-withRecord}
 use Rattle.matching.proofs.CollectLaws.{Collected, collected-more, collected-end, collected-refused}
-
--- lists of one, joined
-pub each-once : {A : Type 0} (xs : List A) → flatMap (λ x. x ∷ []) xs ≡ xs
-unfolding flatMap
-each-once [] = refl
-each-once (x ∷ xs) = ap (λ l. x ∷ l) (each-once xs)
 
 -- where a byte string that was read lies
 pub text-bounds : (place : ℕ) (s : List ℕ) (at start n : ℕ) → textAt place s at ≡ answer (record { item = textIn s start n; next = start + n })

@@ -1,10 +1,14 @@
 -- Laws of outcomes: when a chain of rules is answered, and with what it is refused.
 -- Assumes nothing.
 use mathlib.Core.Path.{_≡_, refl, ap, _∙_}
+use mathlib.Core.Logic.{_≢_}
 use mathlib.Core.Bool.{Bool, true, false}
 use Prim.Native.Nat.{ℕ}
 use native.Mathlib.Omega.{arith}
+use borrow.Author.Tests.{eq-eqb, ne-eqb}
 use Rattle.outcome.specs.Outcome.{Outcome, answer, refused, _>>=_, _>>_, must}
+use Rattle.outcome.specs.declared.Refusal.{Refusal}
+use Rattle.outcome.specs.Refusal.{refusalOf}
 
 -- ---- constructors
 
@@ -109,3 +113,19 @@ pub bind-same : {A B : Type 0} (o p : Outcome A) (f g : A → Outcome B) → o �
 unfolding _>>=_
 bind-same (answer a) p f g e h = h a refl ∙ ap (λ o. o >>= g) e
 bind-same (refused number place) p f g e h = ap (λ o. o >>= g) e
+
+-- and where a stage is passed, what follows it
+pub after-same : {B : Type 0} (o : Outcome (Unit {0})) (p q : Outcome B) → (o ≡ answer tt → p ≡ q) → (o >> p) ≡ (o >> q)
+unfolding _>>_
+after-same (answer u) p q h = h refl
+after-same (refused number place) p q h = refl
+
+-- ---- a refusal as a struct
+
+pub fault-none : (f : Refusal) → f .number ≡ 0 → refusalOf f ≡ answer tt
+unfolding refusalOf
+fault-none f z = rw (eq-eqb (f .number) 0 z)
+
+pub fault-some : (f : Refusal) → f .number ≢ 0 → refusalOf f ≡ refused (f .number) (f .place)
+unfolding refusalOf
+fault-some f h = rw (ne-eqb (f .number) 0 h)

@@ -3,7 +3,7 @@
 use mathlib.Core.Path.{_≡_, refl, sym, ap, _∙_}
 use mathlib.Core.Bool.{Bool, true, false, cond}
 use mathlib.Core.List.{List, [], _∷_, _++_, append-nil}
-use Prim.Native.Nat.{ℕ, zero, suc, _+_, _-_, _*_, _/_, _≤_, _<_}
+use Prim.Native.Nat.{ℕ, suc, _+_, _-_, _*_, _/_, _≤_, _<_}
 use native.Mathlib.Nat.{sub-zero}
 use native.Mathlib.Omega.{arith}
 use borrow.Author.Fill.{fill-more}
@@ -11,6 +11,7 @@ use borrow.Author.Tests.{le-leb, lt-leb, lt-ltb, le-ltb}
 use lib.Dec.{leb, ltb}
 use lib.ListN.{length, getD, set, take, drop, replicate, length-append, length-replicate, length-set, List·getD-append}
 use lib.Seq.{drop-length, take-append-seam, drop-append-seam, set-append-seam, getD-append-add, append-snoc}
+use Rattle.lists.proofs.ListsLaws.{zeros-at}
 use Rattle.output_list.specs.OutputList.{padded, zeros, hasPlace, withNumber, hasRoom, withPair}
 
 -- ---- zeros
@@ -31,12 +32,7 @@ length-zeros room = rw (zeros-replicate, length-replicate)
 
 -- every place of zeros, and whatever is read past their end, is 0
 pub getD-zeros : (room i : ℕ) → getD (zeros room) i 0 ≡ 0
-getD-zeros room i = rw zeros-replicate (at room i)
-  where
-    at : (n k : ℕ) → _≡_ {A = ℕ} (getD (replicate n 0) k 0) 0
-    at zero k = refl
-    at (suc n) zero = refl
-    at (suc n) (suc k) = at n k
+getD-zeros room i = rw zeros-replicate (zeros-at room i)
 
 -- ---- the numbers, and zeros after them
 

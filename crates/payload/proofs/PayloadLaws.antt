@@ -35,6 +35,17 @@ module _ (place : ℕ) (s : List ℕ) (at : ℕ) where
   unfolding textAt textIn
   text-found n e h = bind-answer (numberAt 15 place s at) _ n e ∙ kept (leb (n .next + n .item) (length s)) 15 place _ (le-leb _ _ h)
 
+  -- a byte string that was read, taken apart
+  pub text⁻¹ : (t : Step Text) → textAt place s at ≡ answer t
+      → (n : Step ℕ) × (numberAt 15 place s at ≡ answer n) × (n .next + n .item ≤ length s)
+      × (record { item = textIn s (n .next) (n .item); next = n .next + n .item } ≡ t)
+  unfolding textAt textIn
+  text⁻¹ t e =
+      let first = bind⁻¹ (numberAt 15 place s at) _ t e in
+      let n = first .0 in
+      let all = kept⁻¹ (leb (n .next + n .item) (length s)) 15 place _ t (first .2) in
+      (n, first .1, leb-true _ _ (all .0), answer-injective _ t (all .1))
+
   -- where a byte string that was read lies
   pub record Placed (t : Step Text) : Type 0 where
     pub length-at : ℕ
@@ -45,12 +56,8 @@ module _ (place : ℕ) (s : List ℕ) (at : ℕ) where
     pub within : t .next ≤ length s
 
   pub text⇒Placed : (t : Step Text) → textAt place s at ≡ answer t → Placed t
-  unfolding textAt textIn
-  text⇒Placed t e =
-      let first = bind⁻¹ (numberAt 15 place s at) _ t e in
-      let n = first .0 in
-      let all = kept⁻¹ (leb (n .next + n .item) (length s)) 15 place _ t (first .2) in
-      placed n (numbered 15 place s at n (first .1)) (leb-true _ _ (all .0)) (answer-injective _ t (all .1))
+  unfolding textIn
+  text⇒Placed t e = let r = text⁻¹ t e in placed (r .0) (numbered 15 place s at (r .0) (r .1)) (r .2) (r .3)
     where
       placed : (n : Step ℕ) → Numbered s at n → n .next + n .item ≤ length s → record { item = textIn s (n .next) (n .item); next = n .next + n .item } ≡ t → Placed t
       placed n numbers h same = subst Placed same
@@ -83,24 +90,45 @@ module _ (place : ℕ) (s : List ℕ) (at : ℕ) where
     pub forward : at < e .next
     pub within : e .next ≤ length s
 
-  pub entry⇒Entered : (e : Step Entry) → entryAt place s at ≡ answer e → Entered e
-  unfolding entryAt entrySized
-  entry⇒Entered e h =
-      let first = bind⁻¹ (textAt place s at) _ e h in
-      let key = first .0 in
-      let second = bind⁻¹ (numberAt 15 place s (key .next)) _ e (first .2) in
-      let offset = second .0 in
-      let third = bind⁻¹ (numberAt 15 place s (offset .next)) _ e (second .2) in
-      let size = third .0 in
-      entered key offset size (text⇒Placed key (first .1)) (numbered 15 place s (key .next) offset (second .1)) (numbered 15 place s (offset .next) size (third .1)) (answer-injective _ e (third .2))
-    where
-      entered : (key : Step Text) (offset size : Step ℕ) → Placed key → Numbered s (key .next) offset → Numbered s (offset .next) size
-          → record { item = record { key = key .item; offset = offset .item; size = size .item }; next = size .next } ≡ e → Entered e
-      entered key offset size p n m same = subst Entered same
-          (record {
-            forward = let ends = p .ends in let forward = p .forward in let n₁ = n .forward in let n₂ = m .forward in omega arith;
-            within = m .within;
-          })
+-- an entry that was read: its key, its two numbers
+pub record EntryRead (place : ℕ) (s : List ℕ) (at : ℕ) (x : Step Entry) : Type 0 where
+  pub key : Step Text
+  pub offset : Step ℕ
+  pub size : Step ℕ
+  pub key-read : textAt place s at ≡ answer key
+  pub offset-read : numberAt 15 place s (key .next) ≡ answer offset
+  pub size-read : numberAt 15 place s (offset .next) ≡ answer size
+  pub entry-is : record { item = record { key = key .item; offset = offset .item; size = size .item }; next = size .next } ≡ x
+
+pub entry⁻¹ : (place : ℕ) (s : List ℕ) (at : ℕ) (x : Step Entry) → entryAt place s at ≡ answer x → EntryRead place s at x
+unfolding entryAt entrySized
+entry⁻¹ place s at x e =
+    let first = bind⁻¹ (textAt place s at) _ x e in
+    let second = bind⁻¹ (numberAt 15 place s (first .0 .next)) _ x (first .2) in
+    let third = bind⁻¹ (numberAt 15 place s (second .0 .next)) _ x (second .2) in
+    record {
+      key = first .0;
+      offset = second .0;
+      size = third .0;
+      key-read = first .1;
+      offset-read = second .1;
+      size-read = third .1;
+      entry-is = answer-injective _ x (third .2);
+    }
+
+pub entry⇒Entered : (place : ℕ) (s : List ℕ) (at : ℕ) (e : Step Entry) → entryAt place s at ≡ answer e → Entered place s at e
+entry⇒Entered place s at e h = go (entry⁻¹ place s at e h)
+  where
+    go : EntryRead place s at e → Entered place s at e
+    go r =
+        let key = text⇒Placed place s at (r .key) (r .key-read) in
+        let offset = numbered 15 place s (r .key .next) (r .offset) (r .offset-read) in
+        let size = numbered 15 place s (r .offset .next) (r .size) (r .size-read) in
+        subst (Entered place s at) (r .entry-is)
+        (record {
+          forward = let ends = key .ends in let forward = key .forward in let n₁ = offset .forward in let n₂ = size .forward in omega arith;
+          within = size .within;
+        })
 
 -- the key of an entry that an answer names
 pub within-told : (s : List ℕ) (r : EntryOutcome) (key : Part) (offset size next : ℕ) → r ≡ AnEntry key offset size next → KeyWithin s r → key .offset + key .length ≤ length s

@@ -5,21 +5,22 @@ use mathlib.Core.Bool.{true}
 use mathlib.Core.List.{List, map, List·Memᴰ}
 use Prim.Native.Nat.{ℕ, _+_, _-_, _≤_, _<_}
 use native.Mathlib.Omega.{arith}
-use lib.Dec.{leb, ltb}
+use lib.Dec.{ltb}
 use lib.ListN.{length, take}
 use borrow.Author.Tests.{ltb-true}
 use Rattle.outcome.specs.Outcome.{Outcome, answer}
 use Rattle.items.specs.Items.{Step, itemsFrom}
 use Rattle.part.specs.Part.{part}
-use Rattle.outcome.proofs.OutcomeLaws.{answer-injective, kept, kept⁻¹, bind-answer, bind⁻¹}
+use Rattle.outcome.proofs.OutcomeLaws.{answer-injective, kept⁻¹, bind-answer, bind⁻¹}
 use Rattle.part.proofs.PartLaws.{part-take}
-use Rattle.items.proofs.ItemsLaws.{Row, row-end, row-more, ReadFrom, row-member}
+use Rattle.items.proofs.ItemsLaws.{Row, row-end, row-more}
 use Rattle.lists.proofs.ListsLaws.{AscendingIn, ascending-wider}
 use Rattle.framing.specs.Frame.{readAs, numberAt}
+use Rattle.items.proofs.RunLaws.{ReadFrom, row-member}
 use Rattle.payload.specs.Payload.{Text, Entry, textAt, entryAt, entrySized, payloadAt, rising}
 use Rattle.payload.specs.Answers.{textIn}
 use Rattle.framing.proofs.FrameLaws.{numbered, number-read}
-use Rattle.payload.proofs.PayloadLaws.{text⇒Placed, entry⇒Entered}
+use Rattle.payload.proofs.PayloadLaws.{text⇒Placed, entry⇒Entered, EntryRead, entry⁻¹, text-found, text⁻¹}
 
 -- ---- what is answered does not depend on the place that a refusal would have
 
@@ -30,38 +31,9 @@ number-any-place cut place c p s at n e =
     ap (readAs c p at) (r .1) ∙ ap (λ (k : ℕ). answer (record { item = n .item; next = k })) (sym (r .2))
 
 pub text-any-place : (place p : ℕ) (s : List ℕ) (at : ℕ) (x : Step Text) → textAt place s at ≡ answer x → textAt p s at ≡ answer x
-unfolding textAt
 text-any-place place p s at x e =
-    let first = bind⁻¹ (numberAt 15 place s at) _ x e in
-    let n = first .0 in
-    let long = kept⁻¹ (leb (n .next + n .item) (length s)) 15 place _ x (first .2) in
-    bind-answer (numberAt 15 p s at) _ n (number-any-place 15 place 15 p s at n (first .1)) ∙ kept (leb (n .next + n .item) (length s)) 15 p _ (long .0) ∙ long .1
-
--- an entry that was read: its key, its two numbers
-pub record EntryRead (place : ℕ) (s : List ℕ) (at : ℕ) (x : Step Entry) : Type 0 where
-  pub key : Step Text
-  pub offset : Step ℕ
-  pub size : Step ℕ
-  pub key-read : textAt place s at ≡ answer key
-  pub offset-read : numberAt 15 place s (key .next) ≡ answer offset
-  pub size-read : numberAt 15 place s (offset .next) ≡ answer size
-  pub entry-is : record { item = record { key = key .item; offset = offset .item; size = size .item }; next = size .next } ≡ x
-
-pub entry⁻¹ : (place : ℕ) (s : List ℕ) (at : ℕ) (x : Step Entry) → entryAt place s at ≡ answer x → EntryRead place s at x
-unfolding entryAt entrySized
-entry⁻¹ place s at x e =
-    let first = bind⁻¹ (textAt place s at) _ x e in
-    let second = bind⁻¹ (numberAt 15 place s (first .0 .next)) _ x (first .2) in
-    let third = bind⁻¹ (numberAt 15 place s (second .0 .next)) _ x (second .2) in
-    record {
-      key = first .0;
-      offset = second .0;
-      size = third .0;
-      key-read = first .1;
-      offset-read = second .1;
-      size-read = third .1;
-      entry-is = answer-injective _ x (third .2);
-    }
+    let r = text⁻¹ place s at x e in
+    text-found p s at (r .0) (number-any-place 15 place 15 p s at (r .0) (r .1)) (r .2) ∙ ap answer (r .3)
 
 pub entry-any-place : (place p : ℕ) (s : List ℕ) (at : ℕ) (x : Step Entry) → entryAt place s at ≡ answer x → entryAt p s at ≡ answer x
 unfolding entryAt entrySized
@@ -159,8 +131,16 @@ payload⁻¹ {A} step textOf unsorted place end at xs e =
     go ys some items sorted =
         subst (Filled step textOf end at) (answer-injective ys xs (sorted .1)) (record { some = some; items = items; sorted = sorted .0 })
 
+-- and stays within
 pub text-within : (place : ℕ) (s : List ℕ) (at : ℕ) (x : Step Text) → textAt place s at ≡ answer x → x .next ≤ length s
 text-within place s at x e = text⇒Placed place s at x e .within
 
 pub entry-within : (place : ℕ) (s : List ℕ) (at : ℕ) (x : Step Entry) → entryAt place s at ≡ answer x → x .next ≤ length s
 entry-within place s at x e = entry⇒Entered place s at x e .within
+
+-- a step goes forward
+pub text-forward : (place : ℕ) (s : List ℕ) (at : ℕ) (x : Step Text) → textAt place s at ≡ answer x → at < x .next
+text-forward place s at x e = let p = text⇒Placed place s at x e in let f = p .forward in let ends = p .ends in omega arith
+
+pub entry-forward : (place : ℕ) (s : List ℕ) (at : ℕ) (x : Step Entry) → entryAt place s at ≡ answer x → at < x .next
+entry-forward place s at x e = entry⇒Entered place s at x e .forward

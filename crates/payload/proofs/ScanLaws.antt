@@ -2,34 +2,26 @@
 -- Assumes nothing.
 use mathlib.Core.Path.{_≡_, refl, sym, ap, ap₂, _∙_}
 use mathlib.Core.Bool.{Bool, true, false, _&&_, and-assoc, and-true}
-use mathlib.Core.List.{List, [], _∷_, _++_, map}
+use mathlib.Core.List.{List, [], _∷_, _++_, map, map-append, map-map, List·Memᴰ, List·Memᴰ·head, List·Memᴰ·tail}
 use Prim.Native.Nat.{ℕ, _+_, _-_, _≤_, _<_}
-use native.Mathlib.Nat.{add-sub-cancel-left}
 use native.Mathlib.Omega.{arith}
 use lib.Dec.{ltb}
-use lib.ListN.{length, take, drop, length-append}
+use lib.ListN.{length, length-append}
 use borrow.Author.Tests.{lt-ltb, le-ltb}
 use Rattle.byte_string.specs.Order.{atMost}
-use Rattle.byte_string.proofs.OrderLaws.{nil-atMost}
+use Rattle.byte_string.proofs.OrderLaws.{nil-atMost, atMost-trans}
 use Rattle.outcome.specs.Outcome.{Outcome, answer, refused}
 use Rattle.items.specs.Items.{Step}
 use Rattle.part.specs.Part.{part}
 use Rattle.outcome.proofs.OutcomeLaws.{kept, broken, bind-answer, bind-refused}
 use Rattle.items.proofs.ItemsLaws.{Progress, progress-start, progress-more, progress-end, progress-refused}
 use Rattle.part.proofs.PartLaws.{part-empty}
+use Rattle.lists.proofs.ListsLaws.{both⁻¹}
+use Rattle.lists.specs.Groups.{lastOr}
 use Rattle.payload.specs.Payload.{Text, rising, risingFrom, payloadAt}
 use Rattle.payload.specs.Answers.{textIn, counted}
 
 -- ---- one byte string more
-
-pub map-snoc : {A B : Type 0} (f : A → B) (xs : List A) (y : A) → map f (xs ++ (y ∷ [])) ≡ map f xs ++ (f y ∷ [])
-map-snoc f [] y = refl
-map-snoc f (x ∷ xs) y = ap (λ l. f x ∷ l) (map-snoc f xs y)
-
--- the last of these, or `none` where there are none
-unfoldable pub lastOr : {A : Type 0} → A → List A → A
-lastOr none [] = none
-lastOr none (x ∷ xs) = lastOr x xs
 
 pub lastOr-snoc : {A : Type 0} (none : A) (xs : List A) (y : A) → lastOr none (xs ++ (y ∷ [])) ≡ y
 unfolding lastOr
@@ -40,10 +32,6 @@ pub lastOr-map : {A B : Type 0} (f : A → B) (none : A) (xs : List A) → lastO
 unfolding lastOr
 lastOr-map f none [] = refl
 lastOr-map f none (x ∷ xs) = lastOr-map f x xs
-
-pub map-map : {A B C : Type 0} (f : A → B) (g : B → C) (xs : List A) → map g (map f xs) ≡ map (λ x. g (f x)) xs
-map-map f g [] = refl
-map-map f g (x ∷ xs) = ap (λ l. g (f x) ∷ l) (map-map f g xs)
 
 pub rising-from-nil : (xs : List (List ℕ)) → rising xs ≡ risingFrom [] xs
 unfolding rising risingFrom
@@ -58,17 +46,13 @@ risingFrom-snoc x (z ∷ xs) y = ap (λ (b : Bool). atMost x z && b) (risingFrom
 pub rising-snoc : (xs : List (List ℕ)) (y : List ℕ) → rising (xs ++ (y ∷ [])) ≡ (rising xs && atMost (lastOr [] xs) y)
 rising-snoc xs y = rising-from-nil (xs ++ (y ∷ [])) ∙ risingFrom-snoc [] xs y ∙ ap (λ (b : Bool). b && atMost (lastOr [] xs) y) (sym (rising-from-nil xs))
 
--- a flag that was raised, or not, before the last comparison
-pub still : (flag before : Bool) (b : Bool) → before ≡ true → flag ≡ b → flag ≡ (before && b)
-still flag before b e f = f ∙ sym (ap (λ (a : Bool). a && b) e)
-
-pub no-longer : (before b : Bool) → before ≡ false → false ≡ (before && b)
-no-longer before b e = sym (ap (λ (a : Bool). a && b) e)
-
--- a part as code lends it
-pub lent : (s : List ℕ) (at n : ℕ) → take (at + n - at) (drop at s) ≡ part s at n
-unfolding part
-lent s at n = ap (λ (k : ℕ). take k (drop at s)) (add-sub-cancel-left at n)
+-- the first is at most every one after it
+pub risingFrom-each : (x : List ℕ) (xs : List (List ℕ)) → risingFrom x xs ≡ true → (y : List ℕ) → List·Memᴰ y xs → atMost x y ≡ true
+unfolding risingFrom
+risingFrom-each x xs h y (List·Memᴰ·head {x = z} {xs = zs} e) = ap (atMost x) e ∙ both⁻¹ (atMost x z) (risingFrom z zs) h .0
+risingFrom-each x xs h y (List·Memᴰ·tail {x = z} {xs = zs} m) =
+    let r = both⁻¹ (atMost x z) (risingFrom z zs) h in
+    atMost-trans x z y (r .0) (risingFrom-each z zs (r .1) y m)
 
 -- ---- the pass
 
@@ -105,7 +89,7 @@ module _ {A : Type 0} (step : ℕ → ℕ → Outcome (Step A)) (textOf : A → 
   last-bytes last size seen e =
       ap (λ (t : Text). t .bytes) e
       ∙ sym (lastOr-map (λ (t : Text). t .bytes) (textIn s from 0) (map textOf seen))
-      ∙ ap₂ lastOr (part-empty s from) (map-map textOf (λ (t : Text). t .bytes) seen)
+      ∙ ap₂ lastOr (part-empty s from) (map-map (λ (t : Text). t .bytes) textOf seen)
 
   start-bytes : (start n : ℕ) (t : Text) → t ≡ textIn s start n → part s start n ≡ t .bytes
   unfolding textIn
@@ -122,8 +106,10 @@ module _ {A : Type 0} (step : ℕ → ℕ → Outcome (Step A)) (textOf : A → 
         sorted =
             flag
             ∙ ap₂ (λ (a b : Bool). a && b) (p .sorted) (ap₂ atMost (last-bytes last size (p .seen) (p .last-is)) (start-bytes start n (textOf x) text))
-            ∙ sym (ap rising (map-snoc (λ y. textOf y .bytes) (p .seen) x) ∙ rising-snoc (map (λ y. textOf y .bytes) (p .seen)) (textOf x .bytes));
-        last-is = sym (ap (lastOr (textIn s from 0)) (map-snoc textOf (p .seen) x) ∙ lastOr-snoc (textIn s from 0) (map textOf (p .seen)) (textOf x) ∙ text);
+            ∙ sym (ap rising (map-append (λ y. textOf y .bytes) (p .seen) (x ∷ [])) ∙ rising-snoc (map (λ y. textOf y .bytes) (p .seen)) (textOf x .bytes));
+        last-is =
+            sym (ap (lastOr (textIn s from 0)) (map-append textOf (p .seen) (x ∷ []))
+            ∙ lastOr-snoc (textIn s from 0) (map textOf (p .seen)) (textOf x) ∙ text);
         last-within = inside;
         few = omega arith;
         within = within;

@@ -11,11 +11,11 @@ use Rattle.framing.specs.Frame.{frameAt}
 use Rattle.framing.proofs.FrameLaws.{frame⇒Framed}
 use Rattle.block.specs.Laid.{laidIn, laidAt, laidFrom}
 use Rattle.block.specs.Survey.{recordsOf}
-use Rattle.block.proofs.LaidLaws.{laid-found, laid-refused}
+use Rattle.block.proofs.LaidLaws.{laid-found, laid-refused, laid-no-records}
 use Rattle.query.specs.Query.{Query}
 use Rattle.matching.specs.Matching.{matching, recordsFrom}
 use Rattle.matching.specs.ResultList.{Stored, putAll}
-use Rattle.matching.proofs.FrameRecordsLaws.{records-few, data-records, no-records}
+use Rattle.matching.proofs.FrameRecordsLaws.{records-few, data-records}
 use Rattle.matching.proofs.MatchLaws.{matching-nil, matching-few}
 use Rattle.matching.proofs.ResultListLaws.{count-putAll, length-putAll}
 use Rattle.matching.proofs.CollectLaws.{Collected, collected-more, collected-end, collected-refused}
@@ -72,7 +72,7 @@ module _ (file : List ℕ) (from : ℕ) (q : Query) (first : Stored) where
         let so-far = p .few in
         collected-more (λ place. laidAt file) (λ b. b .records) q (length file) from first at stored p h (record { item = laidIn file f; next = at + f .size })
         (λ place. laid-found file at f e) (omega arith) stored
-        (sym (ap (λ rs. putAll stored (matching q rs)) (no-records file f level) ∙ ap (putAll stored) (matching-nil q)))
+        (sym (ap (λ rs. putAll stored (matching q rs)) (laid-no-records file f level) ∙ ap (putAll stored) (matching-nil q)))
         (omega arith)
         refl
 

@@ -28,7 +28,7 @@ use Rattle.block.specs.Survey.{recordsOf}
 use Rattle.block.proofs.LaidLaws.{blocks⇒laid}
 use Rattle.query.specs.Query.{Query, matches}
 use Rattle.matching.specs.Matching.{matching}
-use Rattle.matching.proofs.RecordsLaws.{each-once}
+use Rattle.lists.proofs.RisingLaws.{each-once}
 
 module _ (file : List ℕ) where
   -- a record lies after an offset, and its bytes are the file's there

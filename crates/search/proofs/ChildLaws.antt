@@ -8,7 +8,7 @@ use native.Mathlib.Omega.{arith}
 use lib.ListN.{length, take, drop}
 use lib.Seq.{length-take-le}
 use Rattle.outcome.specs.Outcome.{Outcome, answer, refused}
-use Rattle.outcome.proofs.OutcomeLaws.{answer-injective, refused-not-answer, bind⁻¹}
+use Rattle.outcome.proofs.OutcomeLaws.{answer-injective, refused-not-answer}
 use Rattle.items.specs.Items.{Step, itemsFrom}
 use Rattle.items.proofs.ItemsLaws.{Row, row-end, row-more, items⇒row, row⇒items}
 use Rattle.part.specs.declared.Part.{Part}
@@ -17,10 +17,10 @@ use Rattle.part.proofs.PartLaws.{part-take, lent-part}
 use Rattle.framing.specs.declared.Frame.{Frame}
 use Rattle.payload.specs.Payload.{Text, Entry, textAt, entryAt, entriesAt}
 use Rattle.payload.specs.Answers.{textIn}
-use Rattle.payload.proofs.PayloadLaws.{text⇒Placed, entry⇒Entered}
-use Rattle.payload.proofs.ReadLaws.{entry⁻¹, payload⁻¹}
+use Rattle.payload.proofs.PayloadLaws.{text⇒Placed, entry⇒Entered, entry⁻¹}
+use Rattle.payload.proofs.ReadLaws.{payload⁻¹, entry-forward}
 use Rattle.block.specs.Block.{Block, blockIn}
-use Rattle.block.proofs.BlockLaws.{not-data-level, ordinary-level, block-index}
+use Rattle.block.proofs.BlockLaws.{inside-index}
 use Rattle.query.specs.Query.{Query, given}
 use Rattle.query.specs.Opening.{mayMatch}
 use Rattle.search.specs.declared.opening.Named.{Named}
@@ -39,16 +39,13 @@ module _ (file : List ℕ) (f : Frame) where
   abbrev Entries : ℕ → List Entry → Type 0
   Entries at es = Row entryIn (f .end) at es
 
-  forward : (at : ℕ) (x : Step Entry) → entryIn at ≡ answer x → at < x .next
-  forward at x e = entry⇒Entered (f .start) (take (f .end) file) at x e .forward
-
   in-row : (at : ℕ) (es : List Entry) → entriesFrom file f at ≡ answer es → Entries at es
   unfolding entriesFrom
-  in-row at es e = items⇒row entryIn (f .end) forward (f .end - at) at es (omega arith) e
+  in-row at es e = items⇒row entryIn (f .end) (entry-forward (f .start) (take (f .end) file)) (f .end - at) at es (omega arith) e
 
   of-row : (at : ℕ) (es : List Entry) → Entries at es → entriesFrom file f at ≡ answer es
   unfolding entriesFrom
-  of-row at es r = row⇒items entryIn (f .end) forward at es r (f .end - at) (omega arith)
+  of-row at es r = row⇒items entryIn (f .end) (entry-forward (f .start) (take (f .end) file)) at es r (f .end - at) (omega arith)
 
   -- none can be read: none is left
   pub entries-none : (at number place : ℕ) → entryIn at ≡ refused number place → (es : List Entry) → entriesFrom file f at ≡ answer es → es ≡ []
@@ -74,22 +71,15 @@ module _ (file : List ℕ) (f : Frame) where
 
   -- those of a block that passed its tests
   module _ (b : Block) (e : blockIn file f ≡ answer b) (index : f .level ≡ 0 → ⊥) (ordinary : f .level ≤ 63) where
-    index-parts : (entriesAt (f .start) (take (f .end) file) (f .body + 1) ≡ answer (b .entries)) × (b .frame ≡ f)
-    index-parts =
-        let is = block-index file f (not-data-level (f .level) index) (ordinary-level (f .level) ordinary) in
-        let all = bind⁻¹ (entriesAt (f .start) (take (f .end) file) (f .body + 1)) _ b (sym is ∙ e) in
-        let same = answer-injective _ b (all .2) in
-        (all .1 ∙ ap (λ (c : Block). answer (c .entries)) same, sym (ap (λ (c : Block). c .frame) same))
-
     pub block-frame : b .frame ≡ f
-    block-frame = index-parts .1
+    block-frame = inside-index file f b e index ordinary .1
 
     pub block-entries : f .end ≤ length file → entriesFrom file f (f .body + 1) ≡ answer (b .entries)
     unfolding entriesAt entriesFrom
     block-entries inside =
         let s = take (f .end) file in
         subst (λ (n : ℕ). itemsFrom entryIn n (n - (f .body + 1)) (f .body + 1) ≡ answer (b .entries)) (length-take-le (f .end) file inside)
-        (payload⁻¹ entryIn (λ x. x .key) 21 (f .start) (length s) (f .body + 1) (b .entries) (index-parts .0) .items)
+        (payload⁻¹ entryIn (λ x. x .key) 21 (f .start) (length s) (f .body + 1) (b .entries) (inside-index file f b e index ordinary .0) .items)
 
   -- ---- the key of the next entry
 

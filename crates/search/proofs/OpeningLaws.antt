@@ -16,7 +16,8 @@ use Rattle.framing.specs.declared.Frame.{Frame}
 use Rattle.framing.specs.Frame.{soundFrameAt}
 use Rattle.block.specs.Block.{Block, blockIn, blockAt}
 use Rattle.block.specs.Answers.{Tallied, tallied}
-use Rattle.block.proofs.BlockLaws.{BlockRead, block⇒BlockRead, frame-bounds}
+use Rattle.block.proofs.BlockLaws.{BlockRead, block⇒BlockRead}
+use Rattle.framing.proofs.FrameLaws.{frame-bounds}
 use Rattle.search.specs.declared.opening.Named.{Named}
 use Rattle.search.specs.Search.{Walked, fittingBlock, namedBlock, openBlock}
 use Rattle.search.specs.Steps.{frameOf, FrameWithin}

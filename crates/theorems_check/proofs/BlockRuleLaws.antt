@@ -2,26 +2,29 @@
 -- Assumes nothing.
 use mathlib.Core.Path.{_≡_, refl, sym, ap, _∙_, subst, subst⁻¹}
 use mathlib.Core.Logic.{_≢_}
-use mathlib.Core.Bool.{Bool, true, false}
+use mathlib.Core.Bool.{true}
 use mathlib.Core.List.{List, [], map}
 use Prim.Native.Nat.{ℕ, _+_, _-_, _≤_, _<_}
 use native.Mathlib.Omega.{arith}
-use lib.Dec.{leb, ltb}
+use lib.Dec.{ltb}
 use lib.ListN.{length, take}
 use lib.Seq.{length-take-le}
-use borrow.Author.Tests.{ltb-true, lt-ltb, leb-true, leb-false, eqb-true, eq-eqb}
+use borrow.Author.Tests.{lt-ltb, eqb-true, eq-eqb}
 use Rattle.outcome.specs.Outcome.{Outcome, answer}
 use Rattle.items.specs.Items.{Step, itemsFrom}
-use Rattle.outcome.proofs.OutcomeLaws.{answer-injective, kept, kept⁻¹, bind-answer, bind⁻¹}
+use Rattle.outcome.proofs.OutcomeLaws.{answer-injective, kept, bind-answer, bind⁻¹}
 use Rattle.framing.specs.declared.Frame.{Frame}
 use Rattle.framing.specs.Frame.{numberAt, framed, frameAt, crcRight, soundFrameAt}
 use Rattle.payload.specs.Payload.{Text, Entry, textAt, entryAt, rising, payloadAt, recordsAt, entriesAt}
 use Rattle.block.specs.Block.{Block, blockIn, blockAt, blockStep, blocksAt}
 use Rattle.framing.proofs.FrameLaws.{frameOf, framed-found, framed⁻¹, sound-frame, soundFrame⁻¹}
-use Rattle.block.proofs.BlockLaws.{data-level, not-data-level, ordinary-level, reserved-level, block-data, block-index, block-reserved, block⇒BlockRead}
+use Rattle.block.proofs.BlockLaws.{data-level, not-data-level, ordinary-level, reserved-level, block-data, block-index, block-reserved, block⇒BlockRead, BlockRead}
+use Rattle.block.proofs.BlockLaws.{inside-data, inside-index, inside-reserved, LevelOf, is-data, is-index, is-reserved, level-of}
+use Rattle.payload.proofs.ReadLaws.{payload⁻¹}
 use Rattle.theorems_check.specs.Rules.{NumberIn, TextIn, EntryIn, Fill, Sorted, FrameIn, BlockIn, isDataBlock, isIndexBlock, isReservedBlock, Stands}
 use Rattle.theorems_check.proofs.FillLaws.{fill-empty, fill-some, items⇒Fill, Fill⇒items}
-use Rattle.theorems_check.proofs.ItemRuleLaws.{number⇒NumberIn, NumberIn⇒number, number-forward, text⇒TextIn, TextIn⇒text, text-forward, entry⇒EntryIn, EntryIn⇒entry, entry-forward}
+use Rattle.theorems_check.proofs.ItemRuleLaws.{number⇒NumberIn, NumberIn⇒number, NumberIn⇒forward, text⇒TextIn, TextIn⇒text, TextIn⇒forward}
+use Rattle.theorems_check.proofs.ItemRuleLaws.{entry⇒EntryIn, EntryIn⇒entry, EntryIn⇒forward}
 use Rattle.theorems_check.proofs.SortedLaws.{rising⇒Sorted, Sorted⇒rising}
 
 -- ---- frames
@@ -40,7 +43,7 @@ module _ (file : List ℕ) (at : ℕ) where
     where
       laid : (L : Step ℕ) → NumberIn file at (L .next) (L .item) → 1 ≤ L .item → L .next + L .item + 8 ≤ length file → crcRight file (L .next) (L .next + L .item) ≡ true → FrameIn file at (frameOf file at L)
       laid L stands some long right =
-          let forward = number-forward file at (L .next) (L .item) stands in
+          let forward = NumberIn⇒forward file at (L .next) (L .item) stands in
           let bytes : L .next + L .item - L .next ≡ L .item = omega arith in
           record {
             starts = refl;
@@ -77,18 +80,11 @@ module _ {A : Type 0} (step : ℕ → Outcome (Step A)) (Standing : ℕ → ℕ 
     (steps : (at next : ℕ) (x : A) → Standing at next x → step at ≡ answer (record { item = x; next = next }))
     (forward : (at next : ℕ) (x : A) → Standing at next x → (at < next) × (next ≤ end)) where
   payload⇒Fill : (at : ℕ) (xs : List A) → payloadAt step textOf unsorted place end at ≡ answer xs → Fill Standing end at xs × (xs ≢ []) × Sorted (map (λ x. textOf x .bytes) xs)
-  unfolding payloadAt
   payload⇒Fill at xs e =
-      let some = kept⁻¹ (ltb at end) 15 place _ xs e in
-      let items = bind⁻¹ (itemsFrom step end (end - at) at) _ xs (some .1) in
-      let sorted = kept⁻¹ (rising (map (λ x. textOf x .bytes) (items .0))) unsorted place _ xs (items .2) in
-      go (items .0) (ltb-true at end (some .0)) (items .1) (sorted .0) (answer-injective (items .0) xs (sorted .1))
-    where
-      go : (ys : List A) → at < end → itemsFrom step end (end - at) at ≡ answer ys → rising (map (λ x. textOf x .bytes) ys) ≡ true → ys ≡ xs
-          → Fill Standing end at xs × (xs ≢ []) × Sorted (map (λ x. textOf x .bytes) xs)
-      go ys before read sorted same =
-          let fill : Fill Standing end at xs = subst (Fill Standing end at) same (items⇒Fill step Standing end stands steps forward (end - at) at ys (omega arith) (omega arith) read) in
-          (fill, (λ none. let past = fill-empty Standing end at xs fill none in omega arith), subst (λ (zs : List A). Sorted (map (λ x. textOf x .bytes) zs)) same (rising⇒Sorted _ sorted))
+      let p = payload⁻¹ step textOf unsorted place end at xs e in
+      let before = p .some in
+      let fill = items⇒Fill step Standing end stands steps forward (end - at) at xs (omega arith) (omega arith) (p .items) in
+      (fill, (λ none. let past = fill-empty Standing end at xs fill none in omega arith), rising⇒Sorted _ (p .sorted))
 
   Fill⇒payload : (at : ℕ) (xs : List A) → Fill Standing end at xs → xs ≢ [] → Sorted (map (λ x. textOf x .bytes) xs) → payloadAt step textOf unsorted place end at ≡ answer xs
   unfolding payloadAt
@@ -102,24 +98,24 @@ module _ (place : ℕ) (s : List ℕ) (end : ℕ) (ends : length s ≡ end) (at 
   unfolding recordsAt
   records⇒Fill rs e =
       subst (λ (k : ℕ). Fill (TextIn s) k at rs × (rs ≢ []) × Sorted (map (λ r. r .bytes) rs)) ends
-      (payload⇒Fill (textAt place s) (TextIn s) (λ r. r) 16 place (length s) (text⇒TextIn place s) (TextIn⇒text place s) (text-forward s) at rs e)
+      (payload⇒Fill (textAt place s) (TextIn s) (λ r. r) 16 place (length s) (text⇒TextIn place s) (TextIn⇒text place s) (TextIn⇒forward s) at rs e)
 
   Fill⇒records : (rs : List Text) → Fill (TextIn s) end at rs → rs ≢ [] → Sorted (map (λ r. r .bytes) rs) → recordsAt place s at ≡ answer rs
   unfolding recordsAt
   Fill⇒records rs fill some sorted =
-      Fill⇒payload (textAt place s) (TextIn s) (λ r. r) 16 place (length s) (text⇒TextIn place s) (TextIn⇒text place s) (text-forward s) at rs
+      Fill⇒payload (textAt place s) (TextIn s) (λ r. r) 16 place (length s) (text⇒TextIn place s) (TextIn⇒text place s) (TextIn⇒forward s) at rs
       (subst⁻¹ (λ (k : ℕ). Fill (TextIn s) k at rs) ends fill) some sorted
 
   entries⇒Fill : (xs : List Entry) → entriesAt place s at ≡ answer xs → Fill (EntryIn s) end at xs × (xs ≢ []) × Sorted (map (λ x. x .key .bytes) xs)
   unfolding entriesAt
   entries⇒Fill xs e =
       subst (λ (k : ℕ). Fill (EntryIn s) k at xs × (xs ≢ []) × Sorted (map (λ x. x .key .bytes) xs)) ends
-      (payload⇒Fill (entryAt place s) (EntryIn s) (λ x. x .key) 21 place (length s) (entry⇒EntryIn place s) (EntryIn⇒entry place s) (entry-forward s) at xs e)
+      (payload⇒Fill (entryAt place s) (EntryIn s) (λ x. x .key) 21 place (length s) (entry⇒EntryIn place s) (EntryIn⇒entry place s) (EntryIn⇒forward s) at xs e)
 
   Fill⇒entries : (xs : List Entry) → Fill (EntryIn s) end at xs → xs ≢ [] → Sorted (map (λ x. x .key .bytes) xs) → entriesAt place s at ≡ answer xs
   unfolding entriesAt
   Fill⇒entries xs fill some sorted =
-      Fill⇒payload (entryAt place s) (EntryIn s) (λ x. x .key) 21 place (length s) (entry⇒EntryIn place s) (EntryIn⇒entry place s) (entry-forward s) at xs
+      Fill⇒payload (entryAt place s) (EntryIn s) (λ x. x .key) 21 place (length s) (entry⇒EntryIn place s) (EntryIn⇒entry place s) (EntryIn⇒forward s) at xs
       (subst⁻¹ (λ (k : ℕ). Fill (EntryIn s) k at xs) ends fill) some sorted
 
 -- ---- blocks
@@ -130,26 +126,24 @@ module _ (file : List ℕ) (at : ℕ) where
   payload-long f h = let sized = h .sized in let within = h .within in length-take-le (f .end) file (omega arith)
 
   pub block⇒BlockIn : (b : Block) → blockAt file at ≡ answer b → BlockIn file at b
-  block⇒BlockIn b e =
-      let read = block⇒BlockRead file at b e in
-      by-level (b .frame) (frame⇒FrameIn file at (b .frame) (read .sound)) (read .inside) (leb 1 (b .frame .level)) refl (leb (b .frame .level) 63) refl
+  block⇒BlockIn b e = by-level (frame⇒FrameIn file at f (read .sound)) (level-of (f .level))
     where
-      by-level : (f : Frame) → FrameIn file at f → blockIn file f ≡ answer b → (some : Bool) → leb 1 (f .level) ≡ some → (ordinary : Bool) → leb (f .level) 63 ≡ ordinary → BlockIn file at b
-      by-level f stands e false p o q =
-          let low = leb-false 1 (f .level) p in
-          let zero : f .level ≡ 0 = omega arith in
-          let all = bind⁻¹ (recordsAt (f .start) (take (f .end) file) (f .body + 1)) _ b (sym (block-data file f (data-level (f .level) zero)) ∙ e) in
-          let held = records⇒Fill (f .start) (take (f .end) file) (f .end) (payload-long f stands) (f .body + 1) (all .0) (all .1) in
-          subst (BlockIn file at) (answer-injective _ b (all .2)) (isDataBlock stands zero (held .0) (held .1) (held .2) refl)
-      by-level f stands e true p true q =
-          let some = leb-true 1 (f .level) p in
-          let few = leb-true (f .level) 63 q in
-          let all = bind⁻¹ (entriesAt (f .start) (take (f .end) file) (f .body + 1)) _ b (sym (block-index file f (not-data-level (f .level) (λ z. omega arith)) (ordinary-level (f .level) few)) ∙ e) in
-          let held = entries⇒Fill (f .start) (take (f .end) file) (f .end) (payload-long f stands) (f .body + 1) (all .0) (all .1) in
-          subst (BlockIn file at) (answer-injective _ b (all .2)) (isIndexBlock stands some few (held .0) (held .1) (held .2) refl)
-      by-level f stands e true p false q =
-          let high = leb-false (f .level) 63 q in
-          subst (BlockIn file at) (answer-injective _ b (sym (block-reserved file f (not-data-level (f .level) (λ z. omega arith)) (reserved-level (f .level) high)) ∙ e)) (isReservedBlock stands high refl refl)
+      read : BlockRead file at b
+      read = block⇒BlockRead file at b e
+
+      f : Frame
+      f = b .frame
+
+      by-level : FrameIn file at f → LevelOf (f .level) → BlockIn file at b
+      by-level stands (is-data zero) =
+          let r = inside-data file f b (read .inside) zero in
+          let held = records⇒Fill (f .start) (take (f .end) file) (f .end) (payload-long f stands) (f .body + 1) (b .records) (r .0) in
+          isDataBlock stands zero (held .0) (held .1) (held .2) (r .2)
+      by-level stands (is-index some few) =
+          let r = inside-index file f b (read .inside) (λ z. omega arith) few in
+          let held = entries⇒Fill (f .start) (take (f .end) file) (f .end) (payload-long f stands) (f .body + 1) (b .entries) (r .0) in
+          isIndexBlock stands some few (held .0) (held .1) (held .2) (r .2)
+      by-level stands (is-reserved high) = let r = inside-reserved file f b (read .inside) high in isReservedBlock stands high (r .1) (r .2)
 
   pub BlockIn⇒block : (b : Block) → BlockIn file at b → blockAt file at ≡ answer b
   unfolding blockAt
@@ -196,7 +190,7 @@ module _ (file : List ℕ) where
   block-forward at next b h =
       let f = block-frame file at b (h .0) in
       let ends = h .1 in
-      let number = number-forward file at (b .frame .body) _ (f .numbered) in
+      let number = NumberIn⇒forward file at (b .frame .body) _ (f .numbered) in
       let some = f .some in
       let sized = f .sized in
       let within = f .within in

@@ -7,12 +7,12 @@ use Prim.Native.Nat.{ℕ, _≤_, _<_}
 use native.Mathlib.Omega.{arith}
 use lib.ListN.{length}
 use Rattle.outcome.specs.Outcome.{Outcome, answer, refused}
-use Rattle.header.proofs.RuleLaws.{numbersOf}
 use Rattle.block.specs.Block.{Block}
 use Rattle.block.specs.Survey.{ordinary, recordsOf}
 use Rattle.checker.specs.declared.Checked.{Checked}
 use Rattle.checker.specs.Check.{checkOf, checkAnswer}
 use Rattle.checker.proofs.CheckLaws.{answer-of-refusal, answer-of-blocks}
+use Rattle.header.specs.Header.{headerNumbers}
 use Rattle.theorems_check.specs.Rules.{Rules}
 use Rattle.theorems_check.specs.CheckedByRules.{AcceptedWith, CheckedByRules}
 use Rattle.theorems_check.proofs.AcceptLaws.{Accepted⇒Rules, Rules⇒Accepted, Accepted⇒Reached, Accepted⇒accepted, check⇒Accepted}
@@ -87,7 +87,7 @@ module _ (file : List ℕ) (places : ℕ) where
   pub Rules⇒number-18 : (bs : List Block) → Rules file bs → places < length (ordinary bs) → checkAnswer (checkOf file places) .number ≡ 18
   Rules⇒number-18 bs r few =
       let a = Rules⇒Accepted file bs r in
-      number-18 .1 (record { header = numbersOf file; blocks = bs; reached = Accepted⇒Reached file bs a; few = few })
+      number-18 .1 (record { header = headerNumbers file; blocks = bs; reached = Accepted⇒Reached file bs a; few = few })
 
   -- so the rules decide the answer
   pub check-by-rules : (r : Checked) → r ≡ checkAnswer (checkOf file places) → CheckedByRules file places r

@@ -1,14 +1,13 @@
 -- Items that stand side by side up to an end are the items that are read one after the other.
 -- Assumes nothing.
-use mathlib.Core.Path.{_≡_, refl, sym, _∙_, subst}
+use mathlib.Core.Path.{_≡_, refl, sym, subst}
 use mathlib.Core.Logic.{_≢_}
 use mathlib.Core.List.{List, []}
-use Prim.Native.Nat.{ℕ, zero, suc, _-_, _≤_, _<_}
+use Prim.Native.Nat.{ℕ, _-_, _≤_, _<_}
 use native.Mathlib.Omega.{arith}
 use Rattle.outcome.specs.Outcome.{Outcome, answer}
 use Rattle.items.specs.Items.{Step, itemsFrom}
-use Rattle.outcome.proofs.OutcomeLaws.{answer-injective, bind-answer}
-use Rattle.items.proofs.ItemsLaws.{items-end, items-step, Read, at-end, one-more, items⁻¹}
+use Rattle.items.proofs.ItemsLaws.{Row, row-end, row-more, items⇒row, row⇒items}
 use Rattle.theorems_check.specs.Rules.{Fill, full, item}
 
 -- ---- what fills a part
@@ -40,24 +39,23 @@ module _ {A : Type 0} (step : ℕ → Outcome (Step A)) (Stands : ℕ → ℕ �
     (stands : (at : ℕ) (s : Step A) → step at ≡ answer s → Stands at (s .next) (s .item))
     (steps : (at next : ℕ) (x : A) → Stands at next x → step at ≡ answer (record { item = x; next = next }))
     (forward : (at next : ℕ) (x : A) → Stands at next x → (at < next) × (next ≤ end)) where
-  -- items that were all read fill
-  pub items⇒Fill : (fuel at : ℕ) (xs : List A) → end - at ≤ fuel → at ≤ end → itemsFrom step end fuel at ≡ answer xs → Fill Stands end at xs
-  unfolding itemsFrom
-  items⇒Fill zero at xs enough h e = subst (Fill Stands end at) (answer-injective [] xs e) (fill-none Stands end at (omega arith))
-  items⇒Fill (suc fuel) at xs enough h e = go xs (items⁻¹ step end fuel at xs e) (λ (s : Step A) (more : List A). items⇒Fill fuel (s .next) more)
-    where
-      go : (ys : List A) → Read step end fuel at ys → ((s : Step A) (more : List A) → end - s .next ≤ fuel → s .next ≤ end → itemsFrom step end fuel (s .next) ≡ answer more → Fill Stands end (s .next) more) → Fill Stands end at ys
-      go ys (at-end past) rest = fill-none Stands end at (omega arith)
-      go ys (one-more s more before p q) rest =
-          let one = stands at s p in
-          let f = forward at (s .next) (s .item) one in
-          item one (rest s more (omega arith) (f .1) q)
+  -- items that were all read fill, and back
+  row⇒Fill : (at : ℕ) (xs : List A) → Row step end at xs → at ≤ end → Fill Stands end at xs
+  row⇒Fill at xs (row-end past) h = fill-none Stands end at (omega arith)
+  row⇒Fill at xs (row-more s more before e r) h = let one = stands at s e in item one (row⇒Fill (s .next) more r (forward at (s .next) (s .item) one .1))
 
-  -- items that fill are all read
-  pub Fill⇒items : (fuel at : ℕ) (xs : List A) → Fill Stands end at xs → end - at ≤ fuel → itemsFrom step end fuel at ≡ answer xs
-  Fill⇒items fuel at xs full enough = items-end step end fuel at (omega arith)
-  Fill⇒items zero at xs (item {next = next} {x = x} s r) enough = let f = forward at next x s in absurd (omega arith)
-  Fill⇒items (suc fuel) at xs (item {next = next} {x = x} {xs = more} s r) enough =
+  Fill⇒row : (at : ℕ) (xs : List A) → Fill Stands end at xs → Row step end at xs
+  Fill⇒row at xs full = let past : end ≤ end = omega arith in row-end past
+  Fill⇒row at xs (item {next = next} {x = x} {xs = more} s r) =
       let f = forward at next x s in
-      items-step step end fuel at (record { item = x; next = next }) (omega arith) (steps at next x s)
-      ∙ bind-answer (itemsFrom step end fuel next) _ more (Fill⇒items fuel next more r (omega arith))
+      let before : at < end = omega arith in
+      row-more (record { item = x; next = next }) more before (steps at next x s) (Fill⇒row next more r)
+
+  steps-on : (at : ℕ) (s : Step A) → step at ≡ answer s → at < s .next
+  steps-on at s e = forward at (s .next) (s .item) (stands at s e) .0
+
+  pub items⇒Fill : (fuel at : ℕ) (xs : List A) → end - at ≤ fuel → at ≤ end → itemsFrom step end fuel at ≡ answer xs → Fill Stands end at xs
+  items⇒Fill fuel at xs enough h e = row⇒Fill at xs (items⇒row step end steps-on fuel at xs enough e) h
+
+  pub Fill⇒items : (fuel at : ℕ) (xs : List A) → Fill Stands end at xs → end - at ≤ fuel → itemsFrom step end fuel at ≡ answer xs
+  Fill⇒items fuel at xs fill enough = row⇒items step end steps-on at xs (Fill⇒row at xs fill) fuel enough

@@ -1,7 +1,7 @@
 -- The header's rules hold exactly where the header is accepted.
 -- Assumes nothing.
 use mathlib.Core.Path.{_≡_, refl}
-use mathlib.Core.Bool.{Bool, true, false}
+use mathlib.Core.Bool.{Bool, true, false, false≢true}
 use mathlib.Core.List.{List}
 use Prim.Native.Nat.{ℕ}
 use native.Mathlib.Omega.{arith}
@@ -15,7 +15,6 @@ use Rattle.header.specs.declared.Header.{Header}
 use Rattle.header.specs.Header.{magic, unfinishedMagic, codecNone, headerCrcRight, headerNumbers, headerOf}
 use Rattle.header.proofs.HeaderLaws.{IsHeader, is-header, header-is}
 use Rattle.theorems_check.specs.Rules.{HeaderRules}
-use Rattle.lists.proofs.ListsLaws.{false-not-true}
 
 -- ---- the magic
 
@@ -25,7 +24,7 @@ unfolding magic unfinishedMagic begins
 finished-of file h = go (begins unfinishedMagic file) refl
   where
     go : (b : Bool) → begins unfinishedMagic file ≡ b → begins unfinishedMagic file ≡ false
-    go true e = absurd (false-not-true (begins-both unfinishedMagic magic file e h (omega arith)))
+    go true e = absurd (false≢true (begins-both unfinishedMagic magic file e h (omega arith)))
     go false e = e
 
 -- ---- the whole header

@@ -4,22 +4,21 @@ use mathlib.Core.Path.{_≡_, refl, sym, ap, _∙_, subst, subst⁻¹}
 use mathlib.Core.List.{List}
 use Prim.Native.Nat.{ℕ, _+_, _-_, _≤_, _<_}
 use native.Mathlib.Omega.{arith}
-use lib.Dec.{leb}
 use lib.ListN.{length, take, drop}
 use lib.Seq.{take-take}
-use borrow.Author.Tests.{leb-true}
 use Rattle.uleb128.specs.Number.{number, reading}
 use Rattle.uleb128.proofs.NumberLaws.{number-local}
 use Rattle.outcome.specs.Outcome.{answer}
 use Rattle.items.specs.Items.{Step}
 use Rattle.part.specs.Part.{part}
-use Rattle.outcome.proofs.OutcomeLaws.{answer-injective, kept⁻¹, bind-answer, bind⁻¹}
+use Rattle.outcome.proofs.OutcomeLaws.{bind-answer}
 use Rattle.part.proofs.PartLaws.{length-part}
 use Rattle.framing.specs.Frame.{readAs, numberAt}
 use Rattle.payload.specs.Payload.{Text, Entry, textAt, entryAt, entrySized}
 use Rattle.payload.specs.Answers.{textIn}
 use Rattle.framing.proofs.FrameLaws.{number-read, numbered}
-use Rattle.payload.proofs.PayloadLaws.{text-found, entry-read}
+use Rattle.payload.proofs.PayloadLaws.{text-found, entry-read, text⁻¹, EntryRead, entry⁻¹}
+use Rattle.payload.proofs.ReadLaws.{text-forward, text-within, entry-forward, entry-within}
 use Rattle.theorems_check.specs.Rules.{NumberIn, StandsIn, TextIn, EntryIn}
 
 -- ---- numbers
@@ -51,20 +50,17 @@ NumberIn⇒number cut place s at next value h =
     let ends : at + (next - at) ≡ next = omega arith in
     ap (readAs cut place at) (part-reading s at value (next - at) (h .2)) ∙ ap (λ (a : ℕ). answer (record { item = value; next = a })) ends
 
-pub number-forward : (s : List ℕ) (at next value : ℕ) → NumberIn s at next value → (at < next) × (next ≤ length s)
+pub NumberIn⇒forward : (s : List ℕ) (at next value : ℕ) → NumberIn s at next value → (at < next) × (next ≤ length s)
 unfolding NumberIn
-number-forward s at next value h = (h .0, h .1)
+NumberIn⇒forward s at next value h = (h .0, h .1)
 
 -- ---- byte strings
 
 pub text⇒TextIn : (place : ℕ) (s : List ℕ) (at : ℕ) (t : Step Text) → textAt place s at ≡ answer t → TextIn s at (t .next) (t .item)
-unfolding textAt TextIn StandsIn
+unfolding TextIn StandsIn textIn
 text⇒TextIn place s at t e =
-    let first = bind⁻¹ (numberAt 15 place s at) _ t e in
-    let n = first .0 in
-    let all = kept⁻¹ (leb (n .next + n .item) (length s)) 15 place _ t (first .2) in
-    subst (λ (u : Step Text). TextIn s at (u .next) (u .item)) (answer-injective _ t (all .1))
-    (placed n (number⇒NumberIn 15 place s at n (first .1)) (leb-true _ _ (all .0)))
+    let r = text⁻¹ place s at t e in
+    subst (λ (u : Step Text). TextIn s at (u .next) (u .item)) (r .3) (placed (r .0) (number⇒NumberIn 15 place s at (r .0) (r .1)) (r .2))
   where
     placed : (n : Step ℕ) → NumberIn s at (n .next) (n .item) → n .next + n .item ≤ length s → TextIn s at (n .next + n .item) (record { at = n .next; bytes = part s (n .next) (n .item) })
     placed n stands h =
@@ -78,33 +74,24 @@ TextIn⇒text place s at next t h =
     ∙ ap (λ (l : List ℕ). answer (record { item = record { at = t .at; bytes = l }; next = t .at + length (t .bytes) })) (h .1 .1)
     ∙ ap (λ (a : ℕ). answer (record { item = t; next = a })) (sym (h .2))
 
-pub text-forward : (s : List ℕ) (at next : ℕ) (t : Text) → TextIn s at next t → (at < next) × (next ≤ length s)
-unfolding TextIn StandsIn
-text-forward s at next t h =
-    let f = number-forward s at (t .at) (length (t .bytes)) (h .0) in
-    let inside = h .1 .0 in
-    let ends = h .2 in
-    (omega arith, omega arith)
+pub TextIn⇒forward : (s : List ℕ) (at next : ℕ) (t : Text) → TextIn s at next t → (at < next) × (next ≤ length s)
+TextIn⇒forward s at next t h = let e = TextIn⇒text 0 s at next t h in (text-forward 0 s at _ e, text-within 0 s at _ e)
 
 -- ---- entries
 
 pub entry⇒EntryIn : (place : ℕ) (s : List ℕ) (at : ℕ) (x : Step Entry) → entryAt place s at ≡ answer x → EntryIn s at (x .next) (x .item)
-unfolding entryAt entrySized
-entry⇒EntryIn place s at x e =
-    let first = bind⁻¹ (textAt place s at) _ x e in
-    let key = first .0 in
-    let second = bind⁻¹ (numberAt 15 place s (key .next)) _ x (first .2) in
-    let offset = second .0 in
-    let third = bind⁻¹ (numberAt 15 place s (offset .next)) _ x (second .2) in
-    let size = third .0 in
-    subst (λ (y : Step Entry). EntryIn s at (y .next) (y .item)) (answer-injective _ x (third .2))
-    (record {
-      after-key = key .next;
-      after-offset = offset .next;
-      keyed = text⇒TextIn place s at key (first .1);
-      placed = number⇒NumberIn 15 place s (key .next) offset (second .1);
-      sized = number⇒NumberIn 15 place s (offset .next) size (third .1);
-    })
+entry⇒EntryIn place s at x e = go (entry⁻¹ place s at x e)
+  where
+    go : EntryRead place s at x → EntryIn s at (x .next) (x .item)
+    go r =
+        subst (λ (y : Step Entry). EntryIn s at (y .next) (y .item)) (r .entry-is)
+        (record {
+          after-key = r .key .next;
+          after-offset = r .offset .next;
+          keyed = text⇒TextIn place s at (r .key) (r .key-read);
+          placed = number⇒NumberIn 15 place s (r .key .next) (r .offset) (r .offset-read);
+          sized = number⇒NumberIn 15 place s (r .offset .next) (r .size) (r .size-read);
+        })
 
 pub EntryIn⇒entry : (place : ℕ) (s : List ℕ) (at next : ℕ) (x : Entry) → EntryIn s at next x → entryAt place s at ≡ answer (record { item = x; next = next })
 unfolding entrySized
@@ -114,9 +101,5 @@ EntryIn⇒entry place s at next x h =
     (NumberIn⇒number 15 place s (h .after-key) (h .after-offset) (x .offset) (h .placed))
     ∙ bind-answer (numberAt 15 place s (h .after-offset)) _ (record { item = x .size; next = next }) (NumberIn⇒number 15 place s (h .after-offset) next (x .size) (h .sized))
 
-pub entry-forward : (s : List ℕ) (at next : ℕ) (x : Entry) → EntryIn s at next x → (at < next) × (next ≤ length s)
-entry-forward s at next x h =
-    let key = text-forward s at (h .after-key) (x .key) (h .keyed) in
-    let offset = number-forward s (h .after-key) (h .after-offset) (x .offset) (h .placed) in
-    let size = number-forward s (h .after-offset) next (x .size) (h .sized) in
-    (omega arith, size .1)
+pub EntryIn⇒forward : (s : List ℕ) (at next : ℕ) (x : Entry) → EntryIn s at next x → (at < next) × (next ≤ length s)
+EntryIn⇒forward s at next x h = let e = EntryIn⇒entry 0 s at next x h in (entry-forward 0 s at _ e, entry-within 0 s at _ e)

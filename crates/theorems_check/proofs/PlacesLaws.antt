@@ -3,7 +3,7 @@
 -- Assumes nothing.
 use mathlib.Core.Path.{_≡_, refl, sym, _∙_, subst}
 use mathlib.Core.Logic.{_↔_, _≢_, _⊎_, inl, inr}
-use mathlib.Core.Bool.{Bool, true, false}
+use mathlib.Core.Bool.{Bool, true, false, false≢true}
 use mathlib.Core.List.{List, [], _∷_, List·Memᴰ, Memᴰ·cast}
 use Prim.Native.Nat.{ℕ, suc, _≤_, _<_}
 use native.Mathlib.Omega.{arith}
@@ -14,14 +14,14 @@ use Rattle.outcome.specs.Outcome.{Outcome, answer, refused, _>>_}
 use Rattle.lists.specs.Lists.{any}
 use Rattle.outcome.proofs.OutcomeLaws.{answer-not-refused, after-answer, after-refused}
 use Rattle.header.specs.declared.Header.{Header}
-use Rattle.header.proofs.RuleLaws.{numbersOf}
 use Rattle.block.specs.Block.{Block}
 use Rattle.block.specs.Survey.{ordinary}
 use Rattle.tree.specs.Stages.{each, ascending, allAtMost, neighboursOf, neighbours, namingOf, walkRulesOf, hashRuleOf, treeOf}
 use Rattle.checker.specs.Check.{acceptOf, checkOf}
 use Rattle.checker.proofs.CheckLaws.{Reached, accept-tree, check-18, check-tree, check⁺}
+use Rattle.header.specs.Header.{headerNumbers}
 use Rattle.theorems_check.specs.Rules.{Rules}
-use Rattle.lists.proofs.ListsLaws.{false-not-true, any-member, member-any}
+use Rattle.lists.proofs.ListsLaws.{any-member, member-any}
 use Rattle.outcome.proofs.RefusalLaws.{Refuses, refuses-answer, refuses-refused, refuses-must, refuses-stage, refuses-rule, refuses-more}
 use Rattle.theorems_check.proofs.EarlyStages.{Stages, refuses, reaches, stages}
 use Rattle.theorems_check.proofs.AcceptLaws.{Accepted⇒Rules, Rules⇒Accepted, check⇒Accepted, Accepted⇒Reached}
@@ -32,7 +32,7 @@ use Rattle.theorems_check.proofs.AcceptLaws.{Accepted⇒Rules, Rules⇒
 pub check-accepts : (file : List ℕ) (places : ℕ) (bs : List Block) → length (ordinary bs) ≤ places → (checkOf file places ≡ answer bs) ↔ Rules file bs
 check-accepts file places bs enough = (
   λ e. Accepted⇒Rules file bs (check⇒Accepted file places bs e .0),
-  λ r. let a = Rules⇒Accepted file bs r in check⁺ file places (numbersOf file) bs (Accepted⇒Reached file bs a) enough (a .tree),
+  λ r. let a = Rules⇒Accepted file bs r in check⁺ file places (headerNumbers file) bs (Accepted⇒Reached file bs a) enough (a .tree),
 )
 
 -- ---- the numbers of refusals
@@ -42,7 +42,7 @@ listed : (n : ℕ) (ns : List ℕ) → any (eqb n) ns ≡ true → List·Memᴰ 
 listed n ns e = let r = any-member (eqb n) ns e in Memᴰ·cast (eqb-true n (r .0) (r .2)) (r .1)
 
 unlisted : (n : ℕ) (ns : List ℕ) → any (eqb n) ns ≡ false → List·Memᴰ n ns → ⊥
-unlisted n ns e m = false-not-true (sym e ∙ member-any (eqb n) ns n m (eq-eqb n n refl))
+unlisted n ns e m = false≢true (sym e ∙ member-any (eqb n) ns n m (eq-eqb n n refl))
 
 module _ (Kind : ℕ → Type 0) where
   each-refuses : (rule : Block → Bool) (number : ℕ) (bs : List Block) → Kind number → Refuses Kind (each rule number bs)

@@ -9,6 +9,7 @@ use Rattle.byte_string.specs.Order.{order, orElse, isMore, atMost, begins}
 use Rattle.endian.specs.FixedWidth as fixed
 use Rattle.uleb128.specs.Number.{continuing, sevens, reading}
 use Rattle.crc64.specs.Crc64 as crc
+use Rattle.sha256_block.specs.Compression as compression
 use Rattle.sha256.specs.Sha256 as sha
 use Rattle.outcome.specs.Outcome.{Outcome, answer, refused, _>>=_, _>>_, must, countOf}
 use Rattle.part.specs.Part.{part}
@@ -56,9 +57,10 @@ unfolding smallestFile countOf acceptOf checkWith head.headerOf head.sizeRule he
     block.isOrdinary block.blockIn block.blockAt block.blockStep block.blocksAt survey.ordinary survey.recordsOf survey.isRoot stages.each
     stages.entriesFit stages.namedRightly stages.ascending stages.allAtMost stages.neighboursOf stages.neighbours stages.keysFit stages.payloads
     stages.namingOf stages.walkRulesOf stages.hashRuleOf stages.treeOf stages.hasRoot tree.blockEntries tree.blockRecords tree.blockLevel tree.names
-    tree.namings tree.leaves tree.under tree.recordsBefore tree.keyFits sha.add sha.complement sha.rotr sha.shr sha.Ch sha.Maj sha.Σ₀ sha.Σ₁ sha.σ₀
-    sha.σ₁ sha.K sha.initial sha.padding sha.wordsOf sha.nextWord sha.extended sha.schedule sha.round sha.rounds sha.sums sha.compress
-    sha.compressBlocks sha.over sha.digest sha.sha256 fixed.bigEndian fixed.littleBytes fixed.bigBytes flatMap
+    tree.namings tree.leaves tree.under tree.recordsBefore tree.keyFits compression.add compression.complement compression.rotr compression.shr
+    compression.Ch compression.Maj compression.Σ₀ compression.Σ₁ compression.σ₀ compression.σ₁ compression.K compression.wordsOf compression.nextWord
+    compression.extended compression.schedule compression.round compression.rounds compression.sums compression.compress compression.compressBlocks
+    compression.over sha.initial sha.padding sha.digest sha.sha256 fixed.bigEndian fixed.littleBytes fixed.bigBytes flatMap
 two-blocks = refl
 
 answered : (o : Outcome (List Block)) → countOf length o ≡ 2 → (bs : List Block) × (o ≡ answer bs)

@@ -1,35 +1,28 @@
 -- Byte strings of which each is at most the next are sorted, and offsets that pass the walk's test rise.
 -- Assumes nothing.
-use mathlib.Core.Path.{_≡_, refl, ap, _∙_}
+use mathlib.Core.Path.{_≡_, refl, _∙_}
 use mathlib.Core.Bool.{true}
-use mathlib.Core.List.{List, [], _∷_, List·Memᴰ, List·Memᴰ·head, List·Memᴰ·tail, List·Memᴰ·not-nil}
+use mathlib.Core.List.{List, [], _∷_, List·Memᴰ, List·Memᴰ·head, List·Memᴰ·not-nil}
 use Prim.Native.Nat.{ℕ, suc, _≤_}
-use native.Mathlib.Omega.{arith}
 use lib.Dec.{leb}
-use borrow.Author.Tests.{le-leb, leb-true}
+use borrow.Author.Tests.{le-leb}
 use Rattle.byte_string.specs.Order.{atMost}
-use Rattle.byte_string.proofs.OrderLaws.{atMost-trans}
 use Rattle.outcome.specs.Outcome.{answer}
-use Rattle.outcome.proofs.OutcomeLaws.{kept, kept⁻¹}
+use Rattle.outcome.proofs.OutcomeLaws.{kept}
 use Rattle.payload.specs.Payload.{rising, risingFrom}
 use Rattle.tree.specs.Stages.{ascending}
+use Rattle.payload.proofs.ScanLaws.{risingFrom-each}
+use Rattle.tree.proofs.StageLaws.{ascending⁻¹}
+use Rattle.lists.proofs.RisingLaws.{member-below}
 use Rattle.theorems_check.specs.Rules.{Sorted, no-string, one-string, Rising, no-number, one-number}
-use Rattle.lists.proofs.ListsLaws.{both, both⁻¹}
+use Rattle.lists.proofs.ListsLaws.{both, both⁻¹, Ascending, below-each}
 
 -- ---- byte strings
-
--- the first of rising byte strings is at most every one after it
-rising-below : (x : List ℕ) (xs : List (List ℕ)) → risingFrom x xs ≡ true → (y : List ℕ) → List·Memᴰ y xs → atMost x y ≡ true
-unfolding risingFrom
-rising-below x xs h y (List·Memᴰ·head {x = z} {xs = zs} e) = ap (atMost x) e ∙ both⁻¹ (atMost x z) (risingFrom z zs) h .0
-rising-below x xs h y (List·Memᴰ·tail {x = z} {xs = zs} m) =
-    let r = both⁻¹ (atMost x z) (risingFrom z zs) h in
-    atMost-trans x z y (r .0) (rising-below z zs (r .1) y m)
 
 sorted-from : (x : List ℕ) (xs : List (List ℕ)) → risingFrom x xs ≡ true → Sorted (x ∷ xs)
 unfolding risingFrom
 sorted-from x [] h = one-string (λ y m. absurd (List·Memᴰ·not-nil m)) no-string
-sorted-from x (y ∷ ys) h = one-string (rising-below x (y ∷ ys) h) (sorted-from y ys (both⁻¹ (atMost x y) (risingFrom y ys) h .1))
+sorted-from x (y ∷ ys) h = one-string (risingFrom-each x (y ∷ ys) h) (sorted-from y ys (both⁻¹ (atMost x y) (risingFrom y ys) h .1))
 
 pub rising⇒Sorted : (xs : List (List ℕ)) → rising xs ≡ true → Sorted xs
 unfolding rising
@@ -48,22 +41,19 @@ Sorted⇒rising xs (one-string {x = x} {xs = ys} h r) = from-sorted x ys h r
 
 -- ---- offsets
 
--- no offset is below the least that is allowed
-ascending-above : (least : ℕ) (xs : List ℕ) → ascending least xs ≡ answer tt → (y : ℕ) → List·Memᴰ y xs → least ≤ y
-unfolding ascending
-ascending-above least xs h y (List·Memᴰ·head {x = z} {xs = zs} e) = let first = leb-true least z (kept⁻¹ (leb least z) 22 z (ascending (suc z) zs) tt h .0) in omega arith
-ascending-above least xs h y (List·Memᴰ·tail {x = z} {xs = zs} m) =
-    let r = kept⁻¹ (leb least z) 22 z (ascending (suc z) zs) tt h in
-    let first = leb-true least z (r .0) in
-    let later = ascending-above (suc z) zs (r .1) y m in
-    omega arith
+-- as the rules say it, and as a pair for each
+pub Rising⇒Ascending : (xs : List ℕ) → Rising xs → Ascending xs
+unfolding Ascending
+Rising⇒Ascending xs no-number = tt
+Rising⇒Ascending xs (one-number {x} {xs = ys} h r) = (member-below x ys h, Rising⇒Ascending ys r)
+
+pub Ascending⇒Rising : (xs : List ℕ) → Ascending xs → Rising xs
+unfolding Ascending
+Ascending⇒Rising [] h = no-number
+Ascending⇒Rising (x ∷ xs) h = one-number (below-each x xs (h .0)) (Ascending⇒Rising xs (h .1))
 
 pub ascending⇒Rising : (least : ℕ) (xs : List ℕ) → ascending least xs ≡ answer tt → Rising xs
-unfolding ascending
-ascending⇒Rising least [] h = no-number
-ascending⇒Rising least (x ∷ xs) h =
-    let rest = kept⁻¹ (leb least x) 22 x (ascending (suc x) xs) tt h .1 in
-    one-number (ascending-above (suc x) xs rest) (ascending⇒Rising (suc x) xs rest)
+ascending⇒Rising least xs h = Ascending⇒Rising xs (ascending⁻¹ least xs h .0)
 
 pub Rising⇒ascending : (least : ℕ) (xs : List ℕ) → ((y : ℕ) → List·Memᴰ y xs → least ≤ y) → Rising xs → ascending least xs ≡ answer tt
 unfolding ascending

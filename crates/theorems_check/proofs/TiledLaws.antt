@@ -1,42 +1,30 @@
 -- Laws of blocks that tile a file: where they stand, and what they hold.
 -- Assumes nothing.
-use mathlib.Core.Path.{_≡_, refl, sym, subst}
-use mathlib.Core.List.{List, [], _∷_, List·Memᴰ, List·Memᴰ·head, List·Memᴰ·tail, List·Memᴰ·not-nil}
+use mathlib.Core.Path.{_≡_, sym, subst}
+use mathlib.Core.List.{List, List·Memᴰ, List·Memᴰ·head, List·Memᴰ·tail, List·Memᴰ·not-nil}
 use Prim.Native.Nat.{ℕ, _≤_}
 use native.Mathlib.Omega.{arith}
 use lib.ListN.{length}
 use Rattle.payload.specs.Payload.{Text, Entry}
 use Rattle.block.specs.Block.{Block}
-use Rattle.theorems_check.specs.Rules.{Fill, full, item, BlockIn, isDataBlock, isIndexBlock, isReservedBlock, Stands}
-use Rattle.theorems_check.proofs.BlockRuleLaws.{block-frame, block-forward}
+use Rattle.block.proofs.HeldLaws.{record⇒data, entry⇒index, data-some}
+use Rattle.lists.proofs.RisingLaws.{some-member}
+use Rattle.theorems_check.specs.Rules.{Fill, full, item, BlockIn, Stands}
+use Rattle.theorems_check.proofs.BlockRuleLaws.{block-frame, block-forward, BlockIn⇒block}
 
 -- ---- what a block holds
 
--- a list that is not empty has a member
-first-member : {A : Type 0} (xs : List A) → (xs ≡ [] → ⊥) → (x : A) × List·Memᴰ x xs
-first-member [] h = absurd (h refl)
-first-member (x ∷ xs) h = (x, List·Memᴰ·head refl)
-
-no-member : {A : Type 0} (xs : List A) (x : A) → xs ≡ [] → List·Memᴰ x xs → ⊥
-no-member xs x e m = List·Memᴰ·not-nil (subst (List·Memᴰ x) e m)
-
-module _ (file : List ℕ) (at : ℕ) (b : Block) where
+module _ (file : List ℕ) (at : ℕ) (b : Block) (h : BlockIn file at b) where
   -- a block with a record is a data block, and a data block has one
-  pub record-level : BlockIn file at b → (r : Text) → List·Memᴰ r (b .records) → b .frame .level ≡ 0
-  record-level (isDataBlock stands zero fill some sorted none) r m = zero
-  record-level (isIndexBlock stands low high fill some sorted none) r m = absurd (no-member (b .records) r none m)
-  record-level (isReservedBlock stands high none neither) r m = absurd (no-member (b .records) r none m)
+  pub record-level : (r : Text) → List·Memᴰ r (b .records) → b .frame .level ≡ 0
+  record-level r m = record⇒data file at b (BlockIn⇒block file at b h) r m
 
-  pub data-record : BlockIn file at b → b .frame .level ≡ 0 → (r : Text) × List·Memᴰ r (b .records)
-  data-record (isDataBlock stands zero fill some sorted none) level = first-member (b .records) some
-  data-record (isIndexBlock stands low high fill some sorted none) level = absurd (omega arith)
-  data-record (isReservedBlock stands high none neither) level = absurd (omega arith)
+  pub data-record : b .frame .level ≡ 0 → (r : Text) × List·Memᴰ r (b .records)
+  data-record level = some-member (b .records) (data-some file at b (BlockIn⇒block file at b h) level)
 
   -- a block with an entry is an index block
-  pub entry-level : BlockIn file at b → (e : Entry) → List·Memᴰ e (b .entries) → (1 ≤ b .frame .level) × (b .frame .level ≤ 63)
-  entry-level (isDataBlock stands zero fill some sorted none) e m = absurd (no-member (b .entries) e none m)
-  entry-level (isIndexBlock stands low high fill some sorted none) e m = (low, high)
-  entry-level (isReservedBlock stands high none neither) e m = absurd (no-member (b .entries) e neither m)
+  pub entry-level : (e : Entry) → List·Memᴰ e (b .entries) → (1 ≤ b .frame .level) × (b .frame .level ≤ 63)
+  entry-level e m = entry⇒index file at b (BlockIn⇒block file at b h) e m
 
 -- ---- where blocks stand
 

@@ -1,54 +1,34 @@
 -- Each rule of the tree holds exactly where its stage of the check is passed. The blocks tile the file.
 -- Assumes nothing.
 use mathlib.Core.Path.{_≡_, refl, sym, ap, _∙_, subst}
-use mathlib.Core.Logic.{_≢_}
-use mathlib.Core.Bool.{Bool, true, false, _&&_, cond}
+use mathlib.Core.Bool.{true}
 use mathlib.Core.List.{List, [], _∷_, List·Memᴰ}
 use Prim.Native.Nat.{ℕ, _+_, _-_, _≤_, _<_}
 use native.Mathlib.Omega.{arith}
-use lib.Dec.{ltb, eqb}
+use lib.Dec.{ltb}
 use lib.ListN.{length, take, drop}
-use borrow.Author.Tests.{le-leb, ltb-true, lt-ltb, eqb-true, eqb-false, eq-eqb, ne-eqb}
+use borrow.Author.Tests.{ltb-true, lt-ltb}
 use Rattle.byte_string.specs.Order.{atMost, begins}
 use Rattle.byte_string.proofs.PrefixLaws.{take-begins, begins-of-take}
 use Rattle.sha256.specs.Sha256.{sha256}
 use Rattle.sha256.proofs.StateLaws.{sha256-length}
 use Rattle.outcome.specs.Outcome.{answer}
 use Rattle.part.specs.Part.{part}
-use Rattle.header.specs.declared.Header.{Header}
 use Rattle.payload.specs.Payload.{Text, Entry}
-use Rattle.block.specs.Block.{Block, isOrdinary}
-use Rattle.block.specs.Survey.{ordinary, recordsOf, isRoot}
-use Rattle.tree.specs.Tree.{names, namings, under, recordsBefore, keyFits}
-use Rattle.tree.specs.Stages.{each, entriesFit, namedRightly, keysFit, hasRoot}
+use Rattle.block.specs.Block.{Block}
+use Rattle.block.specs.Survey.{ordinary, recordsOf}
+use Rattle.tree.specs.Tree.{names, under, recordsBefore, keyFits}
+use Rattle.tree.specs.Stages.{each, entriesFit, keysFit}
 use Rattle.theorems_check.specs.Rules.{Fill, Stands}
-use Rattle.lists.proofs.ListsLaws.{both, both⁻¹, all-member, member-all, member-any, keep-member, member-keep}
-use Rattle.tree.proofs.StageLaws.{each-member, member-each, ordinary-member, member-ordinary, names⁻¹}
+use Rattle.lists.proofs.ListsLaws.{both, both⁻¹, all-member, member-all, keep-member, member-keep}
+use Rattle.tree.proofs.StageLaws.{each-member, member-each, ordinary-member, member-ordinary, names-true, fit⁻¹}
 use Rattle.theorems_check.proofs.TiledLaws.{entry-level, tiled-block}
-
--- ---- the root
-
-module _ (bs : List Block) (h : Header) where
-  pub rooted⇒root : (b : Block) → List·Memᴰ b bs → b .frame .start ≡ h .root → b .frame .size ≡ h .rootsize → 1 ≤ b .frame .level → b .frame .level ≤ 63 → hasRoot h bs ≡ true
-  unfolding hasRoot isRoot isOrdinary
-  rooted⇒root b m start size low high =
-      member-any (λ c. isRoot (h .root) (h .rootsize) (c .frame)) bs b m
-      (both _ _ (both _ _ (eq-eqb _ _ start) (eq-eqb _ _ size)) (both _ _ (le-leb 1 _ low) (le-leb _ 63 high)))
 
 -- ---- names
 
 -- an entry of a block of this level names a block
 abbrev pub Named : List Block → (level : ℕ) → Entry → Type 0
 Named bs level e = (c : Block) × List·Memᴰ c bs × (c .frame .start ≡ e .offset) × (c .frame .size ≡ e .size) × (c .frame .level + 1 ≡ level)
-
-module _ (bs : List Block) (level : ℕ) (e : Entry) where
-  names-of : level ≤ 63 → Named bs level e → names bs level e ≡ true
-  unfolding names
-  names-of few n =
-      let c = n .0 in
-      let lower = n .4 in
-      member-any (λ d. (eqb (d .frame .start) (e .offset) && eqb (d .frame .size) (e .size)) && eqb (d .frame .level + 1) level) (ordinary bs) c (member-ordinary bs c (n .1) (omega arith))
-      (both _ _ (both _ _ (eq-eqb _ _ (n .2)) (eq-eqb _ _ (n .3))) (eq-eqb _ _ lower))
 
 -- ---- the key of an entry
 
@@ -82,16 +62,17 @@ module _ (file : List ℕ) (from : ℕ) (bs : List Block) (tiled : Fill (Stands 
 
   -- 19
   pub fit⇒named : each (entriesFit bs) 19 (ordinary bs) ≡ answer tt → (b : Block) → List·Memᴰ b bs → (e : Entry) → List·Memᴰ e (b .entries) → Named bs (b .frame .level) e
-  unfolding entriesFit
-  fit⇒named h b m e n =
-      names⁻¹ bs (b .frame .level) e
-      (all-member (names bs (b .frame .level)) (b .entries) (each-member (entriesFit bs) 19 (ordinary bs) h b (member-ordinary bs b m (entry-ordinary b m e n))) e n)
+  fit⇒named h b m e n = fit⁻¹ bs h b m (entry-ordinary b m e n) e n
+
+  named⇒names : (level : ℕ) (e : Entry) → level ≤ 63 → Named bs level e → names bs level e ≡ true
+  named⇒names level e few n = let lower = n .4 in names-true bs level e (n .0) (member-ordinary bs (n .0) (n .1) (omega arith)) (n .2) (n .3) lower
 
   pub named⇒fit : ((b : Block) → List·Memᴰ b bs → (e : Entry) → List·Memᴰ e (b .entries) → Named bs (b .frame .level) e) → each (entriesFit bs) 19 (ordinary bs) ≡ answer tt
   unfolding entriesFit
   named⇒fit h =
       member-each (entriesFit bs) 19 (ordinary bs)
-      (λ b i. let o = ordinary-member bs b i in member-all (names bs (b .frame .level)) (b .entries) (λ e n. names-of bs (b .frame .level) e (o .1) (h b (o .0) e n)))
+      (λ b i. let o = ordinary-member bs b i in
+      member-all (names bs (b .frame .level)) (b .entries) (λ e n. named⇒names (b .frame .level) e (o .1) (h b (o .0) e n)))
 
   -- 24
   pub fit⇒keyed : each (keysFit bs) 24 (ordinary bs) ≡ answer tt
@@ -108,32 +89,6 @@ module _ (file : List ℕ) (from : ℕ) (bs : List Block) (tiled : Fill (Stands 
       member-each (keysFit bs) 24 (ordinary bs)
       (λ b i. member-all (λ x. keyFits bs (x .key .bytes) (under bs (b .frame .level - 1) (x .offset))) (b .entries)
       (λ e n. keyFits-of bs (e .key .bytes) (under bs (b .frame .level - 1) (e .offset)) (h b (ordinary-member bs b i .0) e n)))
-
--- 20
-module _ (bs : List Block) (root : ℕ) where
-  pub rightly⇒once : each (namedRightly bs root) 20 (ordinary bs) ≡ answer tt
-      → (b : Block) → List·Memᴰ b bs → b .frame .level ≤ 63 → b .frame .start ≢ root → namings bs (b .frame .start) ≡ 1
-  unfolding namedRightly
-  rightly⇒once h b m few other =
-      eqb-true _ _ (each-member (namedRightly bs root) 20 (ordinary bs) h b (member-ordinary bs b m few))
-      ∙ ap (λ (t : Bool). cond t 0 1) (ne-eqb (b .frame .start) root other)
-
-  pub rightly⇒unnamed : each (namedRightly bs root) 20 (ordinary bs) ≡ answer tt
-      → (b : Block) → List·Memᴰ b bs → b .frame .level ≤ 63 → b .frame .start ≡ root → namings bs root ≡ 0
-  unfolding namedRightly
-  rightly⇒unnamed h b m few same =
-      ap (namings bs) (sym same)
-      ∙ eqb-true _ _ (each-member (namedRightly bs root) 20 (ordinary bs) h b (member-ordinary bs b m few))
-      ∙ ap (λ (t : Bool). cond t 0 1) (eq-eqb (b .frame .start) root same)
-
-  pub once⇒rightly : ((b : Block) → List·Memᴰ b bs → b .frame .level ≤ 63 → b .frame .start ≢ root → namings bs (b .frame .start) ≡ 1)
-      → namings bs root ≡ 0 → each (namedRightly bs root) 20 (ordinary bs) ≡ answer tt
-  unfolding namedRightly
-  once⇒rightly once unnamed = member-each (namedRightly bs root) 20 (ordinary bs) (λ b i. let o = ordinary-member bs b i in go b (o .0) (o .1) (eqb (b .frame .start) root) refl)
-    where
-      go : (b : Block) → List·Memᴰ b bs → b .frame .level ≤ 63 → (t : Bool) → eqb (b .frame .start) root ≡ t → eqb (namings bs (b .frame .start)) (cond (eqb (b .frame .start) root) 0 1) ≡ true
-      go b m few true e = eq-eqb _ _ (ap (namings bs) (eqb-true _ _ e) ∙ unnamed ∙ sym (ap (λ (t : Bool). cond t 0 1) e))
-      go b m few false e = eq-eqb _ _ (once b m few (eqb-false _ _ e) ∙ sym (ap (λ (t : Bool). cond t 0 1) e))
 
 -- 25
 pub begins⇒hashed : (file m : List ℕ) → begins (sha256 m) (drop 40 file) ≡ true → part file 40 32 ≡ sha256 m

@@ -7,7 +7,6 @@ use Prim.Native.Nat.{ℕ, _+_, _≤_, _<_}
 use native.Mathlib.Omega.{arith}
 use lib.ListN.{length}
 use Rattle.outcome.specs.Outcome.{answer}
-use Rattle.header.proofs.RuleLaws.{numbersOf as headerNumbers}
 use Rattle.payload.specs.Payload.{Text}
 use Rattle.block.specs.Block.{Block}
 use Rattle.block.specs.Survey.{recordsOf}
@@ -21,6 +20,7 @@ use Rattle.checker.specs.Check.{acceptOf, checkOf, checkAnswer}
 use Rattle.theorems_check.specs.Rules.{Rules, StandsIn, Rising, no-number, one-number}
 use Rattle.theorems_check.proofs.AcceptLaws.{accepted⇒Accepted, Rules⇒accepted}
 use Rattle.theorems_check.proofs.CheckTheorems.{number-0⇒Rules}
+use Rattle.header.specs.Header.{headerNumbers}
 use Rattle.theorems_read.specs.ReadByRules.{GivesMatches, ReadByRules}
 use Rattle.theorems_read.proofs.ReadTheorems.{is-read, read-answer, read-whole, read-laid}
 

@@ -8,8 +8,7 @@ use Rattle.byte_string.specs.Order.{AreBytes}
 use Rattle.byte_string.proofs.BytesLaws.{bytes-take, bytes-drop}
 use Rattle.outcome.specs.Outcome.{answer}
 use Rattle.part.specs.Part.{part}
-use Rattle.header.specs.Header.{blocksFrom, fieldAt, H}
-use Rattle.header.proofs.RuleLaws.{numbersOf}
+use Rattle.header.specs.Header.{blocksFrom, fieldAt, H, headerNumbers}
 use Rattle.block.specs.Block.{Block, blocksAt}
 use Rattle.block.proofs.HeldLaws.{key-in-block}
 use Rattle.block.proofs.TileLaws.{blocks-read}
@@ -40,7 +39,7 @@ module _ (file : List ℕ) (from : ℕ) (bs : List Block) (stage : blocksAt file
 
 module _ (file : List ℕ) (bs : List Block) (accepted : acceptOf file ≡ answer bs) where
   accepted-blocks : blocksAt file (24 + H file) ≡ answer bs
-  unfolding numbersOf blocksFrom
+  unfolding headerNumbers blocksFrom
   accepted-blocks = accepted⇒Accepted file bs accepted .blocks
 
   pub accepted⇒keys : AreBytes file → KeysAreBytes bs

@@ -2,12 +2,12 @@
 -- Assumes nothing.
 use mathlib.Core.Path.{_≡_, refl, sym, ap, _∙_, subst}
 use mathlib.Core.Logic.{_⊎_, inl, inr, _≢_}
-use mathlib.Core.Bool.{false}
+use mathlib.Core.Bool.{false, false≢true}
 use mathlib.Core.List.{List, [], _∷_, _++_, flatMap, List·Memᴰ, List·Memᴰ·cases-cons, List·Memᴰ·eq-of-singleton}
 use mathlib.Core.Option.{Option}
 use Prim.Native.Nat.{ℕ, zero, suc}
 use native.Mathlib.Omega.{arith}
-use Rattle.lists.proofs.ListsLaws.{flatMap-member, false-not-true}
+use Rattle.lists.proofs.ListsLaws.{flatMap-member}
 use Rattle.lists.proofs.RisingLaws.{member-split, split-member}
 use Rattle.payload.specs.Payload.{Entry}
 use Rattle.block.specs.Block.{Block}
@@ -142,4 +142,4 @@ module _ (bs : List Block) (root : ℕ) (t : Tree bs root) (q : Query) where
   unopened-below level at w front e back split closed x m o =
       let named = opened-above level (e .offset) (way-down level at w front e back split) x m o in
       let c = opened-entry level at w front e back split named .0 in
-      false-not-true (sym closed ∙ CanMatch⇒mayMatch (e .key .bytes) (nextKey back (upperOf bs root (suc level) at w)) q c)
+      false≢true (sym closed ∙ CanMatch⇒mayMatch (e .key .bytes) (nextKey back (upperOf bs root (suc level) at w)) q c)

@@ -12,9 +12,8 @@ use borrow.Author.Tests.{lt-ltb, le-leb, eq-eqb}
 use Rattle.outcome.specs.Outcome.{Outcome, answer, _>>=_, _>>_, must}
 use Rattle.outcome.proofs.OutcomeLaws.{after-bind, kept, bind-answer, bind-same}
 use Rattle.lists.proofs.ListsLaws.{both}
-use Rattle.header.specs.Header.{headerOf, blocksFrom, fieldAt}
+use Rattle.header.specs.Header.{headerOf, blocksFrom, fieldAt, headerNumbers}
 use Rattle.header.proofs.HeaderLaws.{blocks-within}
-use Rattle.header.proofs.RuleLaws.{numbersOf}
 use Rattle.framing.specs.Frame.{soundFrameAt}
 use Rattle.payload.specs.Payload.{Text, Entry}
 use Rattle.block.specs.Block.{Block, blockIn, blocksAt}
@@ -142,16 +141,17 @@ module _ (file : List ℕ) (from : ℕ) (bs : List Block) (stage : blocksAt file
 pub accepted⇒Tree : (file : List ℕ) (bs : List Block) → acceptOf file ≡ answer bs → Tree bs (fieldAt file 16)
 accepted⇒Tree file bs e =
     let a = accepted⇒Accepted file bs e in
-    rules⇒Tree file (blocksFrom (numbersOf file)) bs (a .blocks) (blocks-within file (numbersOf file) (a .header)) (Accepted⇒Rules file bs a .tree)
+    rules⇒Tree file (blocksFrom (headerNumbers file)) bs (a .blocks) (blocks-within file (headerNumbers file) (a .header)) (Accepted⇒Rules file bs a .tree)
 
 -- its search is the run of its events
 pub search-events : (file : List ℕ) (bs : List Block) → acceptOf file ≡ answer bs → (q : Query) (places room : ℕ)
     → searchOf file q places room ≡ run places room (searchEvents bs (fieldAt file 16) q) nothing
-unfolding searchOf numbersOf
+unfolding searchOf headerNumbers
 search-events file bs e q places room =
     let a = accepted⇒Accepted file bs e in
     let r = Accepted⇒Rules file bs a .tree in
     let t = accepted⇒Tree file bs e in
     let top = r .rooted in
-    bind-answer (headerOf file) _ (numbersOf file) (a .header)
-    ∙ walk-root file (blocksFrom (numbersOf file)) bs (a .blocks) (fieldAt file 16) t q places room (fieldAt file 24) (top .0) (top .1) (top .2) (top .3) (top .4) (top .5)
+    bind-answer (headerOf file) _ (headerNumbers file) (a .header)
+    ∙ walk-root file (blocksFrom (headerNumbers file)) bs (a .blocks)
+    (fieldAt file 16) t q places room (fieldAt file 24) (top .0) (top .1) (top .2) (top .3) (top .4) (top .5)

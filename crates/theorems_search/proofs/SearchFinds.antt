@@ -9,9 +9,8 @@ use lib.Seq.{append-snoc}
 use Rattle.outcome.specs.Outcome.{answer}
 use Rattle.lists.proofs.CountLaws.{keep-none}
 use Rattle.lists.proofs.RisingLaws.{flatMap-flatMap}
-use Rattle.header.specs.Header.{blocksFrom, fieldAt, H}
+use Rattle.header.specs.Header.{blocksFrom, fieldAt, H, headerNumbers}
 use Rattle.header.proofs.HeaderLaws.{blocks-within}
-use Rattle.header.proofs.RuleLaws.{numbersOf}
 use Rattle.payload.specs.Payload.{Text, Entry}
 use Rattle.block.specs.Block.{Block}
 use Rattle.block.specs.Survey.{recordsOf}
@@ -111,7 +110,7 @@ pub accepted⇒SearchTree : (file : List ℕ) (bs : List Block) → acceptOf fil
 accepted⇒SearchTree file bs e =
     let a = accepted⇒Accepted file bs e in
     let r = Accepted⇒Rules file bs a in
-    rules⇒SearchTree file (blocksFrom (numbersOf file)) bs (a .blocks) (blocks-within file (numbersOf file) (a .header))
+    rules⇒SearchTree file (blocksFrom (headerNumbers file)) bs (a .blocks) (blocks-within file (headerNumbers file) (a .header))
     (λ (b : Block) (m : List·Memᴰ b bs). records-rise file (b .frame .start) b (tiled-block file (24 + H file) bs (r .tiled) b m .0)) (r .tree)
 
 -- everything that matches is found, in file order and as often as stored

@@ -2,7 +2,7 @@
 -- Assumes nothing.
 use mathlib.Core.Path.{_≡_, refl, sym, ap, _∙_, subst}
 use mathlib.Core.Logic.{_≢_}
-use mathlib.Core.Bool.{Bool, true, false, _&&_, not}
+use mathlib.Core.Bool.{Bool, true, false, _&&_, not, false≢true}
 use mathlib.Core.List.{List, [], _∷_, _++_, List·Memᴰ, List·Memᴰ·head, List·Memᴰ·tail}
 use mathlib.Core.Option.{Option, none, some}
 use Prim.Native.Nat.{ℕ, _≤_, _<_}
@@ -13,7 +13,7 @@ use borrow.Author.Tests.{eqb-true, eq-eqb}
 use Rattle.byte_string.specs.Order.{atMost}
 use Rattle.byte_string.proofs.OrderLaws.{atMost-trans}
 use Rattle.lists.specs.Lists.{keep, any}
-use Rattle.lists.proofs.ListsLaws.{keep-append, both⁻¹, false-not-true, any-member, member-any, member-keep, keep-first}
+use Rattle.lists.proofs.ListsLaws.{both⁻¹, any-member, member-any, member-keep}
 use Rattle.payload.specs.Payload.{Text}
 use Rattle.block.specs.Block.{Block}
 use Rattle.query.specs.Query.{Query, matches}
@@ -21,14 +21,15 @@ use Rattle.query.specs.Opening.{upTo}
 use Rattle.query.proofs.QueryLaws.{matches-convex}
 use Rattle.tree.specs.Tree.{blockLevel, under}
 use Rattle.theorems_tree.specs.Preorder.{Kept, preorder}
+use Rattle.lists.proofs.CountLaws.{keep-split}
 use Rattle.theorems_search.specs.OpeningRule.{Opened, LeadsTo, InVain}
 use Rattle.theorems_search.specs.SearchedByRules.{QueryBytes}
 use Rattle.tree.proofs.TreeLaws.{level-at}
-use Rattle.tree.proofs.TreeWays.{Way, block-way}
+use Rattle.tree.proofs.TreeWays.{Way, block-way, under-some}
 use Rattle.theorems_search.proofs.Events.{searchEvents, opensIn}
 use Rattle.theorems_tree.proofs.TreePreorder.{preorder⇒ordinary}
 use Rattle.theorems_tree.proofs.TreeLevels.{blocksOfLevel}
-use Rattle.theorems_tree.proofs.TreeCuts.{SearchTree, Past, lowerOf, upperOf, under-some}
+use Rattle.theorems_tree.proofs.TreeCuts.{SearchTree, Past, lowerOf, upperOf}
 use Rattle.theorems_tree.proofs.TreeBounds.{upper-earlier, lower-later}
 use Rattle.theorems_search.proofs.KeptLaws.{kept-decided, kept-member, kept-split}
 use Rattle.theorems_search.proofs.RuleWays.{opened-admits}
@@ -43,9 +44,6 @@ few-elements [] h = omega arith
 few-elements (x ∷ []) h = omega arith
 few-elements (x ∷ y ∷ []) h = omega arith
 few-elements (x ∷ y ∷ z ∷ rest) h = absurd (h x y z rest refl)
-
-keep-split : {A : Type 0} (test : A → Bool) (xs front : List A) (x : A) (back : List A) → xs ≡ front ++ (x ∷ back) → test x ≡ true → keep test xs ≡ keep test front ++ (x ∷ keep test back)
-keep-split {A} test xs front x back e h = ap (keep test) e ∙ keep-append test front (x ∷ back) ∙ ap (λ (l : List A). keep test front ++ l) (keep-first test x back h)
 
 -- what is at most an upper bound is at most what is past it
 below-past : (x : List ℕ) (upper : Option (List ℕ)) (y : List ℕ) → upTo x upper ≡ true → Past upper y → atMost x y ≡ true
@@ -77,7 +75,7 @@ module _ (bs : List Block) (root : ℕ) (k : SearchTree bs root) (q : Query) (l 
         leveled = b .3;
         vain = λ (r : Text) (lead : LeadsTo bs x r) (hit : matches q (r .bytes) ≡ true).
             let i = subst (λ (n : ℕ). List·Memᴰ r (under bs n x)) (b .3) (leads⇒under bs root (k .tree) x r lead (b .0) (b .1) (b .2)) in
-            false-not-true (sym (ap not (member-any (λ r. matches q (r .bytes)) (under bs l x) r i hit)) ∙ h .1);
+            false≢true (sym (ap not (member-any (λ r. matches q (r .bytes)) (under bs l x) r i hit)) ∙ h .1);
       }
 
   untested⇒match : (x : ℕ) → blockLevel bs x ≡ l → inVain bs q l x ≡ false → any (λ r. matches q (r .bytes)) (under bs l x) ≡ true
@@ -162,7 +160,7 @@ module _ (bs : List Block) (root : ℕ) (k : SearchTree bs root) (q : Query) (l 
           let first = vain-before [] x (y ∷ z ∷ rest) e (InVain-level x (a .2)) y (List·Memᴰ·head refl) (InVain-level y (b .2)) in
           let second = vain-before (x ∷ []) y (z ∷ rest) e (InVain-level y (b .2)) z (List·Memᴰ·head refl) (InVain-level z (c .2)) in
           let v = way-to y (b .2) (b .0) in
-          let some = under-some bs root k l y v in
+          let some = under-some bs root (k .tree) l y v in
           let r = some .0 in
           let inside = subst (List·Memᴰ r) (sym (some .2)) (List·Memᴰ·head refl) in
           let hit = between-matches x y z first second (InVain-level x (a .2)) (InVain-level z (c .2)) (way-to x (a .2) (a .0)) v (way-to z (c .2) (c .0)) (a .1) (c .1) r inside in

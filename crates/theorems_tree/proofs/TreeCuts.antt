@@ -10,16 +10,17 @@ use native.Mathlib.Omega.{arith}
 use lib.Seq.{append-snoc}
 use Rattle.byte_string.specs.Order.{atMost}
 use Rattle.byte_string.proofs.OrderLaws.{atMost-refl, atMost-trans, nil-atMost}
-use Rattle.lists.proofs.ListsLaws.{Ascending, flatMap-append, member-flatMap}
-use Rattle.lists.proofs.RisingLaws.{split-member, some-member, flatMap-split, ascending-apart}
+use Rattle.lists.proofs.ListsLaws.{Ascending, flatMap-append}
+use Rattle.lists.proofs.RisingLaws.{split-member, flatMap-split, ascending-apart}
 use Rattle.payload.specs.Payload.{Text, Entry}
 use Rattle.block.specs.Block.{Block}
 use Rattle.block.specs.Survey.{recordsOf}
 use Rattle.tree.specs.Tree.{blockEntries, blockRecords, blockLevel, leaves, under}
 use Rattle.search.specs.Search.{nextKey}
 use Rattle.theorems_check.specs.Rules.{Sorted, one-string}
-use Rattle.tree.proofs.TreeLaws.{Tree, records-at, leaves-data, leaves-some}
-use Rattle.tree.proofs.TreeWays.{Way, at-root, by-entry, Turn, turnsOf, leavesBefore, leavesAfter, pre, post, records-cut, Met, way-block, met-entries}
+use Rattle.tree.proofs.TreeLaws.{Tree}
+use Rattle.tree.proofs.TreeWays.{Way, at-root, by-entry, Turn, turnsOf, leavesBefore, leavesAfter, pre, post}
+use Rattle.tree.proofs.TreeWays.{records-cut, Met, way-block, met-entries, under-some}
 
 -- ---- bounds
 
@@ -165,43 +166,14 @@ pub record SearchTree (bs : List Block) (root : ℕ) : Type 0 where
       → (atMost (e .key .bytes) (first .bytes) ≡ true) × ((r : Text) → List·Memᴰ r (recordsOf bs) → r .at < first .at → atMost (r .bytes) (e .key .bytes) ≡ true)
 
 module _ (bs : List Block) (root : ℕ) (k : SearchTree bs root) where
-  -- a block on a way from the root leads to a record
-  pub under-some : (level at : ℕ) → Way bs root level at → (first : Text) × (rest : List Text) × (under bs level at ≡ first ∷ rest)
-  unfolding under
-  under-some level at w = begun (under bs level at) refl (member-flatMap (λ o. blockRecords bs o) (leaves bs level at) (leaf .0) (own .0) in-leaves in-records)
-    where
-      t : Tree bs root
-      t = k .tree
-
-      met : Met bs root t level at
-      met = way-block bs root t level at w
-
-      leaf : (o : ℕ) × List·Memᴰ o (leaves bs level (met .block .frame .start))
-      leaf = leaves-some bs root t level (met .block) (met .member) (met .leveled) (met .few)
-
-      in-leaves : List·Memᴰ (leaf .0) (leaves bs level at)
-      in-leaves = subst (λ (n : ℕ). List·Memᴰ (leaf .0) (leaves bs level n)) (met .starts) (leaf .1)
-
-      block : (d : Block) × List·Memᴰ d bs × (d .frame .start ≡ leaf .0) × (d .frame .level ≡ 0)
-      block = leaves-data bs root t level (met .block) (met .member) (met .leveled) (leaf .0) (leaf .1)
-
-      own : (r : Text) × List·Memᴰ r (block .0 .records)
-      own = some-member (block .0 .records) (t .data-records (block .0) (block .1) (block .3))
-
-      in-records : List·Memᴰ (own .0) (blockRecords bs (leaf .0))
-      in-records = subst (List·Memᴰ (own .0)) (sym (records-at bs root t (block .0) (block .1)) ∙ ap (blockRecords bs) (block .2)) (own .1)
-
-      begun : (rs : List Text) → under bs level at ≡ rs → {r : Text} → List·Memᴰ r rs → (first : Text) × (rest : List Text) × (under bs level at ≡ first ∷ rest)
-      begun [] p m = absurd (List·Memᴰ·not-nil m)
-      begun (r ∷ rs) p m = (r, rs, p)
-
   -- the lower bound separates the records before the block from its own and those after it
   pub lower-cut : (level at : ℕ) (w : Way bs root level at)
       → ((r : Text) → List·Memᴰ r (pre bs root level at w) → atMost (r .bytes) (lowerOf bs root level at w) ≡ true)
       × ((r : Text) → List·Memᴰ r (under bs level at ++ post bs root level at w) → atMost (lowerOf bs root level at w) (r .bytes) ≡ true)
   unfolding lowerOf lowerBound turnsOf pre leavesBefore flatMap
   lower-cut level at (at-root p q) = (λ (r : Text) (m : List·Memᴰ r []). absurd (List·Memᴰ·not-nil m), λ r m. nil-atMost (r .bytes))
-  lower-cut level at (by-entry upper front e back w p q) = go (by-entry upper front e back w p q) (under-some level at (by-entry upper front e back w p q))
+  lower-cut level at (by-entry upper front e back w p q) =
+      go (by-entry upper front e back w p q) (under-some bs root (k .tree) level at (by-entry upper front e back w p q))
     where
       met : Met bs root (k .tree) (suc level) upper
       met = way-block bs root (k .tree) (suc level) upper w

@@ -9,29 +9,17 @@ use lib.ListN.{length}
 use Rattle.byte_string.specs.Order.{atMost}
 use Rattle.outcome.specs.Outcome.{answer}
 use Rattle.lists.proofs.ListsLaws.{Ascending, below-member}
-use Rattle.lists.proofs.RisingLaws.{member-below, below-each}
 use Rattle.header.specs.Header.{fieldAt}
 use Rattle.payload.specs.Payload.{Text}
 use Rattle.block.specs.Block.{Block, blocksAt}
 use Rattle.block.specs.Survey.{recordsOf}
 use Rattle.block.proofs.TileLaws.{file-record-block, file-records-all}
 use Rattle.tree.specs.Tree.{blockLevel, leaves}
-use Rattle.theorems_check.specs.Rules.{TreeRules, Rising, no-number, one-number, Sorted, no-string, one-string}
+use Rattle.theorems_check.specs.Rules.{TreeRules, Rising, Sorted, no-string, one-string}
 use Rattle.tree.proofs.TreeLaws.{Tree}
 use Rattle.tree.proofs.TreeBlocks.{blocks⇒Tree}
+use Rattle.theorems_check.proofs.SortedLaws.{Rising⇒Ascending}
 use Rattle.theorems_tree.proofs.TreeCuts.{SearchTree}
-
--- ---- numbers that rise, as the rules say it and as a pair for each element
-
-pub Rising⇒Ascending : (xs : List ℕ) → Rising xs → Ascending xs
-unfolding Ascending
-Rising⇒Ascending xs no-number = tt
-Rising⇒Ascending xs (one-number {x} {xs = ys} h r) = (member-below x ys h, Rising⇒Ascending ys r)
-
-pub Ascending⇒Rising : (xs : List ℕ) → Ascending xs → Rising xs
-unfolding Ascending
-Ascending⇒Rising [] h = no-number
-Ascending⇒Rising (x ∷ xs) h = one-number (below-each x xs (h .0)) (Ascending⇒Rising xs (h .1))
 
 -- ---- the tree
 

@@ -7,7 +7,7 @@ use Prim.Native.Nat.{_-_}
 use lib.ListN.{length, take, drop}
 use Rattle.byte_string.specs.Order.{begins}
 use Rattle.sha256.specs.Sha256.{sha256}
-use Rattle.framing.proofs.FrameLaws.{rest}
+use Rattle.part.proofs.PartLaws.{lent-drop}
 use Rattle.block.specs.Laid.{laidFrom}
 use Rattle.tree.specs.Stages.{payloads}
 use Rattle.check_hash.proofs.HashLaws.{holds-hash, hash-missing}
@@ -48,7 +48,7 @@ returns-2 c =
     let hashed = c .before .before .before .before .hashed in
     c .begins-with .ensures ∙ ap (λ (d : List _). begins d (take (length (now (args .file)) - 40) (drop 40 (now (args .file)))))
     (finish .ensures ∙ holds-hash (now (args .file)) (args .from) pre _ (hashed .ensures)) ∙ ap (begins (sha256 (payloads (now (args .file))
-    (laidFrom (now (args .file)) (args .from))))) (rest (now (args .file)) 40)
+    (laidFrom (now (args .file)) (args .from))))) (lent-drop (now (args .file)) 40)
 
 pub hash-right-spec : {M : Type 1} → statement M
 hash-right-spec =

@@ -1,9 +1,10 @@
 -- `still_rising` meets its contract. Assumes nothing.
-use mathlib.Core.Path.{_∙_, ap₂}
+use mathlib.Core.Path.{sym, _∙_, ap₂}
 use borrow.Author.Needs.{needs}
 use Rattle.byte_string.specs.Order.{atMost}
 use Rattle.part.specs.Part.{part}
-use Rattle.payload.proofs.ScanLaws.{still, no-longer, lent}
+use Rattle.part.proofs.PartLaws.{lent-part}
+use Rattle.lists.proofs.ListsLaws.{both-false, both-rest}
 use Rattle.payload.proofs.still_rising.Statement.{statement}
 use Rattle.payload.proofs.still_rising.Tie as tie
 
@@ -39,11 +40,12 @@ unfolding part
 returns c =
     let if1 = c .before .before .before .if1 in
     let args = c .before .before .before .before .before .before .before .args in
-    still _ _ _ (if1 .taken) (c .at-most .ensures ∙ ap₂ atMost (lent _ (args .last .offset) (args .last .length)) (lent _
-    (args .next .offset) (args .next .length)))
+    c .at-most .ensures
+    ∙ ap₂ atMost (lent-part _ (args .last .offset) (args .last .length)) (lent-part _ (args .next .offset) (args .next .length))
+    ∙ sym (both-rest _ _ (if1 .taken))
 
 returns-2 : tie.Need-returns-2
-returns-2 c = no-longer _ _ (c .if1 .left)
+returns-2 c = sym (both-false _ _ (c .if1 .left))
 
 pub still-rising-spec : {M : Type 1} → statement M
 still-rising-spec =

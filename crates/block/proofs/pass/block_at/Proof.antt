@@ -4,8 +4,9 @@ use Prim.Native.Nat.{ℕ}
 use borrow.Author.Needs.{needs}
 use denote.Ref.{now}
 use Rattle.framing.specs.Answers.{frameSaid}
+use Rattle.framing.proofs.FrameLaws.{frame-bounds, frame-start}
 use Rattle.block.specs.Answers.{blockSaid}
-use Rattle.block.proofs.BlockLaws.{frame-bounds, frame-start, block-framed, block-unframed}
+use Rattle.block.proofs.BlockLaws.{block-framed, block-unframed}
 use Rattle.block.proofs.pass.block_at.Statement.{statement}
 use Rattle.block.proofs.pass.block_at.Tie as tie
 

@@ -1,7 +1,7 @@
 -- `fits_between` meets its contract: both tests, the second where the first holds. Assumes nothing.
 use mathlib.Core.Path.{sym, _∙_}
 use Rattle.check_walk.specs.Keys.{Within, fitsBetween}
-use Rattle.check_walk.proofs.KeyLaws.{both-true, both-false}
+use Rattle.lists.proofs.ListsLaws.{both-false, both-rest}
 use Rattle.check_walk.proofs.keys.fits_between.Statement.{statement}
 use Rattle.check_walk.proofs.keys.fits_between.Tie as tie
 
@@ -21,11 +21,11 @@ returns : tie.Need-returns
 unfolding fitsBetween
 returns c =
     let part-at-most = c .before .before .part-at-most in
-    both-true _ _ _ (sym (part-at-most .ensures) ∙ c .before .if1 .taken) (c .part-at-most2 .ensures)
+    c .part-at-most2 .ensures ∙ sym (both-rest _ _ (sym (part-at-most .ensures) ∙ c .before .if1 .taken))
 
 returns-2 : tie.Need-returns-2
 unfolding fitsBetween
-returns-2 c = both-false _ _ (sym (c .before .part-at-most .ensures) ∙ c .if1 .left)
+returns-2 c = sym (both-false _ _ (sym (c .before .part-at-most .ensures) ∙ c .if1 .left))
 
 pub fits-between-spec : {M : Type 1} → statement M
 fits-between-spec = tie.close (tie.spec part-at-most-requires part-at-most-requires-2 returns returns-2)
