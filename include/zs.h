@@ -5,7 +5,8 @@
  *
  * Every function takes any bytes and any lists, and always returns.
  *
- * Byte strings are a pointer and a length. They are never written, and may overlap each other.
+ * Byte strings are a pointer and a length. They are never written, and may overlap each other. An output of bytes, likewise a pointer and
+ * a length, is written whole, and must not overlap a byte string.
  *
  * Lists are a pointer to 64-bit numbers, aligned as such, and how many places there are. They must not overlap each other or the byte
  * strings. Numbers stand at the front, and zeros after them. Every call writes every place of every list, so a long list costs time
@@ -37,6 +38,7 @@
 typedef struct zs_read_answer { uint64_t number, place, matches; } zs_read_answer;
 typedef struct zs_checked { uint64_t number, place, blocks, records; } zs_checked;
 typedef struct zs_found { uint64_t number, place, matches, opened; } zs_found;
+typedef struct zs_written { uint64_t number, place, length; } zs_written;
 
 /* A part of the file. */
 typedef struct zs_part { uint64_t offset, length; } zs_part;
@@ -71,7 +73,11 @@ typedef enum zs_refusal {
     ZS_BAD_KEY = 24,
     ZS_DATA_HASH = 25,
     ZS_OPENED_LIST_SHORT = 26,
-    ZS_RESULT_LIST_SHORT = 27
+    ZS_RESULT_LIST_SHORT = 27,
+    ZS_BAD_RECORDS = 28,
+    ZS_INPUT_UNSORTED = 29,
+    ZS_COUNT_OUT_OF_RANGE = 30,
+    ZS_OUTPUT_SHORT = 31
 } zs_refusal;
 
 /* What a number means, in a sentence. "This block" is the one at the place. */
@@ -106,6 +112,10 @@ static inline const char *zs_message(uint64_t number)
     case ZS_DATA_HASH: return "the SHA-256 of the data isn't the one that the header states";
     case ZS_OPENED_LIST_SHORT: return "the search opens more blocks than the opened list has places";
     case ZS_RESULT_LIST_SHORT: return "more records match than there is room for";
+    case ZS_BAD_RECORDS: return "the records to be written aren't each a length and as many bytes, or there are none";
+    case ZS_INPUT_UNSORTED: return "the records to be written are out of order";
+    case ZS_COUNT_OUT_OF_RANGE: return "a count is out of range: 1 to 65535 records in a data block, 2 to 65535 entries in an index block";
+    case ZS_OUTPUT_SHORT: return "the file would be longer than its output, or than 1073741824 bytes (2^30)";
     default: return "no refusal has this number";
     }
 }
@@ -141,6 +151,13 @@ bool zs_within(const uint8_t *file, size_t file_len, uint64_t offset, uint64_t l
 
 /* Where the metadata lie, braces included; 0, 0 where the header is refused (1 to 9), and only then. Blocks aren't looked at. */
 zs_part zs_metadata(const uint8_t *file, size_t file_len);
+
+/* Writes a file into the output: the metadata, and records that rise, each a length (uleb128 in shortest form) and as many bytes, one
+ * after the other; so many records in a data block (1 to 65535) and so many entries in an index block (2 to 65535). The output then holds
+ * the file and zeros after it, and `length` is the file's. Refusals in this order: 30 a count, 9 the metadata, 28 and 29 the records, 31
+ * no room; after one the output is zeros. Every call writes every byte of the output. A file written is one that zs_check accepts. */
+zs_written zs_write(const uint8_t *metadata, size_t metadata_len, const uint8_t *records, size_t records_len, uint64_t per_block,
+                    uint64_t per_index, uint8_t *output, size_t output_len);
 
 #ifdef __cplusplus
 }

@@ -65,6 +65,27 @@ pub struct Found {
     pub opened: u64,
 }
 
+/// Number and place of a refusal, both 0 without one, and how long the file is that was written.
+#[repr(C)]
+#[derive(Clone, Copy, Debug, PartialEq, Eq)]
+pub struct Written {
+    /// The refusal, or 0.
+    pub number: u64,
+    /// Its place, or 0.
+    pub place: u64,
+    /// The length of the file.
+    pub length: u64,
+}
+
+/// How many records a data block holds, and how many entries an index block.
+#[derive(Clone, Copy, Debug, PartialEq, Eq)]
+pub struct Counts {
+    /// Records in a data block, 1 to 65,535.
+    pub per_block: u64,
+    /// Entries in an index block, 2 to 65,535.
+    pub per_index: u64,
+}
+
 /// A part of a file.
 #[repr(C)]
 #[derive(Clone, Copy, Debug, PartialEq, Eq)]
@@ -109,6 +130,16 @@ extern "C" {
     fn zs_record(file: *const u8, file_len: usize, offset: u64, length: u64) -> Part;
     fn zs_within(file: *const u8, file_len: usize, offset: u64, length: u64) -> bool;
     fn zs_metadata(file: *const u8, file_len: usize) -> Part;
+    fn zs_write(
+        metadata: *const u8,
+        metadata_len: usize,
+        records: *const u8,
+        records_len: usize,
+        per_block: u64,
+        per_index: u64,
+        output: *mut u8,
+        output_len: usize,
+    ) -> Written;
 }
 
 /// Checks the file. `work` needs a place for each ordinary block and is all zeros afterwards.
@@ -198,6 +229,24 @@ pub fn metadata_part(file: &[u8]) -> Part {
 pub fn metadata(file: &[u8]) -> Option<&[u8]> {
     let part = metadata_part(file);
     (part.length > 0).then(|| bytes_of(file, part))
+}
+
+/// Writes a file of these records, each a length (uleb128) and as many bytes, into `output`, which then holds the file and zeros after it;
+/// after a refusal zeros.
+pub fn write(metadata: &[u8], records: &[u8], counts: Counts, output: &mut [u8]) -> Written {
+    // SAFETY: each pointer comes with the length of the slice it is taken from, and `output` is borrowed alone.
+    unsafe {
+        zs_write(
+            metadata.as_ptr(),
+            metadata.len(),
+            records.as_ptr(),
+            records.len(),
+            counts.per_block,
+            counts.per_index,
+            output.as_mut_ptr(),
+            output.len(),
+        )
+    }
 }
 
 /// Maps a whole file.

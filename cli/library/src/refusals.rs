@@ -12,6 +12,8 @@ pub enum Call {
     Read,
     /// [`search`](crate::search), through the index.
     Search,
+    /// [`write`](crate::write).
+    Write,
 }
 
 /// A refusal.
@@ -29,11 +31,13 @@ pub struct Row {
     pub advice: &'static str,
 }
 
-const EVERY: &[Call] = &[Call::Check, Call::Read, Call::Search];
+const READERS: &[Call] = &[Call::Check, Call::Read, Call::Search];
+const EVERY: &[Call] = &[Call::Check, Call::Read, Call::Search, Call::Write];
 const CHECK: &[Call] = &[Call::Check];
 const SEARCH: &[Call] = &[Call::Search];
 const CHECK_AND_SEARCH: &[Call] = &[Call::Check, Call::Search];
 const READ_AND_SEARCH: &[Call] = &[Call::Read, Call::Search];
+const WRITE: &[Call] = &[Call::Write];
 
 const ZERO: &str = "0";
 const BLOCK: &str = "the block's first byte";
@@ -51,37 +55,37 @@ const COPY_OR_MAKE: &str = "get an undamaged copy of the file, or make the archi
 /// All refusals, by rising numbers.
 #[rustfmt::skip]
 pub const TABLE: &[Row] = &[
-    row(1, EVERY, ZERO, "the file is longer than 1073741824 bytes (2^30)",
+    row(1, READERS, ZERO, "the file is longer than 1073741824 bytes (2^30)",
         "put the records into several archives"),
-    row(2, EVERY, ZERO, "the file isn't finished: its writer is still at work, or has stopped before the end",
+    row(2, READERS, ZERO, "the file isn't finished: its writer is still at work, or has stopped before the end",
         "wait for its writer, or make the archive again"),
-    row(3, EVERY, ZERO, "this is no ZS file: it doesn't begin as one",
+    row(3, READERS, ZERO, "this is no ZS file: it doesn't begin as one",
         "make sure that this is the right file"),
-    row(4, EVERY, ZERO, "the header doesn't fit in the file",
+    row(4, READERS, ZERO, "the header doesn't fit in the file",
         COPY),
-    row(5, EVERY, ZERO, "the header's checksum is wrong: its bytes were changed",
+    row(5, READERS, ZERO, "the header's checksum is wrong: its bytes were changed",
         COPY),
-    row(6, EVERY, ZERO, "the header is too short for its fields or its metadata",
+    row(6, READERS, ZERO, "the header is too short for its fields or its metadata",
         MAKE),
-    row(7, EVERY, ZERO, "the codec isn't `none`, the only one that is read",
+    row(7, READERS, ZERO, "the codec isn't `none`, the only one that is read",
         "make the archive again with the codec `none`"),
-    row(8, EVERY, ZERO, "the file's length isn't the one that its header states",
+    row(8, READERS, ZERO, "the file's length isn't the one that its header states",
         COPY),
     row(9, EVERY, ZERO, "the metadata doesn't begin with { and end with }",
         "make the archive again with metadata in braces"),
-    row(10, EVERY, BLOCK, "this block is cut off: its number or its bytes run past the end of the file",
+    row(10, READERS, BLOCK, "this block is cut off: its number or its bytes run past the end of the file",
         COPY_OR_MAKE),
-    row(11, EVERY, BLOCK, "a number in this block takes more than nine bytes",
+    row(11, READERS, BLOCK, "a number in this block takes more than nine bytes",
         COPY_OR_MAKE),
-    row(12, EVERY, BLOCK, "a number in this block isn't written in its shortest form",
+    row(12, READERS, BLOCK, "a number in this block isn't written in its shortest form",
         COPY_OR_MAKE),
-    row(13, EVERY, BLOCK, "this block has the length 0",
+    row(13, READERS, BLOCK, "this block has the length 0",
         COPY_OR_MAKE),
-    row(14, EVERY, BLOCK, "this block's checksum is wrong: its bytes were changed",
+    row(14, READERS, BLOCK, "this block's checksum is wrong: its bytes were changed",
         COPY),
-    row(15, EVERY, BLOCK, "this block holds nothing, or something in it runs past its end",
+    row(15, READERS, BLOCK, "this block holds nothing, or something in it runs past its end",
         MAKE),
-    row(16, EVERY, BLOCK, "the records of this block are out of order",
+    row(16, READERS, BLOCK, "the records of this block are out of order",
         MAKE),
     row(17, CHECK_AND_SEARCH, ZERO, "the header doesn't name an index block as the root",
         MAKE),
@@ -91,7 +95,7 @@ pub const TABLE: &[Row] = &[
         MAKE),
     row(20, CHECK, FIRST_BLOCK, "this block is named by no entry or by more than one, or is the root and is named",
         MAKE),
-    row(21, EVERY, INDEX_BLOCK, "the keys of this index block are out of order",
+    row(21, READERS, INDEX_BLOCK, "the keys of this index block are out of order",
         MAKE),
     row(22, CHECK, DATA_BLOCK, "the index leads to this data block after one that comes later in the file",
         MAKE),
@@ -105,6 +109,14 @@ pub const TABLE: &[Row] = &[
         "check the file, then give an opened list with a place for each data and index block"),
     row(27, READ_AND_SEARCH, ZERO, "more records match than there is room for",
         "ask for fewer records, or give a greater --max-results or a result list with two places per match"),
+    row(28, WRITE, ZERO, "the records to be written aren't each a length and as many bytes, or there are none",
+        "give one record or more, each after its length, a number in shortest form"),
+    row(29, WRITE, ZERO, "the records to be written are out of order",
+        "sort the records as unsigned bytes"),
+    row(30, WRITE, ZERO, "a count is out of range: 1 to 65535 records in a data block, 2 to 65535 entries in an index block",
+        "give counts within these ranges"),
+    row(31, WRITE, ZERO, "the file would be longer than its output, or than 1073741824 bytes (2^30)",
+        "give a longer output, or put the records into several archives"),
 ];
 
 const fn row(

@@ -101,7 +101,7 @@ static void print_words(void)
     zs_checked full = zs_check(file, length, work, 1);
     enum zs_refusal named = ZS_WORK_LIST_SHORT;
     printf("names %d %d\n", cut.number == ZS_FILE_LENGTH, full.number == (uint64_t)named);
-    for (uint64_t number = ZS_OK; number <= ZS_RESULT_LIST_SHORT + 1; number++)
+    for (uint64_t number = ZS_OK; number <= ZS_OUTPUT_SHORT + 1; number++)
         printf("message %llu %s\n", (unsigned long long)number, zs_message(number));
 }
 

@@ -71,10 +71,11 @@ fn zs_h_has_a_name_and_the_sentence_for_each_number() {
 fn readme_says_which_call_gives_which_numbers() {
     let words = |call| in_words(&numbers(call).collect::<Vec<_>>());
     let due = format!(
-        "The check gives {}, reading front to back {}, the search {}.",
+        "The check gives {}, reading front to back {}, the search {}, writing {}.",
         words(Call::Check),
         words(Call::Read),
-        words(Call::Search)
+        words(Call::Search),
+        words(Call::Write)
     );
     assert!(refusals_section().contains(&due), "{due}");
 }

@@ -1,2 +1,2 @@
--- What is claimed of the tree of a written file.
-pub mod WrittenTree
+-- What is claimed of writing.
+pub mod WrittenByRules

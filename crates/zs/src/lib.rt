@@ -11,6 +11,7 @@ ghost use Rattle.reader.specs.Read.{readOf, readAnswer, readList};
 ghost use Rattle.record.specs.Record.{isWithin, partStart, partLength};
 ghost use Rattle.checker.specs.Check.{checkOf, checkAnswer};
 ghost use Rattle.search.specs.Search.{searchOf, searchAnswer, openedList, resultList};
+ghost use Rattle.writer.specs.Write.{writeOf, writtenAnswer, writtenOutput};
 ghost use Rattle.theorems_check.specs.CheckedByRules.{CheckedByRules};
 ghost use Rattle.theorems_read.specs.ReadByRules.{ReadByRules};
 ghost use Rattle.theorems_search.specs.SearchedByRules.{SearchedByRules};
@@ -19,6 +20,7 @@ use checker::Checked;
 use part::Part;
 use reader::ReadAnswer;
 use search::Found;
+use writer::Written;
 
 // Reads the file front to back (`reader::read`).
 #[no_mangle]
@@ -113,4 +115,21 @@ pub extern "C" fn zs_metadata(file: &[u8]) -> Part
     ensures { λ r. ⌜ r ≡ metadataPart (now (file .entry)) ⌝ }
 {
     header::metadata(file)
+}
+
+// Writes a file (`writer::write`).
+#[no_mangle]
+pub extern "C" fn zs_write(
+    metadata: &[u8],
+    records: &[u8],
+    per_block: u64,
+    per_index: u64,
+    output: &mut [u8],
+) -> Written
+    ensures { λ r. ⌜ r ≡ writtenAnswer
+        (writeOf (now (metadata .entry)) (now (records .entry)) «per_block» «per_index» (length (now (output .entry)))) ⌝ }
+    ensures { λ r. ⌜ now (output .exit) ≡ writtenOutput (length (now (output .entry)))
+        (writeOf (now (metadata .entry)) (now (records .entry)) «per_block» «per_index» (length (now (output .entry)))) ⌝ }
+{
+    writer::write(metadata, records, per_block, per_index, output)
 }

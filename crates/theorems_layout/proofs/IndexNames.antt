@@ -11,7 +11,7 @@ use Rattle.lists.specs.Groups.{lastOr}
 use Rattle.lists.proofs.ListsLaws.{flatMap-append, member-flatMap}
 use Rattle.layout.specs.Index.{IndexEntry, IndexBlock, entryFor, levelFrom, rootOf}
 use Rattle.layout.proofs.IndexFitLaws.{length-level, level-member}
-use Rattle.theorems_write.proofs.Levels.{Levels, top, higher, level-entries}
+use Rattle.theorems_layout.proofs.Levels.{Levels, top, higher, level-entries}
 
 -- ---- the last element
 

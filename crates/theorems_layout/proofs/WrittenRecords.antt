@@ -21,11 +21,11 @@ use Rattle.layout.specs.File.{indexBlocks}
 use Rattle.layout.specs.Placed.{placedText, placedRecords, placedData, placedDatas, placedIndex, placedBlocks}
 use Rattle.layout.proofs.ReadBackLaws.{length-text}
 use Rattle.theorems_check.specs.Rules.{Sorted}
-use Rattle.theorems_write.specs.WrittenTree.{joined, Writable}
-use Rattle.theorems_write.proofs.WrittenSizes.{length-data, blockSize-parts}
-use Rattle.theorems_write.proofs.PlacedLaws.{placed-after, indexes-records, datas-bytes}
-use Rattle.theorems_write.proofs.WrittenNames.{blocks-few}
-use Rattle.theorems_write.proofs.SortedParts.{sorted-right, sorted-apart}
+use Rattle.theorems_layout.specs.WrittenTree.{joined, Writable}
+use Rattle.theorems_layout.proofs.WrittenSizes.{length-data, blockSize-parts}
+use Rattle.theorems_layout.proofs.PlacedLaws.{placed-after, indexes-records, datas-bytes}
+use Rattle.theorems_layout.proofs.WrittenNames.{blocks-few}
+use Rattle.theorems_layout.proofs.SortedParts.{sorted-right, sorted-apart}
 
 -- ---- where records stand
 

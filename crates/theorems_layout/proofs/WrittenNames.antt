@@ -22,12 +22,12 @@ use Rattle.layout.specs.File.{dataEntries, dataPart, indexBlocks, rootEntry}
 use Rattle.layout.specs.Placed.{placedDatas, placedIndex, placedBlocks}
 use Rattle.layout.proofs.SideBySideLaws.{index-side-by-side}
 use Rattle.layout.proofs.FileFitLaws.{length-dataEntries}
-use Rattle.theorems_write.specs.WrittenTree.{Writable}
-use Rattle.theorems_write.proofs.Levels.{Levels, index-levels, levels-within}
-use Rattle.theorems_write.proofs.IndexNames.{Top, levels-top, levels-named, NamedBy}
-use Rattle.theorems_write.proofs.PlacedLaws.{Reads, placed-entry, index-level, index-entries, indexes-offsets, indexes-starts, indexes-rise}
-use Rattle.theorems_write.proofs.PlacedLaws.{entryFor-offsets, entryFor-names, datas-member, datas-rise, datas-entries}
-use Rattle.theorems_write.proofs.PlacedLaws.{dataEntries-offsets, dataEntries-named}
+use Rattle.theorems_layout.specs.WrittenTree.{Writable}
+use Rattle.theorems_layout.proofs.Levels.{Levels, index-levels, levels-within}
+use Rattle.theorems_layout.proofs.IndexNames.{Top, levels-top, levels-named, NamedBy}
+use Rattle.theorems_layout.proofs.PlacedLaws.{Reads, placed-entry, index-level, index-entries, indexes-offsets, indexes-starts, indexes-rise}
+use Rattle.theorems_layout.proofs.PlacedLaws.{entryFor-offsets, entryFor-names, datas-member, datas-rise, datas-entries}
+use Rattle.theorems_layout.proofs.PlacedLaws.{dataEntries-offsets, dataEntries-named}
 
 -- ---- lists
 

@@ -16,8 +16,8 @@ use Rattle.layout.specs.Index.{indexBytes}
 use Rattle.layout.specs.File.{headerBytes, headerData, blocksStart, dataPart, indexBlocks, blocksPart, rootEntry, fileOf}
 use Rattle.layout.proofs.IndexFitLaws.{groups-joined}
 use Rattle.theorems_check.proofs.SortedLaws.{rising⇒Sorted}
-use Rattle.theorems_write.specs.WrittenTree.{joined, Writable}
-use Rattle.theorems_write.proofs.WrittenSizes.{data-least}
+use Rattle.theorems_layout.specs.WrittenTree.{joined, Writable}
+use Rattle.theorems_layout.proofs.WrittenSizes.{data-least}
 
 -- ---- a file of at most 2^30 bytes has at most 2^27 data blocks
 

@@ -21,14 +21,14 @@ use Rattle.layout.specs.File.{dataEntries, indexBlocks, rootEntry}
 use Rattle.layout.specs.Placed.{placedIndex, placedBlocks}
 use Rattle.theorems_check.specs.Rules.{Sorted, TreeRules}
 use Rattle.theorems_check.proofs.SortedLaws.{Ascending⇒Rising}
-use Rattle.theorems_write.specs.WrittenTree.{Writable, RootedTree}
-use Rattle.theorems_write.proofs.PlacedLaws.{Reads, placed-entry, index-level, index-entries, datas-member}
-use Rattle.theorems_write.proofs.WrittenNames.{Kinds, block-kinds, written-levels, written-rise, written-once, written-unnamed}
-use Rattle.theorems_write.proofs.WrittenNames.{levels-few, written-rooted, written-named}
-use Rattle.theorems_write.proofs.WrittenWalk.{written-walked}
-use Rattle.theorems_write.proofs.WrittenRecords.{written-records, sorted⇒ordered}
-use Rattle.theorems_write.proofs.WrittenKeys.{Leads, leads-up}
-use Rattle.theorems_write.proofs.DataKeys.{KeyHolds, leads-lowest}
+use Rattle.theorems_layout.specs.WrittenTree.{Writable, RootedTree}
+use Rattle.theorems_layout.proofs.PlacedLaws.{Reads, placed-entry, index-level, index-entries, datas-member}
+use Rattle.theorems_layout.proofs.WrittenNames.{Kinds, block-kinds, written-levels, written-rise, written-once, written-unnamed}
+use Rattle.theorems_layout.proofs.WrittenNames.{levels-few, written-rooted, written-named}
+use Rattle.theorems_layout.proofs.WrittenWalk.{written-walked}
+use Rattle.theorems_layout.proofs.WrittenRecords.{written-records, sorted⇒ordered}
+use Rattle.theorems_layout.proofs.WrittenKeys.{Leads, leads-up}
+use Rattle.theorems_layout.proofs.DataKeys.{KeyHolds, leads-lowest}
 
 module _ (perIndex from : ℕ) (blocks : List (List (List ℕ))) (good : Writable perIndex blocks) where
   abbrev bs : List Block

@@ -19,8 +19,8 @@ use Rattle.layout.specs.Placed.{placedText, placedRecords, placedEntries, place
 use Rattle.layout.proofs.PayloadBackLaws.{placed-records-bytes}
 use Rattle.layout.proofs.BlockBackLaws.{data-some, index-some}
 use Rattle.layout.proofs.SideBySideLaws.{SideBySide}
-use Rattle.theorems_write.specs.WrittenTree.{joined}
-use Rattle.theorems_write.proofs.WrittenSizes.{length-data, length-index}
+use Rattle.theorems_layout.specs.WrittenTree.{joined}
+use Rattle.theorems_layout.proofs.WrittenSizes.{length-data, length-index}
 
 -- ---- records
 

@@ -21,9 +21,9 @@ use Rattle.theorems_check.specs.Rules.{TreeRules, Rules}
 use Rattle.theorems_check.proofs.HeaderRuleLaws.{header⇒HeaderRules}
 use Rattle.theorems_check.proofs.BlockRuleLaws.{blocks⇒Fill}
 use Rattle.theorems_check.proofs.AcceptLaws.{Rules⇒accepted}
-use Rattle.theorems_write.specs.WrittenTree.{joined, Writable}
-use Rattle.theorems_write.proofs.WritableLaws.{file-writable}
-use Rattle.theorems_write.proofs.WrittenTree.{written-rules}
+use Rattle.theorems_layout.specs.WrittenTree.{joined, Writable}
+use Rattle.theorems_layout.proofs.WritableLaws.{file-writable}
+use Rattle.theorems_layout.proofs.WrittenTree.{written-rules}
 
 module _ (metadata : List ℕ) (blocks : List (List (List ℕ))) (perIndex : ℕ) (fits : FileFits metadata blocks perIndex) (some : blocks ≢ []) where
   abbrev file : List ℕ

@@ -10,7 +10,7 @@ use Rattle.byte_string.specs.Order.{atMost}
 use Rattle.byte_string.proofs.OrderLaws.{atMost-refl}
 use Rattle.lists.specs.Groups.{lastOr}
 use Rattle.theorems_check.specs.Rules.{Sorted, no-string, one-string}
-use Rattle.theorems_write.proofs.IndexNames.{lastOr-member}
+use Rattle.theorems_layout.proofs.IndexNames.{lastOr-member}
 
 -- the first is at most the others, and these are sorted
 pub sorted-first : (x : List ℕ) (xs : List (List ℕ)) → Sorted (x ∷ xs) → ((y : List ℕ) → List·Memᴰ y xs → atMost x y ≡ true) × Sorted xs

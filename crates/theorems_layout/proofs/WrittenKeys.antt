@@ -15,9 +15,9 @@ use Rattle.layout.specs.Index.{IndexEntry, IndexBlock, firstKey, entryFor, leve
 use Rattle.layout.specs.File.{indexBlocks}
 use Rattle.layout.specs.Placed.{placedBlocks}
 use Rattle.layout.proofs.IndexFitLaws.{level-member}
-use Rattle.theorems_write.specs.WrittenTree.{Writable}
-use Rattle.theorems_write.proofs.Levels.{Levels, top, higher}
-use Rattle.theorems_write.proofs.WrittenWalk.{leaves-index}
+use Rattle.theorems_layout.specs.WrittenTree.{Writable}
+use Rattle.theorems_layout.proofs.Levels.{Levels, top, higher}
+use Rattle.theorems_layout.proofs.WrittenWalk.{leaves-index}
 
 module _ (perIndex from : ℕ) (blocks : List (List (List ℕ))) (good : Writable perIndex blocks) (Holds : (key : List ℕ) (first : Text) → Type 0) where
   abbrev bs : List Block

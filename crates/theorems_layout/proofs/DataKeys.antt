@@ -23,14 +23,14 @@ use Rattle.layout.specs.File.{keyFor, dataEntries, rootEntry}
 use Rattle.layout.specs.Placed.{placedData, placedDatas, placedBlocks}
 use Rattle.layout.proofs.KeyLaws.{key-atMost-first, before-atMost-key}
 use Rattle.theorems_check.specs.Rules.{Sorted}
-use Rattle.theorems_write.specs.WrittenTree.{joined, Writable}
-use Rattle.theorems_write.proofs.IndexNames.{lastOr-member}
-use Rattle.theorems_write.proofs.PlacedLaws.{data-block, data-start}
-use Rattle.theorems_write.proofs.WrittenNames.{data-member}
-use Rattle.theorems_write.proofs.WrittenWalk.{written-Tree}
-use Rattle.theorems_write.proofs.SortedParts.{sorted-left, sorted-right, sorted-apart, sorted-last}
-use Rattle.theorems_write.proofs.WrittenRecords.{First, data-first, records-placed}
-use Rattle.theorems_write.proofs.WrittenKeys.{Leads}
+use Rattle.theorems_layout.specs.WrittenTree.{joined, Writable}
+use Rattle.theorems_layout.proofs.IndexNames.{lastOr-member}
+use Rattle.theorems_layout.proofs.PlacedLaws.{data-block, data-start}
+use Rattle.theorems_layout.proofs.WrittenNames.{data-member}
+use Rattle.theorems_layout.proofs.WrittenWalk.{written-Tree}
+use Rattle.theorems_layout.proofs.SortedParts.{sorted-left, sorted-right, sorted-apart, sorted-last}
+use Rattle.theorems_layout.proofs.WrittenRecords.{First, data-first, records-placed}
+use Rattle.theorems_layout.proofs.WrittenKeys.{Leads}
 
 -- ---- the record before a block
 

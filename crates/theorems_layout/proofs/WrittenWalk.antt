@@ -18,14 +18,14 @@ use Rattle.tree.proofs.TreeLaws.{Tree, entries-at, level-at}
 use Rattle.layout.specs.Index.{IndexEntry, IndexBlock, entryFor, levelFrom}
 use Rattle.layout.specs.File.{indexBlocks, rootEntry}
 use Rattle.layout.specs.Placed.{placedIndex, placedBlocks}
-use Rattle.theorems_write.specs.WrittenTree.{Writable}
-use Rattle.theorems_write.proofs.Levels.{Levels, top, higher, level-entries}
-use Rattle.theorems_write.proofs.IndexNames.{lastOr-append, levels-some}
-use Rattle.theorems_write.proofs.PlacedLaws.{placed-offsets, placed-some, index-start, index-level, index-records, index-entries}
-use Rattle.theorems_write.proofs.PlacedLaws.{DataBlock, datas-member, dataEntries-offsets}
-use Rattle.theorems_write.proofs.WrittenNames.{map-one, datas, indexes, lowest, Kinds, block-kinds, index-member, written-levels}
-use Rattle.theorems_write.proofs.WrittenNames.{written-top, root-start, written-rise}
-use Rattle.theorems_write.proofs.WrittenNames.{written-once, written-unnamed, blocks-few, levels-few, written-rooted, written-named}
+use Rattle.theorems_layout.specs.WrittenTree.{Writable}
+use Rattle.theorems_layout.proofs.Levels.{Levels, top, higher, level-entries}
+use Rattle.theorems_layout.proofs.IndexNames.{lastOr-append, levels-some}
+use Rattle.theorems_layout.proofs.PlacedLaws.{placed-offsets, placed-some, index-start, index-level, index-records, index-entries}
+use Rattle.theorems_layout.proofs.PlacedLaws.{DataBlock, datas-member, dataEntries-offsets}
+use Rattle.theorems_layout.proofs.WrittenNames.{map-one, datas, indexes, lowest, Kinds, block-kinds, index-member, written-levels}
+use Rattle.theorems_layout.proofs.WrittenNames.{written-top, root-start, written-rise}
+use Rattle.theorems_layout.proofs.WrittenNames.{written-once, written-unnamed, blocks-few, levels-few, written-rooted, written-named}
 
 module _ (perIndex from : ℕ) (blocks : List (List (List ℕ))) (good : Writable perIndex blocks) where
   abbrev bs : List Block

@@ -1,0 +1,2 @@
+-- What is claimed of the tree of a written file.
+pub mod WrittenTree
