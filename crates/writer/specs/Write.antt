@@ -8,8 +8,7 @@ use Rattle.lists.specs.Groups.{groups}
 use Rattle.outcome.specs.Outcome.{Outcome, answer, refused, _>>=_, _>>_, must, numberOf, placeOf, countOf, listOf}
 use Rattle.header.specs.Metadata.{isMetadata}
 use Rattle.payload.specs.Payload.{recordsAt}
-use Rattle.layout.specs.File.{fileOf}
-use Rattle.layout.specs.File.{fileFits}
+use Rattle.layout.specs.File.{fileOf, fileFits}
 use Rattle.writer.specs.declared.Written.{Written}
 
 -- records in a data block, 1 to 65,535, and entries in an index block, 2 to 65,535
