@@ -34,10 +34,10 @@ build() {
     cargo build --offline --release --quiet "$@"
 }
 (cd cli && build --bin zs)
-(cd bench && build && build --bin reference-check --features portable --target-dir target/portable)
+(cd bench && build && build --bin reference --features portable --target-dir target/portable)
 
 bench/target/release/zs-bench \
     --zs cli/target/release/zs \
-    --portable bench/target/portable/release/reference-check \
-    --accelerated bench/target/release/reference-check \
+    --portable bench/target/portable/release/reference \
+    --accelerated bench/target/release/reference \
     "${what[@]}"

@@ -115,7 +115,7 @@ impl Default for Lists {
 }
 
 /// Level and payload of every block, front to back. The file must be sound.
-fn blocks(file: &[u8]) -> impl Iterator<Item = &[u8]> {
+pub fn blocks(file: &[u8]) -> impl Iterator<Item = &[u8]> {
     let mut at = 24 + little_endian(&file[8..16]);
     std::iter::from_fn(move || {
         if at >= file.len() {

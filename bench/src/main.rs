@@ -6,6 +6,7 @@
 //! and the growth curves into DOCS/growth.svg.
 //!
 //! * [`records`], [`shapes`], [`archive`]: what is measured on, made by the independent reader's maker.
+//! * [`input`]: what the proved writer is given.
 //! * [`clock`], [`others`], [`foreign`], [`idiomatic`]: time, other programs, other libraries, the same in plain Rust.
 //! * [`sections`]: one module for each group of rows. Each compares answers before it measures.
 //! * [`report`], [`chart`], [`machine`]: tables, goals, curves and the machine.
@@ -17,6 +18,7 @@ mod clock;
 #[allow(unsafe_code)]
 mod foreign;
 mod idiomatic;
+mod input;
 mod machine;
 mod others;
 mod records;
@@ -30,7 +32,7 @@ use archive::Archive;
 use chart::Panel;
 use others::Programs;
 use report::Report;
-use sections::{checking, checksums, growth, lookups, Setting, FULL, QUICK};
+use sections::{block_sizes, checking, checksums, growth, lookups, writing, Setting, FULL, QUICK};
 use shapes::Shape;
 
 const FIRST_MARK: &str = "<!-- measured -->\n";
@@ -113,11 +115,14 @@ fn arguments(mut words: impl Iterator<Item = String>) -> Result<Arguments, Strin
 fn measure(programs: Programs, quick: bool, folder: &Path) -> (Report, [Panel; 2]) {
     let sizes = if quick { QUICK } else { FULL };
     let records = records::records(sizes.records);
+    let lines = folder.join("records.txt");
+    std::fs::write(&lines, records::lines(&records)).expect("room for the lines");
     let setting = Setting {
         sizes,
         programs,
         folder,
         records: &records,
+        lines: &lines,
     };
     let mut report = Report::new(machine::describe());
     let mut archive = Archive::new(Shape::Plain.archive(&records), records.len());
@@ -127,6 +132,8 @@ fn measure(programs: Programs, quick: bool, folder: &Path) -> (Report, [Panel; 2
     lookups::measure(&setting, &archive, &file, &mut report);
     checksums::measure(&setting, &archive.bytes, &mut report);
     drop(archive);
+    writing::measure(&setting, &mut report);
+    block_sizes::measure(&setting, &mut report);
     let panels = growth::measure(&setting, &mut report);
     (report, panels)
 }

@@ -1,5 +1,6 @@
 //! Other programs, run as processes.
 
+use std::fmt::{self, Display, Formatter};
 use std::io::{BufRead, BufReader, Write};
 use std::path::{Path, PathBuf};
 use std::process::{Child, ChildStdin, ChildStdout, Command, Stdio};
@@ -8,9 +9,9 @@ use std::process::{Child, ChildStdin, ChildStdout, Command, Stdio};
 pub struct Programs {
     /// The command `zs`.
     pub zs: PathBuf,
-    /// `reference-check` with portable checksums.
+    /// `reference` with portable checksums.
     pub portable: PathBuf,
-    /// `reference-check` with the processor's instructions for SHA.
+    /// `reference` with the processor's instructions for SHA.
     pub accelerated: PathBuf,
 }
 
@@ -40,7 +41,7 @@ impl Call {
     pub fn run(&self) {
         let status = self.command().stdout(Stdio::null()).status();
         let fine = status.map_or(false, |status| status.success());
-        assert!(fine, "{} failed", self.program.display());
+        assert!(fine, "{self} failed");
     }
 
     /// Runs the program and gives what it wrote.
@@ -48,8 +49,19 @@ impl Call {
         let output = self.command().output();
         match output {
             Ok(output) if output.status.success() => output.stdout,
-            _ => panic!("{} failed", self.program.display()),
+            _ => panic!("{self} failed"),
         }
+    }
+}
+
+impl Display for Call {
+    fn fmt(&self, out: &mut Formatter) -> fmt::Result {
+        write!(
+            out,
+            "{} {}",
+            self.program.display(),
+            self.arguments.join(" ")
+        )
     }
 }
 
@@ -61,43 +73,52 @@ pub fn version(program: &str, argument: &str) -> String {
     text.lines().next().unwrap_or("unknown").to_string()
 }
 
-/// The independent reader in a process of its own, with a file in its memory.
+/// Has `sqlite3` import lines into a new database, in which they are the primary key and nothing else.
+pub fn import_lines(lines: &Path, database: &Path) -> Call {
+    let words: [&str; 5] = [
+        &database.to_string_lossy(),
+        "create table records(record text primary key) without rowid",
+        ".mode ascii",
+        ".separator \u{1f} \\n",
+        &format!(".import {} records", lines.display()),
+    ];
+    Call::new("sqlite3", &words)
+}
+
+/// The independent reader or the second maker in a process of its own, with its files in its memory.
 pub struct Reference {
     child: Child,
     asked: ChildStdin,
     told: BufReader<ChildStdout>,
 }
 
-/// What the independent reader says: seconds, number, place, blocks, records.
+/// What it says.
 pub struct Told {
-    /// How long its check took.
+    /// How long it took.
     pub seconds: f64,
-    /// Number, place, blocks and records.
-    pub answer: [u64; 4],
+    /// The numbers of its answer.
+    pub answer: Vec<u64>,
 }
 
 impl Reference {
-    /// Starts the program on a file.
-    pub fn start(program: &Path, file: &Path) -> std::io::Result<Self> {
+    /// Starts the program.
+    pub fn start(program: &Path, arguments: &[&str]) -> Self {
         let mut command = Command::new(program);
-        command
-            .arg(file)
-            .stdin(Stdio::piped())
-            .stdout(Stdio::piped());
-        let mut child = command.spawn()?;
-        let pipes = (child.stdin.take(), child.stdout.take());
-        match pipes {
-            (Some(asked), Some(told)) => Ok(Reference {
+        command.args(arguments);
+        command.stdin(Stdio::piped()).stdout(Stdio::piped());
+        let mut child = command.spawn().expect("the independent reader");
+        match (child.stdin.take(), child.stdout.take()) {
+            (Some(asked), Some(told)) => Reference {
                 child,
                 asked,
                 told: BufReader::new(told),
-            }),
-            _ => Err(std::io::ErrorKind::BrokenPipe.into()),
+            },
+            _ => panic!("no pipes to the independent reader"),
         }
     }
 
-    /// Has the file checked once.
-    pub fn check(&mut self) -> Told {
+    /// Has it do its work once.
+    pub fn ask(&mut self) -> Told {
         let mut line = String::new();
         let asked = self
             .asked
@@ -109,12 +130,12 @@ impl Reference {
             .split_whitespace()
             .filter_map(|word| word.parse().ok())
             .collect();
-        match numbers[..] {
-            [time, number, place, blocks, records] => Told {
-                seconds: time as f64 / 1e9,
-                answer: [number, place, blocks, records],
+        match numbers.split_first() {
+            Some((time, answer)) => Told {
+                seconds: *time as f64 / 1e9,
+                answer: answer.to_vec(),
             },
-            _ => panic!("the independent reader said {line:?}"),
+            None => panic!("the independent reader said {line:?}"),
         }
     }
 }

@@ -47,6 +47,27 @@ fn record(random: &mut Random, number: usize) -> Vec<u8> {
     format!("{name} {number:07}\t{telephone}\t{address}\tNoplace {code:06}").into_bytes()
 }
 
+/// The records as lines.
+pub fn lines(records: &[Vec<u8>]) -> Vec<u8> {
+    let mut lines = records.join(&b'\n');
+    lines.push(b'\n');
+    lines
+}
+
+/// The same records without their addresses: still all different, and sorted.
+pub fn without_addresses(records: &[Vec<u8>]) -> Vec<Vec<u8>> {
+    records
+        .iter()
+        .map(|record| without_address(record))
+        .collect()
+}
+
+/// The name, the number and the telephone number.
+fn without_address(record: &[u8]) -> Vec<u8> {
+    let fields: Vec<&[u8]> = record.splitn(3, |byte| *byte == b'\t').take(2).collect();
+    fields.join(&b'\t')
+}
+
 /// What only this record begins with: the name and the number.
 pub fn key(record: &[u8]) -> &[u8] {
     let end = record.iter().position(|byte| *byte == b'\t');

@@ -2,10 +2,12 @@
 
 use zs_reference::maker::{Keys, Placing, Tree};
 
+use crate::input::METADATA;
+
 /// Records of a data block of about 16 KiB.
-const TO_A_BLOCK: usize = 224;
+pub const TO_A_BLOCK: usize = 224;
 /// Entries of a usual index block.
-const FAN_OUT: usize = 128;
+pub const FAN_OUT: usize = 128;
 /// No index block has a higher level.
 const HIGHEST_LEVEL: u8 = 63;
 
@@ -87,7 +89,7 @@ impl Shape {
         if matches!(self, Shape::Chain | Shape::Chains) {
             tree.root_level = HIGHEST_LEVEL;
         }
-        tree.metadata = br#"{"about": "invented sample contacts"}"#.to_vec();
+        tree.metadata = METADATA.into();
         tree.bytes()
     }
 

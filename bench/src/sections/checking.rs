@@ -17,13 +17,13 @@ pub fn measure(setting: &Setting, archive: &mut Archive, file: &Path, report: &m
 }
 
 fn measure_in_process(setting: &Setting, archive: &mut Archive, file: &Path, report: &mut Report) {
-    let start = |program: &Path| Reference::start(program, file).expect("the independent reader");
+    let start = |program: &Path| Reference::start(program, &["check", &file.to_string_lossy()]);
     let mut portable = start(&setting.programs.portable);
     let mut accelerated = start(&setting.programs.accelerated);
     let answer = archive.check();
     let answer = [answer.number, answer.place, answer.blocks, answer.records];
-    assert_eq!(answer, portable.check().answer);
-    assert_eq!(answer, accelerated.check().answer);
+    assert_eq!(portable.ask().answer, answer);
+    assert_eq!(accelerated.ask().answer, answer);
 
     let copy = Archive::new(archive.bytes.clone(), setting.records.len());
     let (bytes, payloads) = (&copy.bytes, copy.payloads());
@@ -36,8 +36,8 @@ fn measure_in_process(setting: &Setting, archive: &mut Archive, file: &Path, rep
         side(|| archive.check()),
         side(|| proved_crc64(bytes)),
         side(|| proved_sha256(&payloads)),
-        Box::new(|| portable.check().seconds),
-        Box::new(|| accelerated.check().seconds),
+        Box::new(|| portable.ask().seconds),
+        Box::new(|| accelerated.ask().seconds),
         side(|| copy.read(middle, &mut lists)),
     ];
     let times = run_in_turn(setting.sizes.rounds, sides);

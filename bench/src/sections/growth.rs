@@ -1,15 +1,12 @@
 //! How times grow with the number of records, for plain and awkward shapes, and the awkward shapes against plain ones.
 
-use super::Setting;
-use crate::archive::{Archive, Lists};
+use super::{measure_search, Searched, Setting};
+use crate::archive::Archive;
 use crate::chart::{Panel, Series};
-use crate::clock::{measure_time, median, run_in_turn, side, Side};
-use crate::records::{draw, key, records};
+use crate::clock::{run_in_turn, side, Side};
+use crate::records::records;
 use crate::report::{size, time, Goal, Report, Table};
 use crate::shapes::Shape;
-
-/// Lookups in one archive end after this many seconds.
-const LONG_ENOUGH: f64 = 0.5;
 
 /// What was measured of one shape with one number of records.
 struct Point {
@@ -19,13 +16,6 @@ struct Point {
     blocks: usize,
     check: f64,
     search: Searched,
-}
-
-/// Medians over lookups.
-struct Searched {
-    seconds: f64,
-    blocks: f64,
-    bytes: f64,
 }
 
 impl Point {
@@ -89,26 +79,6 @@ fn measure_points(setting: &Setting, count: usize) -> Vec<Point> {
             search: measure_search(setting, archive, &records),
         })
         .collect()
-}
-
-fn measure_search(setting: &Setting, archive: &Archive, records: &[Vec<u8>]) -> Searched {
-    let (mut seconds, mut blocks, mut bytes) = (Vec::new(), Vec::new(), Vec::new());
-    let mut lists = Lists::default();
-    for record in draw(records, setting.sizes.lookups) {
-        let found = archive.lookup(key(record));
-        assert_eq!(found.records, [record]);
-        seconds.push(measure_time(|| archive.search(key(record), &mut lists)));
-        blocks.push(found.opened.len() as f64);
-        bytes.push(found.opened.iter().map(|block| block.len()).sum::<usize>() as f64);
-        if seconds.iter().sum::<f64>() > LONG_ENOUGH {
-            break;
-        }
-    }
-    Searched {
-        seconds: median(seconds),
-        blocks: median(blocks),
-        bytes: median(bytes),
-    }
 }
 
 fn growth_table(points: &[Point]) -> Table {

@@ -6,7 +6,7 @@ use super::Setting;
 use crate::archive::{Archive, Lists, OPENED_PLACES, RESULT_PLACES};
 use crate::clock::{measure_time, median, run_in_turn, side, Side};
 use crate::foreign::{proved_crc64, Lmdb};
-use crate::others::Call;
+use crate::others::{import_lines, Call};
 use crate::records::{draw, key};
 use crate::report::{ratio, size, time, Goal, Report, Table};
 
@@ -112,20 +112,9 @@ impl Files {
         let files = Files {
             archive: archive.to_path_buf(),
             database: setting.folder.join("records.db"),
-            lines: setting.folder.join("records.txt"),
+            lines: setting.lines.to_path_buf(),
         };
-        let mut lines = setting.records.join(&b'\n');
-        lines.push(b'\n');
-        std::fs::write(&files.lines, lines).expect("the lines");
-        let import = format!(".import {} records", files.lines.display());
-        let words = [
-            &files.database.to_string_lossy(),
-            "create table records(record text primary key) without rowid",
-            ".mode ascii",
-            ".separator \u{1f} \\n",
-            &import,
-        ];
-        Call::new("sqlite3", &words).run();
+        import_lines(&files.lines, &files.database).run();
         files
     }
 

@@ -1,13 +1,21 @@
 //! What is measured, one module for each group of rows.
 
+pub mod block_sizes;
 pub mod checking;
 pub mod checksums;
 pub mod growth;
 pub mod lookups;
+pub mod writing;
 
 use std::path::Path;
 
+use crate::archive::{Archive, Lists};
+use crate::clock::{measure_time, median};
 use crate::others::Programs;
+use crate::records::{draw, key};
+
+/// Lookups in one archive end after this many seconds.
+const LONG_ENOUGH: f64 = 0.5;
 
 /// How much is measured.
 pub struct Sizes {
@@ -51,4 +59,37 @@ pub struct Setting<'a> {
     pub folder: &'a Path,
     /// The records of the large archive, in order.
     pub records: &'a [Vec<u8>],
+    /// A file that has them as lines.
+    pub lines: &'a Path,
+}
+
+/// Medians over lookups.
+pub struct Searched {
+    /// The time of one.
+    pub seconds: f64,
+    /// How many blocks it opens.
+    pub blocks: f64,
+    /// How many bytes the CRCs of these cover.
+    pub bytes: f64,
+}
+
+/// Looks up records drawn from all, each by a prefix that only it has. The same lookup goes before, untimed.
+pub fn measure_search(setting: &Setting, archive: &Archive, records: &[Vec<u8>]) -> Searched {
+    let (mut seconds, mut blocks, mut bytes) = (Vec::new(), Vec::new(), Vec::new());
+    let mut lists = Lists::default();
+    for record in draw(records, setting.sizes.lookups) {
+        let found = archive.lookup(key(record));
+        assert_eq!(found.records, [record]);
+        seconds.push(measure_time(|| archive.search(key(record), &mut lists)));
+        blocks.push(found.opened.len() as f64);
+        bytes.push(found.opened.iter().map(|block| block.len()).sum::<usize>() as f64);
+        if seconds.iter().sum::<f64>() > LONG_ENOUGH {
+            break;
+        }
+    }
+    Searched {
+        seconds: median(seconds),
+        blocks: median(blocks),
+        bytes: median(bytes),
+    }
 }
