@@ -49,6 +49,8 @@ impl Header {
     pub const LEAST_EXTENT: u64 = 80;
     // What a file has beside its header data before the first block: magic, length and CRC.
     pub const AROUND: usize = 24;
+    // Where the blocks begin at the earliest: AROUND and LEAST_EXTENT.
+    pub const LEAST_BLOCKS: usize = 104;
 
     // The header of a file, or the first of the refusals 1 to 9.
     pub fn read(file: &[u8]) -> HeaderOutcome

@@ -18,14 +18,14 @@ pub fn put_header(
     ensures { λ r. ⌜ (r ≡ bytesFit (now (output .entry)) 0 (headerBytes (headerData (now (metadata .entry)) root rootsize total hash)))
         × (now (output .exit) ≡ stored (now (output .entry)) 0 (headerBytes (headerData (now (metadata .entry)) root rootsize total hash))) ⌝ }
 {
-    let front = 104;
+    let front = Header::LEAST_BLOCKS;
     if output.len() < front {
         return false;
     }
     if output.len() - front < metadata.len() {
         return false;
     }
-    let extent = endian::le64_bytes(80 + metadata.len() as u64);
+    let extent = endian::le64_bytes(Header::LEAST_EXTENT + metadata.len() as u64);
     output_bytes::put(output, 0, b"\xabZSfiLe\x01");
     output_bytes::put(output, Header::EXTENT_AT, &extent);
     put_fields(output, metadata, root, rootsize, total, hash);

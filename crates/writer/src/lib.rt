@@ -15,6 +15,7 @@ mod input;
 
 use crate::data::put_data;
 use crate::input::input_refusal;
+use header::Header;
 use index_encoder::RaiseOutcome;
 use index_encoder::put_index;
 
@@ -67,9 +68,6 @@ pub fn write(
     }
 }
 
-// What a file has before its metadata and its first block: magic, length, fields and CRC.
-const FRONT: usize = 104;
-
 // Puts the file into an output of zeros; answers its length, or 0 where it doesn't fit.
 fn put_file(
     metadata: &[u8],
@@ -83,13 +81,13 @@ fn put_file(
     ensures { λ r. ⌜ ((rs : List (List ℕ)) → recordsToWrite (now (metadata .entry)) (now (records .entry)) «per_block» «per_index» ≡ answer rs
         → FilePut (length (now (output .entry))) (fileOf (now (metadata .entry)) (groups «per_block» rs) «per_index») r (now (output .exit))) ⌝ }
 {
-    if output.len() < FRONT {
+    if output.len() < Header::LEAST_BLOCKS {
         return 0;
     }
-    if output.len() - FRONT < metadata.len() {
+    if output.len() - Header::LEAST_BLOCKS < metadata.len() {
         return 0;
     }
-    let from = FRONT + metadata.len();
+    let from = Header::LEAST_BLOCKS + metadata.len();
     let to = put_data(output, records, per_block, from);
     if to == 0 {
         return 0;
