@@ -46,12 +46,10 @@ pub fn draw_input(random: &mut Random, turn: u64) -> Input {
     if turn % LARGE == 0 {
         return large_input(random, turn / LARGE);
     }
-    let first = FAULTS.get((turn % 8) as usize);
-    let faults = FAULTS.iter().skip((turn % 8) as usize);
-    let faults: Vec<Fault> = faults
-        .copied()
-        .filter(|fault| Some(fault) == first || random.once_in(3))
-        .collect();
+    // From the fifth turn on no fault is left.
+    let later = FAULTS.iter().skip((turn % 8) as usize).enumerate();
+    let drawn = later.filter(|(at, _)| *at == 0 || random.once_in(3));
+    let faults: Vec<Fault> = drawn.map(|(_, fault)| *fault).collect();
     faulty_input(random, &faults)
 }
 
