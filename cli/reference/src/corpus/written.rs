@@ -51,23 +51,23 @@ fn add_shapes(corpus: &mut Corpus) {
     corpus.ask_write("write-equal", 2, 2);
 
     let records: Vec<Vec<u8>> = (0..40).map(|n: u8| vec![b'a' + n / 4, n]).collect();
-    for (name, number) in [("write-8", 8), ("write-9", 9), ("write-40", 40)] {
+    for (name, number) in [("write-eight", 8), ("write-nine", 9), ("write-forty", 40)] {
         corpus.add_input(name, input(&records[..number]), 0);
         corpus.ask_write(name, 1, 2);
     }
     for (per_block, per_index) in [(1, 3), (2, 2), (7, 5), (1, 40), (1, 39), (40, 2), (39, 2)] {
-        corpus.ask_write("write-40", per_block, per_index);
+        corpus.ask_write("write-forty", per_block, per_index);
     }
 }
 
 /// Lengths at which a number takes a byte more: of records, of blocks with one of them, and of keys.
 fn add_long_records(corpus: &mut Corpus) {
     let long = |length| vec![b'k'; length];
-    let name = "write-127-128";
+    let name = "write-lengths-127";
     corpus.add_input(name, input(&[125, 126, 127, 128].map(long)), 0);
     corpus.ask_write(name, 1, 2);
     corpus.ask_write(name, 4, 2);
-    let name = "write-16383-16384";
+    let name = "write-lengths-16383";
     corpus.add_input(name, input(&[0, 16_383, 16_384].map(long)), 0);
     corpus.ask_write(name, 3, 2);
     corpus.ask_write(name, 2, 2);
