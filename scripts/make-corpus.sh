@@ -1,5 +1,5 @@
 #!/usr/bin/env bash
-# Makes the stored cases with the independent reader: DIR/data/ and DIR/stdout.
+# Makes the stored cases with the independent reader and writer: DIR/data/ and DIR/stdout.
 #   scripts/make-corpus.sh crates/test_archives
 set -eu
 if [ $# -ne 1 ]; then

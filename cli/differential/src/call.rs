@@ -1,8 +1,9 @@
-//! A call on a file: which function, with what, and how much room.
+//! A call on a file, or of the writer on records: which function, with what, and how much room.
 
 use zs_reference::reader::Query;
+use zs_reference::writer::Counts;
 
-/// A call, as both readers get it.
+/// A call, as both implementations get it.
 #[derive(Debug, Clone, PartialEq, Eq)]
 pub enum Call {
     /// The check, with so many places on the work list.
@@ -35,16 +36,25 @@ pub enum Call {
     },
     /// Where the metadata lie.
     Metadata,
+    /// Writing a file; the bytes that the call is made on are the records.
+    Write {
+        /// The metadata.
+        metadata: Vec<u8>,
+        /// How many records and entries the blocks hold.
+        counts: Counts,
+        /// Bytes of the output.
+        output: usize,
+    },
 }
 
-/// How the lists of a call compare with what its answer needs.
+/// How the lists of a call, or its output, compare with what its answer needs.
 #[derive(Debug, Clone, Copy, PartialEq, Eq)]
 pub enum Room {
     /// More than enough.
     Plenty,
     /// Just enough.
     Exact,
-    /// The opened list, or the work list, is one place short.
+    /// The opened list, the work list or the output is one place short.
     FirstShort,
     /// The result list is one place short.
     ResultsShort,
@@ -73,6 +83,14 @@ impl Call {
                 format!("call: record\noffset: {offset}\nlength: {length}\n")
             }
             Call::Metadata => "call: metadata\n".to_string(),
+            Call::Write {
+                metadata,
+                counts,
+                output,
+            } => {
+                let metadata = hex(metadata);
+                format!("call: write\nmetadata: {metadata}\n{counts:?}\nbytes of the output: {output}\n")
+            }
         }
     }
 }

@@ -1,25 +1,50 @@
-//! The calls to be made on a file.
+//! The calls to be made on a file, and those of the writer on an input.
 
 use crate::call::{Call, Room};
-use crate::queries::query;
+use crate::inputs::Input;
+use crate::queries::{narrow_range, query};
 use zs_reference::maker::random::Random;
-use zs_reference::reader::{check, read, search, Query};
+use zs_reference::reader::{check, read, search, Checked, Query};
+use zs_reference::writer::write;
 
-/// Room for every answer, unless blocks are named in very many ways.
-const AMPLE: usize = 400;
+/// Room for every answer, unless blocks are named in very many ways. Files with more records get queries that few of them match.
+const AMPLE: usize = 1000;
 
 /// A call, and how its room compares with what it needs.
 pub type Asked = (Call, Room);
 
+/// Draws all calls of the writer on an input: where it is sound, with more bytes than needed, just enough, one less, and fewer.
+pub fn draw_writes(random: &mut Random, input: &Input) -> Vec<Asked> {
+    let mut calls = Vec::new();
+    let mut ask = |output, room| {
+        let call = Call::Write {
+            metadata: input.metadata.clone(),
+            counts: input.counts,
+            output,
+        };
+        calls.push((call, room));
+    };
+    match write(&input.metadata, &input.records, input.counts, usize::MAX) {
+        Ok(file) => {
+            ask(file.len() + 1 + random.below(99), Room::Plenty);
+            ask(file.len(), Room::Exact);
+            ask(file.len() - 1, Room::FirstShort);
+            ask(random.below(file.len()), Room::Any);
+        }
+        Err(_) => {
+            ask(random.below(20), Room::Any);
+            ask(200 + random.below(800), Room::Any);
+        }
+    }
+    calls
+}
+
 /// Draws all calls on a file, with queries near the given strings.
 pub fn draw_calls(random: &mut Random, file: &[u8], strings: &[Vec<u8>]) -> Vec<Asked> {
     let mut calls = Vec::new();
-    let accepted = add_checks(random, file, &mut calls);
-    let mut queries = vec![Query::default()];
-    for _ in 0..if accepted { 4 } else { 1 } {
-        queries.push(query(random, strings));
-    }
-    for query in &queries {
+    let checked = check(file, usize::MAX);
+    add_checks(random, &checked, &mut calls);
+    for query in &draw_queries(random, &checked, strings) {
         add_searches(random, file, query, &mut calls);
         add_reads(random, file, query, &mut calls);
     }
@@ -28,12 +53,23 @@ pub fn draw_calls(random: &mut Random, file: &[u8], strings: &[Vec<u8>]) -> Vec<
     calls
 }
 
-/// Adds checks with more places than needed, just enough, one short, and any number. Says whether the file is accepted.
-fn add_checks(random: &mut Random, file: &[u8], calls: &mut Vec<Asked>) -> bool {
-    let answer = check(file, AMPLE);
+/// Everything, and some queries near the given strings.
+fn draw_queries(random: &mut Random, checked: &Checked, strings: &[Vec<u8>]) -> Vec<Query> {
+    if 2 * checked.records > AMPLE as u64 {
+        return vec![narrow_range(random, strings)];
+    }
+    let mut queries = vec![Query::default()];
+    for _ in 0..if checked.number == 0 { 4 } else { 1 } {
+        queries.push(query(random, strings));
+    }
+    queries
+}
+
+/// Adds checks with more places than needed, just enough, one short, and any number.
+fn add_checks(random: &mut Random, checked: &Checked, calls: &mut Vec<Asked>) {
     let mut ask = |work, room| calls.push((Call::Check { work }, room));
-    if answer.number == 0 {
-        let blocks = answer.blocks as usize;
+    if checked.number == 0 {
+        let blocks = checked.blocks as usize;
         ask(blocks + 1 + random.below(9), Room::Plenty);
         ask(blocks, Room::Exact);
         ask(blocks - 1, Room::FirstShort);
@@ -41,7 +77,6 @@ fn add_checks(random: &mut Random, file: &[u8], calls: &mut Vec<Asked>) -> bool 
         ask(AMPLE, Room::Any);
     }
     ask(random.below(40), Room::Any);
-    answer.number == 0
 }
 
 /// Adds searches, the same way with both lists. A refused one gets lists that end before, at and after the fault.

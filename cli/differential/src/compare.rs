@@ -1,10 +1,13 @@
-//! One case: both readers answer, and everything is compared.
+//! One case: both implementations answer, and everything is compared.
 
 use crate::call::Call;
+use crate::frames::{data_payloads, frames, header_end};
 use crate::lent::Lent;
 use zs_library as library;
+use zs_reference::maker::encode;
 use zs_reference::maker::random::Random;
 use zs_reference::reader::{self, Query};
+use zs_reference::writer::{self, Counts};
 
 /// So many places of a list are printed one by one.
 const MOST_PRINTED: usize = 3;
@@ -44,28 +47,32 @@ impl Outcome {
         }
     }
 
-    /// Compares every place of a list, and its guards. The first places that differ are printed.
-    fn compare_list(&mut self, what: &str, due: &[u64], given: &Lent<u64>) {
+    /// Compares every place of a list or an output, and its guards. The first places that differ are printed.
+    fn compare_places<T>(&mut self, what: &str, due: &[T], given: &Lent<T>)
+    where
+        T: Copy + PartialEq + Into<u64>,
+    {
+        self.require(given.guards_hold(), &format!("{what}: written outside"));
+        if due == given.part() {
+            return;
+        }
         self.compare("places", due.len() as u64, given.part().len() as u64);
         let places = due.iter().zip(given.part()).enumerate();
         let unequal: Vec<_> = places.filter(|(_, (due, given))| due != given).collect();
         for (place, (due, given)) in unequal.iter().take(MOST_PRINTED) {
-            self.compare(&format!("{what} list, place {place}"), **due, **given);
+            let (due, given) = ((**due).into(), (**given).into());
+            self.compare(&format!("{what}, place {place}"), due, given);
         }
         if unequal.len() > MOST_PRINTED {
-            let line = format!("{what} list: {} places in all", unequal.len());
+            let line = format!("{what}: {} places in all", unequal.len());
             self.differences.push(line);
         }
-        self.require(
-            given.guards_hold(),
-            &format!("{what} list: written outside"),
-        );
     }
 }
 
-/// Makes a call with both readers and compares.
-pub fn compare(random: &mut Random, file: &[u8], call: &Call) -> Outcome {
-    let lent = Lent::bytes(random, file);
+/// Makes a call on these bytes with both implementations and compares.
+pub fn compare(random: &mut Random, bytes: &[u8], call: &Call) -> Outcome {
+    let lent = Lent::bytes(random, bytes);
     let mut outcome = match call {
         Call::Check { work } => check(random, lent.part(), *work),
         Call::Read { query, results } => read(random, lent.part(), query, *results),
@@ -76,8 +83,13 @@ pub fn compare(random: &mut Random, file: &[u8], call: &Call) -> Outcome {
         } => search(random, lent.part(), query, *opened, *results),
         Call::Record { offset, length } => record(lent.part(), *offset, *length),
         Call::Metadata => metadata(lent.part()),
+        Call::Write {
+            metadata,
+            counts,
+            output,
+        } => write(random, lent.part(), metadata, *counts, *output),
     };
-    outcome.require(lent.is_unchanged(), "the file was changed");
+    outcome.require(lent.is_unchanged(), "the bytes were changed");
     outcome
 }
 
@@ -90,7 +102,7 @@ fn check(random: &mut Random, file: &[u8], places: usize) -> Outcome {
     outcome.compare("place", due.place, given.place);
     outcome.compare("blocks", due.blocks, given.blocks);
     outcome.compare("records", due.records, given.records);
-    outcome.compare_list("work", &vec![0; places], &work);
+    outcome.compare_places("work list", &vec![0; places], &work);
     outcome
 }
 
@@ -103,7 +115,7 @@ fn read(random: &mut Random, file: &[u8], query: &Query, places: usize) -> Outco
     outcome.compare("number", due.number, given.number);
     outcome.compare("place", due.place, given.place);
     outcome.compare("matches", due.matches, given.matches);
-    outcome.compare_list("result", &due.results, &results);
+    outcome.compare_places("result list", &due.results, &results);
     outcome.require(asked.is_unchanged(), "the query was changed");
     outcome
 }
@@ -125,8 +137,8 @@ fn search(
     outcome.compare("place", due.place, given.place);
     outcome.compare("matches", due.matches, given.matches);
     outcome.compare("opened", due.opened, given.opened);
-    outcome.compare_list("opened", &due.opened_list, &opened);
-    outcome.compare_list("result", &due.results, &results);
+    outcome.compare_places("opened list", &due.opened_list, &opened);
+    outcome.compare_places("result list", &due.results, &results);
     outcome.require(asked.is_unchanged(), "the query was changed");
     outcome
 }
@@ -156,6 +168,60 @@ fn metadata(file: &[u8]) -> Outcome {
     let given = library::metadata(file);
     outcome.require(due == Some(given.unwrap_or(&[])), "metadata: other bytes");
     outcome
+}
+
+fn write(
+    random: &mut Random,
+    records: &[u8],
+    metadata: &[u8],
+    counts: Counts,
+    room: usize,
+) -> Outcome {
+    let due = writer::write(metadata, records, counts, room);
+    let number = due.as_ref().err().copied().unwrap_or(0);
+    let mut file = due.unwrap_or_default();
+    let metadata = Lent::bytes(random, metadata);
+    let mut output = Lent::output(random, room);
+    let counts = library::Counts {
+        per_block: counts.per_block,
+        per_index: counts.per_index,
+    };
+    let given = library::write(metadata.part(), records, counts, output.part_mut());
+    let mut outcome = Outcome::of(number, 0);
+    outcome.compare("number", number, given.number);
+    outcome.compare("place", 0, given.place);
+    outcome.compare("length", file.len() as u64, given.length);
+    file.resize(room, 0);
+    outcome.compare_places("output", &file, &output);
+    outcome.require(metadata.is_unchanged(), "the metadata were changed");
+    if number == 0 {
+        let written = output.part().get(..given.length as usize);
+        read_back(&mut outcome, written.unwrap_or(&[]), records);
+    }
+    outcome
+}
+
+/// What holds of a file written, whatever the second writer says: it is accepted, and its records and data payloads are the input.
+fn read_back(outcome: &mut Outcome, file: &[u8], records: &[u8]) {
+    let checked = library::check(file, &mut vec![7; file.len() / 11]);
+    outcome.compare("check of the file", 0, checked.number);
+    let frames = header_end(file).map_or_else(Vec::new, |end| frames(file, end));
+    let payloads: Vec<&[u8]> = data_payloads(file, &frames).collect();
+    outcome.require(payloads.concat() == records, "other data payloads");
+
+    let mut results = vec![7; 2 * checked.records as usize];
+    let everything = library::Query {
+        start: &[],
+        stop: None,
+        prefix: &[],
+    };
+    library::read(file, &everything, &mut results);
+    let mut found = Vec::new();
+    for pair in results.chunks(2) {
+        found.extend(encode(pair[1]));
+        found.extend(library::bytes(file, pair[0], pair[1]));
+    }
+    outcome.require(found == records, "other records are read");
 }
 
 /// A query with arbitrary bytes around its parts.

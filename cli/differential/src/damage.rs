@@ -1,10 +1,8 @@
 //! Damage to the bytes of a file, with and without repaired checksums.
 
-use std::ops::Range;
-
+use crate::frames::{data_payloads, frames, header_end};
 use zs_reference::checksums::{crc64, sha256};
 use zs_reference::maker::random::Random;
-use zs_reference::reader::number;
 
 /// Changes some bytes: flips, other values, cuts, more bytes, parts moved or doubled.
 pub fn damage(random: &mut Random, file: &mut Vec<u8>) {
@@ -62,9 +60,15 @@ pub fn repair(file: &mut [u8], what: Repair) {
         Some(end) => end,
         None => return,
     };
-    let payloads = follow(file, blocks_at, what.blocks);
+    let frames = frames(file, blocks_at);
+    if what.blocks {
+        for covered in &frames {
+            let crc = crc64(&file[covered.clone()]).to_le_bytes();
+            put(file, covered.end, &crc);
+        }
+    }
     if what.hash {
-        let hash = sha256(payloads.into_iter().map(|payload| &file[payload]));
+        let hash = sha256(data_payloads(file, &frames));
         put(file, 40, &hash);
     }
     if what.total {
@@ -75,40 +79,8 @@ pub fn repair(file: &mut [u8], what: Repair) {
     put(file, blocks_at - 8, &crc);
 }
 
-/// 24+H, where that many bytes are there.
-fn header_end(file: &[u8]) -> Option<usize> {
-    let length = u64::from_le_bytes(file.get(8..16)?.try_into().ok()?);
-    let end = usize::try_from(length).ok()?.checked_add(24)?;
-    (80 + 24 <= end && end <= file.len()).then_some(end)
-}
-
 fn put(file: &mut [u8], at: usize, bytes: &[u8]) {
     if let Some(place) = file.get_mut(at..at + bytes.len()) {
         place.copy_from_slice(bytes);
     }
-}
-
-/// Goes from block to block as far as frames allow, and gives the payloads of the data blocks.
-fn follow(file: &mut [u8], mut at: usize, mend: bool) -> Vec<Range<usize>> {
-    let mut payloads = Vec::new();
-    while let Some(covered) = frame(file, at) {
-        if mend {
-            let crc = crc64(&file[covered.clone()]).to_le_bytes();
-            put(file, covered.end, &crc);
-        }
-        if file[covered.start] == 0 {
-            payloads.push(covered.start + 1..covered.end);
-        }
-        at = covered.end + 8;
-    }
-    payloads
-}
-
-/// The L bytes of the block that begins there.
-fn frame(file: &[u8], at: usize) -> Option<Range<usize>> {
-    let (length, digits) = number(file.get(at..)?).ok()?;
-    let start = at + digits;
-    let end = start.checked_add(usize::try_from(length).ok()?)?;
-    let inside = length > 0 && end.checked_add(8)? <= file.len();
-    inside.then_some(start..end)
 }

@@ -1,20 +1,27 @@
-//! Drawings: a file and the calls on it, from a seed and a number.
+//! Drawings: bytes and the calls on them, from a seed and a number.
 
-use crate::calls::{draw_calls, Asked};
+use crate::calls::{draw_calls, draw_writes, Asked};
 use crate::damage::{damage, repair, Repair};
 use crate::faults::{draw_faulty, NUMBERS};
 use crate::hostile::draw_hostile;
+use crate::inputs::draw_input;
 use crate::queries::strings_of;
 use crate::shapes::shape;
 use zs_reference::maker::random::{bend, Random};
 use zs_reference::maker::Image;
 use zs_reference::reader::{check, number};
+use zs_reference::writer::write;
 
-/// A file and the calls on it.
+/// Of so many numbers the last two are for the writer.
+const TURNS: u64 = 12;
+/// Those before them are for the readers.
+const READERS: u64 = 10;
+
+/// Bytes and the calls on them.
 #[derive(Debug, Clone)]
 pub struct Drawing {
-    /// The bytes of the file.
-    pub file: Vec<u8>,
+    /// The bytes of a file, or the records that a writer is given.
+    pub bytes: Vec<u8>,
     /// The root's level, where the independent reader accepts the file.
     pub accepted: Option<u8>,
     /// The calls.
@@ -23,20 +30,45 @@ pub struct Drawing {
     pub random: Random,
 }
 
-/// Makes the drawing of this number. The same seed and number give the same one.
-pub fn draw(seed: u64, number: u64) -> Drawing {
+/// Makes the drawings of this number: a file, or records and the file written. The same seed and number give the same ones.
+pub fn draw(seed: u64, number: u64) -> Vec<Drawing> {
     let mut random = Random::new(Random::new(seed ^ number.rotate_left(32)).next());
-    let (image, file) = draw_file(&mut random, number);
-    let calls = draw_calls(&mut random, &file, &strings_of(&image));
+    let (round, turn) = (number / TURNS, number % TURNS);
+    if turn < READERS {
+        let (image, file) = draw_file(&mut random, round * READERS + turn);
+        return vec![on_file(random, file, &strings_of(&image))];
+    }
+    let writers = TURNS - READERS;
+    draw_written(random, round * writers + turn - READERS)
+}
+
+/// A file and the calls on it.
+fn on_file(mut random: Random, file: Vec<u8>, strings: &[Vec<u8>]) -> Drawing {
+    let calls = draw_calls(&mut random, &file, strings);
     Drawing {
         accepted: root_level(&file),
-        file,
+        bytes: file,
         calls,
         random,
     }
 }
 
-/// Draws a file: by turns a sound one, one with a fault, a bent one, a damaged one, and a hostile one.
+/// Records and the calls of the writer on them; then, where they are written, the file.
+fn draw_written(mut random: Random, turn: u64) -> Vec<Drawing> {
+    let input = draw_input(&mut random, turn);
+    let calls = draw_writes(&mut random, &input);
+    let file = write(&input.metadata, &input.records, input.counts, usize::MAX);
+    let file = file.map(|file| on_file(Random::new(random.next()), file, &input.strings));
+    let records = Drawing {
+        bytes: input.records,
+        accepted: file.as_ref().ok().and_then(|drawing| drawing.accepted),
+        calls,
+        random,
+    };
+    std::iter::once(records).chain(file).collect()
+}
+
+/// Draws a file for the readers: by turns a sound one, one with a fault, a bent one, a damaged one, and a hostile one.
 fn draw_file(random: &mut Random, number: u64) -> (Image, Vec<u8>) {
     match number % 10 {
         0..=1 => with_file(shape(random).image()),

@@ -30,6 +30,16 @@ impl Lent<u8> {
         all.extend(&random.next().to_le_bytes()[..GUARDS]);
         Lent::of(all)
     }
+
+    /// An output of so many arbitrary bytes, none of them 0.
+    pub fn output(random: &mut Random, length: usize) -> Self {
+        let mut all = Vec::new();
+        while all.len() < length + 2 * GUARDS {
+            all.extend((random.next() | 0x0101_0101_0101_0101).to_le_bytes());
+        }
+        all.truncate(length + 2 * GUARDS);
+        Lent::of(all)
+    }
 }
 
 impl<T: Clone + PartialEq> Lent<T> {

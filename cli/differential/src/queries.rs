@@ -92,7 +92,7 @@ fn range(random: &mut Random, strings: &[Vec<u8>]) -> Query {
 }
 
 /// One string alone: from itself, or one just below, up to the least string above it.
-fn narrow_range(random: &mut Random, strings: &[Vec<u8>]) -> Query {
+pub fn narrow_range(random: &mut Random, strings: &[Vec<u8>]) -> Query {
     let string = some_string(random, strings);
     let mut stop = string.clone();
     stop.push(0x00);

@@ -6,7 +6,7 @@ use std::path::PathBuf;
 
 use crate::call::Call;
 use crate::compare::{compare, Outcome};
-use crate::drawing::draw;
+use crate::drawing::{draw, Drawing};
 use crate::tally::Tally;
 
 /// No more cases than this are saved in one run; more of them say little.
@@ -33,39 +33,50 @@ impl Run {
         }
     }
 
-    /// Makes the next drawing, compares all of its calls, and saves what differs.
+    /// Makes the next drawings, compares all of their calls, and saves what differs.
     ///
     /// # Errors
     /// Says why a case can't be saved.
     pub fn step(&mut self) -> io::Result<()> {
-        let number = self.tally.files;
-        let mut drawing = draw(self.seed, number);
-        self.tally.files += 1;
+        let number = self.tally.steps;
+        self.tally.steps += 1;
+        for (part, drawing) in draw(self.seed, number).into_iter().enumerate() {
+            self.compare_all(&format!("{number}-{part}"), drawing)?;
+        }
+        Ok(())
+    }
+
+    /// Compares all calls of a drawing.
+    fn compare_all(&mut self, name: &str, mut drawing: Drawing) -> io::Result<()> {
         for (at, (call, room)) in drawing.calls.iter().enumerate() {
-            let outcome = compare(&mut drawing.random, &drawing.file, call);
+            let outcome = compare(&mut drawing.random, &drawing.bytes, call);
             self.tally.add(drawing.accepted, call, *room, &outcome);
             if !outcome.differences.is_empty() {
-                self.save(&format!("{number}-{at}"), &drawing.file, call, &outcome)?;
+                self.save(&format!("{name}-{at}"), &drawing.bytes, call, &outcome)?;
             }
         }
         Ok(())
     }
 
-    /// Saves the file, and the call with what differs; prints the same.
-    fn save(&self, name: &str, file: &[u8], call: &Call, outcome: &Outcome) -> io::Result<()> {
+    /// Saves the file or the records, and the call with what differs; prints the same.
+    fn save(&self, name: &str, bytes: &[u8], call: &Call, outcome: &Outcome) -> io::Result<()> {
         if self.tally.differing > MOST_SAVED {
             return Ok(());
         }
         let name = format!("{}-{name}", self.seed);
+        let stored = match call {
+            Call::Write { .. } => format!("{name}.records"),
+            _ => format!("{name}.zs"),
+        };
         let cases = self.tally.cases();
         let text = format!(
-            "file: {name}.zs, {} bytes\n{}after {cases} cases, these differ:\n  {}\n",
-            file.len(),
+            "file: {stored}, {} bytes\n{}after {cases} cases, these differ:\n  {}\n",
+            bytes.len(),
             call.text(),
             outcome.differences.join("\n  ")
         );
         fs::create_dir_all(&self.folder)?;
-        fs::write(self.folder.join(format!("{name}.zs")), file)?;
+        fs::write(self.folder.join(stored), bytes)?;
         fs::write(self.folder.join(format!("{name}.txt")), &text)?;
         println!("{text}saved in {}\n", self.folder.display());
         Ok(())

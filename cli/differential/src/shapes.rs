@@ -113,7 +113,7 @@ fn add_reserved(random: &mut Random, tree: &mut Tree) {
 }
 
 /// Braces, and anything between them.
-fn metadata(random: &mut Random) -> Vec<u8> {
+pub fn metadata(random: &mut Random) -> Vec<u8> {
     let mut metadata = vec![b'{'];
     if random.once_in(4) {
         metadata.extend(random.string(12));

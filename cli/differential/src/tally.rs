@@ -26,11 +26,11 @@ fn due_numbers(call: refusals::Call) -> impl Iterator<Item = usize> {
 pub struct Column {
     /// Cases by number.
     pub numbers: [u64; NUMBERS],
-    /// Answers with more room than needed, on accepted files.
+    /// Answers with more room than needed, on accepted files and sound inputs.
     pub answered: u64,
     /// Those of them with matches.
     pub matched: u64,
-    /// Refusals 18 or 26 on accepted files, by a work list or opened list that is one place short.
+    /// Refusals 18 or 26 on accepted files, by a work list or opened list that is one place short; 31 by such an output.
     pub first_short: u64,
     /// Refusals 27 on accepted files, by a result list that is one place short.
     pub results_short: u64,
@@ -39,14 +39,16 @@ pub struct Column {
 /// Counts of a run.
 #[derive(Debug, Clone, Default)]
 pub struct Tally {
-    /// Files drawn.
-    pub files: u64,
+    /// Steps taken: files drawn for the readers, and inputs drawn for the writers.
+    pub steps: u64,
     /// Of the check.
     pub check: Column,
     /// Of reading front to back.
     pub read: Column,
     /// Of the search.
     pub search: Column,
+    /// Of the writer.
+    pub write: Column,
     /// Records within the file, and others.
     pub records: [u64; 2],
     /// Files with metadata, and others.
@@ -68,6 +70,7 @@ impl Tally {
             Call::Check { .. } => &mut self.check,
             Call::Read { .. } => &mut self.read,
             Call::Search { .. } => &mut self.search,
+            Call::Write { .. } => &mut self.write,
             Call::Record { .. } => return self.records[number % 2] += 1,
             Call::Metadata => return self.metadata[number % 2] += 1,
         };
@@ -82,7 +85,7 @@ impl Tally {
                 column.answered += 1;
                 column.matched += matched;
             }
-            Room::FirstShort => column.first_short += u64::from([18, 26].contains(&number)),
+            Room::FirstShort => column.first_short += u64::from([18, 26, 31].contains(&number)),
             Room::ResultsShort => column.results_short += u64::from(number == 27),
             Room::Exact | Room::Any => {}
         }
@@ -92,10 +95,20 @@ impl Tally {
         }
     }
 
+    /// The calls that can refuse, and their counts.
+    fn columns(&self) -> [(refusals::Call, &Column); 4] {
+        [
+            (refusals::Call::Check, &self.check),
+            (refusals::Call::Read, &self.read),
+            (refusals::Call::Search, &self.search),
+            (refusals::Call::Write, &self.write),
+        ]
+    }
+
     /// All cases.
     pub fn cases(&self) -> u64 {
-        let columns = [&self.check, &self.read, &self.search];
-        let counted = columns.iter().flat_map(|column| column.numbers.iter());
+        let columns = self.columns();
+        let counted = columns.iter().flat_map(|(_, column)| &column.numbers);
         let parts = self.records.iter().chain(&self.metadata);
         counted.sum::<u64>() + parts.sum::<u64>()
     }
@@ -103,13 +116,9 @@ impl Tally {
     /// Numbers that a call can give and didn't give often enough.
     fn rare_numbers(&self) -> Vec<String> {
         let mut rare = Vec::new();
-        for (name, column, call) in [
-            ("check", &self.check, refusals::Call::Check),
-            ("read", &self.read, refusals::Call::Read),
-            ("search", &self.search, refusals::Call::Search),
-        ] {
+        for (call, column) in self.columns() {
             let few = due_numbers(call).filter(|n| column.numbers[*n] < LEAST);
-            rare.extend(few.map(|n| format!("{name} {n}: {} times", column.numbers[n])));
+            rare.extend(few.map(|n| format!("{call:?} {n}: {} times", column.numbers[n])));
         }
         rare
     }
@@ -117,7 +126,14 @@ impl Tally {
     /// What the run falls short of.
     pub fn shortfalls(&self) -> Vec<String> {
         let mut missing = self.rare_numbers();
-        for (enough, what) in [
+        let unmet = self.demands().into_iter().filter(|(met, _)| !met);
+        missing.extend(unmet.map(|(_, what)| what.to_string()));
+        missing
+    }
+
+    /// What a run has to reach besides the count of each number, and whether it did.
+    fn demands(&self) -> [(bool, &'static str); 9] {
+        [
             (self.records.iter().all(|n| *n >= LEAST), "records"),
             (self.metadata.iter().all(|n| *n >= LEAST), "metadata"),
             (self.deep >= LEAST_DEEP, "searches below two levels"),
@@ -134,6 +150,10 @@ impl Tally {
                 "short opened lists",
             ),
             (
+                self.write.first_short == self.write.answered,
+                "short outputs",
+            ),
+            (
                 self.search.results_short == self.search.matched,
                 "short result lists of searches",
             ),
@@ -141,25 +161,26 @@ impl Tally {
                 self.read.results_short == self.read.matched,
                 "short result lists of reads",
             ),
-        ] {
-            if !enough {
-                missing.push(what.to_string());
+        ]
+    }
+
+    /// Writes how often each call gave each number.
+    fn write_numbers(&self, out: &mut fmt::Formatter<'_>) -> fmt::Result {
+        writeln!(out, "number    check     read   search    write")?;
+        for number in 0..NUMBERS {
+            let counts = self.columns().map(|(_, column)| column.numbers[number]);
+            if counts.iter().any(|count| *count > 0) {
+                let [check, read, search, write] = counts;
+                writeln!(out, "{number:6} {check:8} {read:8} {search:8} {write:8}")?;
             }
         }
-        missing
+        Ok(())
     }
 }
 
 impl fmt::Display for Tally {
     fn fmt(&self, out: &mut fmt::Formatter<'_>) -> fmt::Result {
-        writeln!(out, "number    check     read   search")?;
-        for number in 0..NUMBERS {
-            let counts = [&self.check, &self.read, &self.search].map(|c| c.numbers[number]);
-            if counts.iter().any(|count| *count > 0) {
-                let [check, read, search] = counts;
-                writeln!(out, "{number:6} {check:8} {read:8} {search:8}")?;
-            }
-        }
+        self.write_numbers(out)?;
         let [within, outside] = self.records;
         writeln!(out, "record: {within} within the file, {outside} not")?;
         let [sound, refused] = self.metadata;
@@ -185,10 +206,15 @@ impl fmt::Display for Tally {
             self.read.results_short,
             self.check.first_short
         )?;
+        writeln!(
+            out,
+            "inputs written: {}, one byte short: {}",
+            self.write.answered, self.write.first_short
+        )?;
         write!(
             out,
-            "{} files, {} cases, {} differ",
-            self.files,
+            "{} files and inputs, {} cases, {} differ",
+            self.steps,
             self.cases(),
             self.differing
         )

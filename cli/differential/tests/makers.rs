@@ -1,15 +1,17 @@
-//! What the makers of files promise: sound shapes are accepted and every unusual one comes up, and nothing depends on chance.
+//! What the makers of files and inputs promise: sound shapes are accepted and every unusual one comes up, and nothing depends on chance.
 
 use std::collections::BTreeSet;
 
 use zs_differential::damage::{repair, Repair};
-use zs_differential::drawing::draw;
+use zs_differential::drawing::{draw, Drawing};
 use zs_differential::faults::{draw_faulty, NUMBERS};
+use zs_differential::inputs::{draw_input, Input};
 use zs_differential::shapes::shape;
 use zs_library::refusals::{numbers, Call};
 use zs_reference::maker::random::Random;
-use zs_reference::maker::{Content, Entry, Image, Target};
+use zs_reference::maker::{Content, Entry, Image, Plan, Target};
 use zs_reference::reader::check;
+use zs_reference::writer::write;
 
 const AMPLE: usize = 1000;
 
@@ -107,6 +109,97 @@ fn note_records(image: &Image, seen: &mut Seen) {
 }
 
 #[test]
+fn inputs_of_every_shape() {
+    let mut random = Random::new(6);
+    let mut seen = BTreeSet::new();
+    for turn in 1..1000 {
+        let input = draw_input(&mut random, turn);
+        if number_of(&input) == 0 {
+            note_counts(&input, &mut seen);
+            note_strings(&input, &mut seen);
+        }
+    }
+    assert_eq!(seen.len(), 13, "{seen:?}");
+}
+
+/// The number that the second writer gives, with all the room that it asks for.
+fn number_of(input: &Input) -> u64 {
+    let given = write(&input.metadata, &input.records, input.counts, usize::MAX);
+    given.err().unwrap_or(0)
+}
+
+fn note_counts(input: &Input, seen: &mut Seen) {
+    let (records, per_block) = (input.strings.len() as u64, input.counts.per_block);
+    note(seen, records == 1, "one record");
+    note(seen, per_block == 1, "one record in a block");
+    note(seen, per_block == 65_535, "most records in a block");
+    note(seen, input.counts.per_index == 2, "two entries in a block");
+    note(seen, input.counts.per_index == 65_535, "most entries");
+    note(seen, records > 1 && records % per_block == 0, "full blocks");
+    note(seen, records % per_block == 1, "one record in the last");
+}
+
+fn note_strings(input: &Input, seen: &mut Seen) {
+    for (length, what) in [
+        (0, "0 bytes"),
+        (127, "127 bytes"),
+        (128, "128 bytes"),
+        (16_383, "16,383 bytes"),
+        (16_384, "16,384 bytes"),
+    ] {
+        let has = input.strings.iter().any(|string| string.len() == length);
+        note(seen, has, what);
+    }
+    let blocks: Vec<_> = input
+        .strings
+        .chunks(input.counts.per_block as usize)
+        .collect();
+    let across = |pair: &[&[Vec<u8>]]| pair[0].last() == pair[1].first();
+    note(seen, blocks.windows(2).any(across), "equal across blocks");
+}
+
+/// Each fault alone, and each before each that comes after it: mended, an input has the later one or none.
+#[test]
+fn inputs_with_every_two_faults() {
+    let mut random = Random::new(7);
+    let mut seen = BTreeSet::new();
+    for turn in 1..1000 {
+        let mut input = draw_input(&mut random, turn);
+        let number = number_of(&input);
+        match number {
+            30 => (input.counts.per_block, input.counts.per_index) = (1, 2),
+            9 => input.metadata = b"{}".to_vec(),
+            28 => input.records = Plan::data(&input.strings).payload(&[]),
+            _ => continue,
+        }
+        seen.insert((number, number_of(&input)));
+    }
+    for due in [
+        (30, 0),
+        (30, 9),
+        (30, 28),
+        (30, 29),
+        (9, 0),
+        (9, 28),
+        (9, 29),
+        (28, 0),
+        (28, 29),
+    ] {
+        assert!(seen.contains(&due), "{due:?} of {seen:?}");
+    }
+}
+
+#[test]
+fn large_inputs_are_sound() {
+    let mut random = Random::new(8);
+    for turn in (0..1200).step_by(200) {
+        let input = draw_input(&mut random, turn);
+        assert!(input.strings.len() >= 65_535);
+        assert_eq!(number_of(&input), 0);
+    }
+}
+
+#[test]
 fn every_refusal_of_a_file_has_its_fault() {
     // 1 takes a file above 2^30 bytes, 18 a short work list.
     let due = numbers(Call::Check).filter(|number| ![1, 18].contains(number));
@@ -144,7 +237,13 @@ fn repairing_a_sound_file_changes_nothing() {
 fn a_seed_and_a_number_give_one_drawing() {
     for number in 0..200 {
         let (one, other) = (draw(4, number), draw(4, number));
-        assert_eq!((one.file, one.calls), (other.file, other.calls));
-        assert!(draw(5, number).calls.len() > 4);
+        let told = |drawings: Vec<Drawing>| -> Vec<_> {
+            let told = drawings.into_iter();
+            told.map(|drawing| (drawing.bytes, drawing.calls)).collect()
+        };
+        assert_eq!(told(one), told(other));
+        assert!(draw(5, number)
+            .iter()
+            .all(|drawing| !drawing.calls.is_empty()));
     }
 }

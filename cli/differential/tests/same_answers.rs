@@ -1,4 +1,4 @@
-//! The proved library answers as the independent reader does, over files drawn from a fixed seed.
+//! The proved library answers as the independent reader and writer do, over files and inputs drawn from a fixed seed.
 //! The table of counts is printed; run with `--nocapture` to see it.
 
 use std::path::Path;
@@ -6,15 +6,15 @@ use std::path::Path;
 use zs_differential::run::Run;
 
 const SEED: u64 = 20_261_115;
-/// Files drawn; each gets some twenty calls.
-const FILES: u64 = 6000;
+/// Files and inputs drawn; each gets some twenty calls.
+const STEPS: u64 = 7200;
 const LEAST_CASES: u64 = 20_000;
 
 #[test]
 fn the_same_answers() {
     let folder = Path::new(env!("CARGO_MANIFEST_DIR")).join("../target/differences");
     let mut run = Run::new(SEED, folder);
-    for _ in 0..FILES {
+    for _ in 0..STEPS {
         run.step().expect("a folder to save differences in");
     }
     println!("\nseed {SEED}\n{}", run.tally);

@@ -10,7 +10,7 @@ const CXX: &[&str] = &["-x", "c++", "-std=c++11"];
 const STRICT: &[&str] = &["-Wall", "-Wextra", "-Werror", "-pedantic"];
 const TWO_BLOCKS: &str = "crates/test_archives/data/two-blocks";
 
-/// What `interface.c` prints of the calls on the example with two data blocks.
+/// What `interface.c` prints of the calls on the example with two data blocks, and of writing its records.
 const CALLS: &str = "\
 check 0 0 3 4
 work 0 0 0 0
@@ -22,6 +22,11 @@ results 111 2 124 2 0 0
 record 111 2 0 0
 within 1 0 0 0
 metadata 96 2 0 0
+write 0 0 155 0
+check 0 0 3 4
+read 0 0 3 0
+results 111 2 124 2 127 1
+write 31 0 0 0
 null file 3 0 0 0
 work 0 0 0 0
 null file 3 0 0 0
@@ -35,6 +40,10 @@ null stop 0 0 0 1
 null results 27 0 0 0
 null results 27 0 0 0
 null opened 26 0 0 0
+null metadata 9 0 0 0
+null records 28 0 0 0
+null output 31 0 0 0
+null all 30 0 0 0
 ";
 
 /// What `lookup.c` prints.

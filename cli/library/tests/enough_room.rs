@@ -3,7 +3,7 @@
 use std::path::Path;
 use std::thread;
 
-use zs_library::{check, read, search, Query};
+use zs_library::{check, read, search, write, Counts, Query};
 use zs_reference::maker::{Image, Plan};
 
 const STACK: usize = 64 << 10;
@@ -11,6 +11,13 @@ const ALL: Query = Query {
     start: &[],
     stop: None,
     prefix: &[],
+};
+
+/// So many empty records, and the counts that put the most levels over them.
+static RECORDS: [u8; 5000] = [0; 5000];
+const LEAST_COUNTS: Counts = Counts {
+    per_block: 1,
+    per_index: 2,
 };
 
 /// Data blocks of eleven bytes, one of them named by the root.
@@ -79,9 +86,16 @@ fn a_stack_of_64_kib() {
     let calls = move || {
         let checked = check(&file, &mut [7; 64]);
         let found = search(&file, &ALL, &mut [7; 64], &mut [7; 2]);
-        (checked.number, checked.blocks, found.number, found.opened)
+        let written = write(
+            b"{}",
+            &RECORDS,
+            LEAST_COUNTS,
+            &mut vec![7; 100 * RECORDS.len()],
+        );
+        assert_eq!([checked.number, found.number, written.number], [0; 3]);
+        (checked.blocks, found.opened)
     };
     let small = thread::Builder::new().stack_size(STACK);
     let answers = small.spawn(calls).expect("a thread").join();
-    assert_eq!(answers.expect("its answers"), (0, 64, 0, 64));
+    assert_eq!(answers.expect("its answers"), (64, 64));
 }

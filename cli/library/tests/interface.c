@@ -4,9 +4,9 @@
 
 #include "zs.h"
 
-enum { WORK = 4, OPENED = 4, RESULTS = 6 };
+enum { WORK = 4, OPENED = 4, RESULTS = 6, OUTPUT = 160 };
 
-static uint8_t file[65536];
+static uint8_t file[65536], output[OUTPUT];
 static size_t length;
 static uint64_t work[WORK], opened[OPENED], results[RESULTS];
 
@@ -37,6 +37,11 @@ static void print_read(const char *name, struct zs_read_answer answer)
 static void print_found(const char *name, struct zs_found answer)
 {
     print_four(name, answer.number, answer.place, answer.matches, answer.opened);
+}
+
+static void print_written(const char *name, struct zs_written answer)
+{
+    print_four(name, answer.number, answer.place, answer.length, 0);
 }
 
 static void print_part(const char *name, struct zs_part part)
@@ -73,6 +78,32 @@ static void call_all(void)
     print_part("metadata", zs_metadata(file, length));
 }
 
+/* Writes the records of the example, two in a data block, into so many bytes, and prints the answer and how many bytes after the file
+ * aren't zeros. */
+static zs_written call_write(size_t room)
+{
+    const uint8_t metadata[2] = {'{', '}'};
+    const uint8_t records[10] = {1, 'a', 2, 'b', 0xff, 2, 'b', 0xff, 1, 'c'};
+    memset(output, 7, sizeof output);
+    zs_written answer = zs_write(metadata, sizeof metadata, records, sizeof records, 2, 2, output, room);
+    uint64_t behind = 0;
+    for (size_t i = (size_t)answer.length; i < room; i++)
+        behind += output[i] != 0;
+    print_four("write", answer.number, answer.place, answer.length, behind);
+    return answer;
+}
+
+/* A file that is written, checked and read back, and one that finds no room. */
+static void write_and_read(void)
+{
+    size_t written = (size_t)call_write(OUTPUT).length;
+    print_checked("check", zs_check(output, written, work, WORK));
+    fill_lists();
+    print_read("read", zs_read(output, written, (const uint8_t *)"b", 1, false, NULL, 0, NULL, 0, results, RESULTS));
+    print_list("results", results, RESULTS);
+    call_write(written - 1);
+}
+
 /* Every pointer is NULL once. */
 static void call_with_null(void)
 {
@@ -91,6 +122,11 @@ static void call_with_null(void)
     print_read("null results", zs_read(file, length, NULL, 0, false, NULL, 0, NULL, 0, NULL, 0));
     print_found("null results", zs_search(file, length, NULL, 0, false, NULL, 0, NULL, 0, opened, OPENED, NULL, 0));
     print_found("null opened", zs_search(file, length, NULL, 0, false, NULL, 0, NULL, 0, NULL, 0, results, RESULTS));
+
+    print_written("null metadata", zs_write(NULL, 0, file, 0, 1, 2, output, OUTPUT));
+    print_written("null records", zs_write((const uint8_t *)"{}", 2, NULL, 0, 1, 2, output, OUTPUT));
+    print_written("null output", zs_write((const uint8_t *)"{}", 2, (const uint8_t *)"", 1, 1, 2, NULL, 0));
+    print_written("null all", zs_write(NULL, 0, NULL, 0, 0, 2, NULL, 0));
 }
 
 /* Version, and the refusals of a file without its last byte and of a short list by their names. */
@@ -113,6 +149,7 @@ int main(int count, char **words)
     length = fread(file, 1, sizeof file, stored);
     fclose(stored);
     call_all();
+    write_and_read();
     call_with_null();
     print_words();
     return 0;

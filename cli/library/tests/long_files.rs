@@ -1,6 +1,6 @@
-//! Refusal 1 and its limit, over sparse files that are mapped and never written.
+//! Refusals 1 and 31 at the limit of length: 1 over sparse files that are mapped and never written, 31 over outputs that are longer.
 use std::fs::OpenOptions;
-use zs_library::{check, map, read, search, Query};
+use zs_library::{check, map, read, search, write, Counts, Query};
 
 const LONGEST: u64 = 1 << 30;
 
@@ -40,4 +40,56 @@ fn one_byte_more_than_the_longest_file_is_refusal_1() {
 #[test]
 fn the_longest_file_is_judged_by_its_bytes() {
     assert_eq!(number_of_sparse("longest", LONGEST), 3);
+}
+
+/// Zeros enough to compare an output with, part by part.
+static ZEROS: [u8; 1 << 16] = [0; 1 << 16];
+
+const COUNTS: Counts = Counts {
+    per_block: 2,
+    per_index: 2,
+};
+
+fn is_zeros(bytes: &[u8]) -> bool {
+    let mut parts = bytes.chunks(ZEROS.len());
+    parts.all(|part| part == &ZEROS[..part.len()])
+}
+
+/// An empty record and one of zero bytes, such that the file has this length. A header with the metadata `{}` has 106 bytes, the data
+/// block 20 beside the long record, and the index block 17: its one key is the first record.
+fn input_for(file_length: u64) -> Vec<u8> {
+    let record = file_length - 106 - 20 - 17;
+    let mut input = vec![0; 6 + record as usize];
+    for (place, digit) in input[1..6].iter_mut().enumerate() {
+        *digit = 0x80 | (record >> (7 * place)) as u8;
+    }
+    input[5] &= 0x7f;
+    input
+}
+
+#[test]
+fn an_output_may_be_longer_than_the_longest_file_but_not_the_file() {
+    let mut output = vec![7; LONGEST as usize + 1];
+    let written = write(b"{}", b"\0", COUNTS, &mut output);
+    assert_eq!((written.number, written.length), (0, 130));
+    assert_eq!(check(&output[..130], &mut [7; 2]).number, 0);
+    assert!(is_zeros(&output[130..]));
+
+    let written = write(b"{}", &input_for(LONGEST + 1), COUNTS, &mut output);
+    assert_eq!((written.number, written.place, written.length), (31, 0, 0));
+    assert!(is_zeros(&output));
+}
+
+#[test]
+#[ignore = "checksums over 2 GiB and more"]
+fn the_longest_file_is_written() {
+    let mut output = vec![7; LONGEST as usize];
+    let written = write(b"{}", &input_for(LONGEST), COUNTS, &mut output);
+    assert_eq!((written.number, written.length), (0, LONGEST));
+    let checked = check(&output, &mut [7; 2]);
+    assert_eq!((checked.number, checked.blocks, checked.records), (0, 2, 2));
+    let short = &mut output[1..];
+    let written = write(b"{}", &input_for(LONGEST), COUNTS, short);
+    assert_eq!((written.number, written.length), (31, 0));
+    assert!(is_zeros(short));
 }

@@ -1,13 +1,15 @@
-//! A second, independent reader of ZS files, written from the papers.
+//! A second, independent reader and writer of ZS files, written from the papers.
 //!
 //! It judges another implementation and shares no code with it; docs/DECISIONS.md says more.
 //!
 //! * [`reader`] checks, reads and searches files, and hands back records.
+//! * [`writer`] writes files from metadata and records.
 //! * [`maker`] builds files: sound ones, unusual ones and damaged ones.
 //! * [`corpus`] names a fixed set of files and cases with the answers due.
 //! * [`samples`] makes the archives of fictitious contacts that `make demo` shows.
 //!
-//! "The paper" in comments is 01-scope.md; refusal numbers are the paper's.
+//! "The paper" in comments is 01-scope.md, and requests are those of 02-change-requests.md; refusal
+//! numbers are theirs.
 
 #![forbid(unsafe_code)]
 #![warn(missing_docs)]
@@ -17,3 +19,4 @@ pub mod corpus;
 pub mod maker;
 pub mod reader;
 pub mod samples;
+pub mod writer;

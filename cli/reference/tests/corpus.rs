@@ -5,6 +5,7 @@ use std::collections::{BTreeMap, BTreeSet};
 use crate::support::tree::faults;
 use zs_reference::corpus::{Call, Case, Claim, Corpus, File, ALL_CALLS};
 use zs_reference::reader::check;
+use zs_reference::writer::{write, Counts};
 
 /// Whether what a file's maker says of it is so.
 fn holds(file: &File) -> bool {
@@ -18,7 +19,17 @@ fn holds(file: &File) -> bool {
             answer == (number, place) && faults.contains(&number) && faults.len() > 1
         }
         Claim::Nothing => (answer.0 == 0) == faults.is_empty(),
+        Claim::Records(number) => number_of(&file.bytes) == number,
     }
+}
+
+/// What the writer gives for these records with sound metadata and counts, and with room.
+fn number_of(records: &[u8]) -> u64 {
+    let counts = Counts {
+        per_block: 1,
+        per_index: 2,
+    };
+    write(b"{}", records, counts, usize::MAX).err().unwrap_or(0)
 }
 
 #[test]
@@ -44,7 +55,7 @@ fn each_refusal_has_two_files() {
             Claim::Only(number, _) => *times.entry(number).or_default() += 1,
             Claim::First(number @ (21 | 23), _) => *times.entry(number).or_default() += 1,
             Claim::First(_, _) => several += 1,
-            Claim::Sound | Claim::Nothing => {}
+            Claim::Sound | Claim::Nothing | Claim::Records(_) => {}
         }
     }
     for number in (2..=17).chain(19..=25) {
@@ -52,6 +63,16 @@ fn each_refusal_has_two_files() {
         assert!(files >= 2, "refusal {number} has {files} files");
     }
     assert!(several >= 12);
+}
+
+#[test]
+fn each_refusal_of_the_writer_has_two_cases() {
+    let lines = Corpus::whole().with_calls(&[Call::Write]).lines();
+    for number in [0, 9, 28, 29, 30, 31] {
+        let given = format!(": number {number} ");
+        let cases = lines.lines().filter(|line| line.contains(&given)).count();
+        assert!(cases >= 2, "{number} has {cases} cases");
+    }
 }
 
 #[test]
@@ -73,7 +94,7 @@ fn limits_hold() {
 #[test]
 fn same_bytes_each_time() {
     let (one, two) = (Corpus::whole(), Corpus::whole());
-    assert_eq!(one.encoded_cases(), two.encoded_cases());
+    assert_eq!(one.case_files(), two.case_files());
     assert_eq!(one.lines(), two.lines());
     let bytes = |corpus: &Corpus| -> Vec<Vec<u8>> {
         corpus.files.iter().map(|file| file.bytes.clone()).collect()
@@ -127,7 +148,7 @@ fn take_number(bytes: &mut &[u8], length: usize) -> u64 {
 #[test]
 fn cases_read_back() {
     let corpus = Corpus::whole();
-    let stored = corpus.encoded_cases();
+    let stored = corpus.case_files().map(|(_, cases)| cases).concat();
     let mut rest = &stored[..];
     for case in &corpus.cases {
         assert_eq!(decode(&mut rest), *case);
@@ -172,4 +193,20 @@ fn lines_have_their_form() {
     let record = line(Call::Record, |case| (case.offset, case.length) = (154, 1));
     let due = "two-blocks record 154 1: within no part 0 0 bytes -";
     assert_eq!(record, due);
+}
+
+/// The hashes are those of the file in FORMAT.md with one zero after it, and of 129 zeros.
+#[test]
+fn lines_of_writes_have_their_form() {
+    let counts = Counts {
+        per_block: 1,
+        per_index: 2,
+    };
+    let line = |output| Case::write("write-smallest", b"{}", counts, output).line(b"\0");
+    let due = "write-smallest write 7b7d 1 2 131: number 0 place 0 length 130 \
+               output b6205e55dfe96cc5a31c096347049957268d1f5ca5819dcb8227c505bb4ab3c9";
+    assert_eq!(line(131), due);
+    let due = "write-smallest write 7b7d 1 2 129: number 31 place 0 length 0 \
+               output 2c80619d7e7c58257293cda3a878c13e5856f4e06f6f90601276f7b9179c9e07";
+    assert_eq!(line(129), due);
 }

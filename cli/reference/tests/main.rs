@@ -6,3 +6,4 @@ mod opening;
 mod paper;
 mod samples;
 mod support;
+mod writer;

@@ -1,4 +1,4 @@
-// The lists that the calls are lent.
+// The lists and outputs that the calls are lent.
 ghost use Prim.Native.Nat.{min};
 ghost use lib.ListN.{length};
 ghost use mathlib.Core.Path.{_≡_};
@@ -16,5 +16,17 @@ pub fn room(places: u64, list: &[u64]) -> usize
         places as usize
     } else {
         list.len()
+    }
+}
+
+// How many bytes of `output` are lent where a case asks for `places`.
+pub fn output_room(places: u64, output: &[u8]) -> usize
+    ensures { λ r. ⌜ r ≡ min places (length (now (output .entry))) ⌝ }
+    ensures { λ r. ⌜ Counts r (now (output .entry)) ⌝ }
+{
+    if places < output.len() as u64 {
+        places as usize
+    } else {
+        output.len()
     }
 }

@@ -1,4 +1,4 @@
-// Runs the stored cases: for each case of the file `cases` a call on the file that it names, and a line with the answer.
+// Runs the stored cases: for each case of the files `cases` and `write-cases` a call on the file that it names, and a line with the answer.
 ghost use Rattle.io.specs.Counts.{Counts};
 
 mod cases;
@@ -8,6 +8,7 @@ mod lists;
 mod print;
 mod read;
 mod record_part;
+mod write;
 
 use cases::Case;
 use cases::CaseOutcome;
@@ -33,6 +34,7 @@ fn answer(file: &[u8], stored: &[u8], case: Case) {
         2 => check::run(file, case),
         3 => index_search::run(file, stored, case),
         4 => record_part::run(file, case),
+        5 => write::run(file, stored, case),
         _ => print::number(b" unknown call ", call as u64),
     }
     print::text(b"\n");
@@ -71,8 +73,8 @@ fn run_all(stored: &[u8]) {
     }
 }
 
-fn main() {
-    let path = b"cases";
+// Runs the cases of a file, or says why it can't be opened.
+fn run_file(path: &[u8]) {
     let fd = os::open_read(path);
     if fd < 0 {
         os::fail(path);
@@ -81,4 +83,9 @@ fn main() {
     let mut space = io::large_buffer();
     let n = fill(fd, &mut space);
     run_all(&space[..n]);
+}
+
+fn main() {
+    run_file(b"cases");
+    run_file(b"write-cases");
 }

@@ -133,12 +133,17 @@ fn spoil_total(random: &mut Random, image: &mut Image) -> Vec<u8> {
 
 /// 9: metadata that isn't in braces. Bytes after it don't count.
 fn spoil_metadata(random: &mut Random, image: &mut Image) {
-    let choices: [&[u8]; 8] = [b"", b"{", b"}", b"}{", b"{} ", b" {}", b"[]", b"{\"a\": 1]"];
     match random.below(3) {
         0 => image.metadata_length = Some(random.below(image.metadata.len()) as u64),
-        _ => image.metadata = random.pick(&choices).to_vec(),
+        _ => image.metadata = bad_metadata(random),
     }
     if random.once_in(2) {
         image.extra = b"}".to_vec();
     }
+}
+
+/// Bytes that aren't in braces.
+pub fn bad_metadata(random: &mut Random) -> Vec<u8> {
+    let choices: [&[u8]; 8] = [b"", b"{", b"}", b"}{", b"{} ", b" {}", b"[]", b"{\"a\": 1]"];
+    random.pick(&choices).to_vec()
 }

@@ -6,6 +6,8 @@ mod names;
 mod order;
 mod payload;
 
+pub use header::bad_metadata;
+
 use crate::shapes::shape;
 use zs_reference::maker::random::Random;
 use zs_reference::maker::{Content, Entry, Image};

@@ -1,8 +1,8 @@
-//! `make-archives DIR [read] [check] [search] [record]`
+//! `make-archives DIR [read] [check] [search] [record] [write]`
 //!
-//! Writes the corpus: `DIR/data/*` are the files, `DIR/data/cases` the cases of the calls
-//! named (all four if none is), and `DIR/stdout` the lines due. The same calls always give
-//! the same bytes.
+//! Writes the corpus: `DIR/data/*` are the files, `DIR/data/cases` and `DIR/data/write-cases` the
+//! cases of the calls named (all five if none is), and `DIR/stdout` the lines due. The same calls
+//! always give the same bytes.
 
 use std::error::Error;
 use std::fs;
@@ -11,7 +11,7 @@ use std::process::ExitCode;
 
 use zs_reference::corpus::{Call, Corpus, ALL_CALLS};
 
-const USAGE: &str = "usage: make-archives DIR [read] [check] [search] [record]";
+const USAGE: &str = "usage: make-archives DIR [read] [check] [search] [record] [write]";
 
 fn main() -> ExitCode {
     let arguments: Vec<String> = std::env::args().skip(1).collect();
@@ -57,8 +57,9 @@ fn write(folder: &Path, calls: &[Call]) -> Result<String, Box<dyn Error>> {
     for file in &corpus.files {
         fs::write(data.join(&file.name), &file.bytes)?;
     }
-    let cases = corpus.encoded_cases();
-    fs::write(data.join("cases"), &cases)?;
+    for (name, cases) in corpus.case_files() {
+        fs::write(data.join(name), cases)?;
+    }
     fs::write(folder.join("stdout"), corpus.lines())?;
     warn_of_other_files(&data, &corpus)?;
     let bytes: usize = corpus.files.iter().map(|file| file.bytes.len()).sum();
@@ -66,15 +67,21 @@ fn write(folder: &Path, calls: &[Call]) -> Result<String, Box<dyn Error>> {
         "{} files ({bytes} bytes), {} cases ({} bytes)",
         corpus.files.len(),
         corpus.cases.len(),
-        cases.len(),
+        corpus
+            .case_files()
+            .map(|(_, cases)| cases.len())
+            .iter()
+            .sum::<usize>(),
     ))
 }
 
 /// Warns of files that another run left; they stay.
 fn warn_of_other_files(data: &Path, corpus: &Corpus) -> Result<(), Box<dyn Error>> {
+    let cases = corpus.case_files().map(|(name, _)| name);
     for entry in fs::read_dir(data)? {
         let name = entry?.file_name().to_string_lossy().into_owned();
-        let known = name == "cases" || corpus.files.iter().any(|file| file.name == name);
+        let known =
+            cases.contains(&name.as_str()) || corpus.files.iter().any(|file| file.name == name);
         if !known {
             eprintln!(
                 "make-archives: {name} in {} isn't of this corpus",

@@ -4,6 +4,7 @@ use super::case::{Call, Case};
 use super::{Claim, Corpus, File, MOST_PLACES};
 use crate::maker::{Image, Tree};
 use crate::reader::{check, read, search, Query};
+use crate::writer::{write, Counts};
 
 /// Places given where a refusal is due, unless it takes more of them to come to it.
 const FEW: usize = 12;
@@ -35,6 +36,14 @@ pub fn start(start: &[u8]) -> Query {
 /// A query by stop only.
 pub fn stop(stop: &[u8]) -> Query {
     query(b"", Some(stop), b"")
+}
+
+/// So many records in a data block and so many entries in an index block.
+pub fn counts(per_block: u64, per_index: u64) -> Counts {
+    Counts {
+        per_block,
+        per_index,
+    }
 }
 
 /// Three data blocks under one root: blocks 0, 1 and 2, and the root 3.
@@ -165,6 +174,24 @@ impl Corpus {
         case.offset = offset;
         case.length = length;
         self.cases.push(case);
+    }
+
+    /// Writes with so many bytes of output.
+    pub fn write(&mut self, name: &str, metadata: &[u8], counts: Counts, output: u16) {
+        self.cases.push(Case::write(name, metadata, counts, output));
+    }
+
+    /// Writes records with just enough bytes of output, one less, and some more. Without room for the file nothing is asked.
+    pub fn ask_write(&mut self, name: &str, per_block: u64, per_index: u64) {
+        let counts = counts(per_block, per_index);
+        let most = usize::from(u16::MAX) - 3;
+        if let Ok(file) = write(b"{}", &self.bytes_of(name), counts, most) {
+            let length = file.len() as u16;
+            let longer = length + 1 + self.spare_places() as u16;
+            for output in [length, length - 1, longer] {
+                self.write(name, b"{}", counts, output);
+            }
+        }
     }
 
     /// Asks for the records that a query finds, some of them.

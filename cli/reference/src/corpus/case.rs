@@ -1,6 +1,8 @@
 //! One case: a call on a named file, how it is stored, and the line due.
 
+use crate::checksums::sha256;
 use crate::reader::{check, read, record, search, within, Query};
+use crate::writer::{write, Counts};
 
 /// Which function a case calls.
 #[derive(Debug, Clone, Copy, PartialEq, Eq)]
@@ -13,10 +15,18 @@ pub enum Call {
     Search,
     /// Handing back a record.
     Record,
+    /// Writing the records that the file holds.
+    Write,
 }
 
 /// Every call, in the order of their numbers.
-pub const ALL_CALLS: [Call; 4] = [Call::Read, Call::Check, Call::Search, Call::Record];
+pub const ALL_CALLS: [Call; 5] = [
+    Call::Read,
+    Call::Check,
+    Call::Search,
+    Call::Record,
+    Call::Write,
+];
 
 impl Call {
     /// The number that stands for the call in a stored case.
@@ -26,6 +36,7 @@ impl Call {
             Call::Check => 2,
             Call::Search => 3,
             Call::Record => 4,
+            Call::Write => 5,
         }
     }
 
@@ -36,11 +47,12 @@ impl Call {
             Call::Check => "check",
             Call::Search => "search",
             Call::Record => "record",
+            Call::Write => "write",
         }
     }
 }
 
-/// A case. What its call doesn't use is zero or empty.
+/// A case. What its call doesn't use is zero or empty. A write has some of the fields for its own, as [`Case::write`] says.
 #[derive(Debug, Clone, PartialEq, Eq)]
 pub struct Case {
     /// Name of the file.
@@ -80,6 +92,17 @@ impl Case {
             offset: 0,
             length: 0,
         }
+    }
+
+    /// A write. Its metadata stand for the start, the bytes of its output for the places of the result list, and its counts for offset
+    /// and length.
+    pub fn write(name: &str, metadata: &[u8], counts: Counts, output: u16) -> Self {
+        let mut case = Case::new(name, Call::Write);
+        case.start = metadata.to_vec();
+        case.result_places = output;
+        case.offset = counts.per_block;
+        case.length = counts.per_index;
+        case
     }
 
     /// The same case under a query.
@@ -123,6 +146,7 @@ impl Case {
             Call::Check => self.check_line(file),
             Call::Search => self.search_line(file),
             Call::Record => self.record_line(file),
+            Call::Write => self.write_line(file),
         };
         format!("{} {} {answer}", self.name, self.call.word())
     }
@@ -182,6 +206,26 @@ impl Case {
             self.offset,
             self.length,
             hex(part),
+        )
+    }
+
+    fn write_line(&self, records: &[u8]) -> String {
+        let counts = Counts {
+            per_block: self.offset,
+            per_index: self.length,
+        };
+        let room = usize::from(self.result_places);
+        let answer = write(&self.start, records, counts, room);
+        let number = answer.as_ref().err().copied().unwrap_or(0);
+        let mut output = answer.unwrap_or_default();
+        let length = output.len();
+        output.resize(room, 0);
+        format!(
+            "{} {} {} {room}: number {number} place 0 length {length} output {}",
+            hex(&self.start),
+            counts.per_block,
+            counts.per_index,
+            hex(&sha256([&output[..]])),
         )
     }
 

@@ -16,6 +16,7 @@ mod payload_faults;
 mod queried;
 mod sound;
 mod two_faults;
+mod written;
 
 pub use case::{Call, Case, ALL_CALLS};
 
@@ -28,6 +29,11 @@ pub const LONGEST_NAME: usize = 40;
 /// No list of a case is longer.
 pub const MOST_PLACES: u16 = 128;
 
+/// The file that holds the cases of the readers.
+const CASES: &str = "cases";
+/// The file that holds those of the writer.
+const WRITE_CASES: &str = "write-cases";
+
 /// What the maker of a file says that the check must answer, given room.
 #[derive(Debug, Clone, Copy, PartialEq, Eq)]
 pub enum Claim {
@@ -39,6 +45,8 @@ pub enum Claim {
     First(u64, u64),
     /// Nothing is claimed.
     Nothing,
+    /// Records for the writer. With sound metadata and counts, and with room, it gives this number.
+    Records(u64),
 }
 
 /// A named file of the corpus.
@@ -76,6 +84,7 @@ impl Corpus {
         two_faults::add(&mut corpus);
         hostile::add(&mut corpus);
         drawn::add(&mut corpus);
+        written::add(&mut corpus);
         corpus.gather();
         corpus
     }
@@ -99,9 +108,12 @@ impl Corpus {
         self
     }
 
-    /// The bytes of `data/cases`.
-    pub fn encoded_cases(&self) -> Vec<u8> {
-        self.cases.iter().flat_map(Case::encode).collect()
+    /// The files with the cases, by name, in the order in which they are run.
+    pub fn case_files(&self) -> [(&'static str, Vec<u8>); 2] {
+        let (writes, others): (Vec<&Case>, Vec<&Case>) =
+            self.cases.iter().partition(|case| case.call == Call::Write);
+        [(CASES, others), (WRITE_CASES, writes)]
+            .map(|(name, cases)| (name, cases.into_iter().flat_map(Case::encode).collect()))
     }
 
     /// The output due, one line for each case.
@@ -131,17 +143,20 @@ impl Corpus {
         if let Some(file) = self.files.iter().find(|file| !is_good_name(&file.name)) {
             return Some(format!("{} is no good name", file.name));
         }
+        let mut lists = self.cases.iter().filter(|case| case.call != Call::Write);
         let wide = |case: &&Case| case.result_places.max(case.other_places) > MOST_PLACES;
-        if let Some(case) = self.cases.iter().find(wide) {
+        if let Some(case) = lists.find(wide) {
             return Some(format!("a case of {} has too many places", case.name));
         }
-        let cases = self.encoded_cases().len();
-        (cases > LONGEST_DATA).then(|| format!("the cases take {cases} bytes"))
+        let files = self.case_files();
+        let long = files.iter().find(|(_, cases)| cases.len() > LONGEST_DATA);
+        long.map(|(name, cases)| format!("{name} takes {} bytes", cases.len()))
     }
 }
 
 /// Whether a name may stand in a case.
 fn is_good_name(name: &str) -> bool {
     let good = |byte: u8| matches!(byte, b'a'..=b'z' | b'0'..=b'9' | b'_' | b'-');
-    (1..=LONGEST_NAME).contains(&name.len()) && name != "cases" && name.bytes().all(good)
+    let taken = [CASES, WRITE_CASES].contains(&name);
+    (1..=LONGEST_NAME).contains(&name.len()) && !taken && name.bytes().all(good)
 }

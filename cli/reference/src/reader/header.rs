@@ -73,11 +73,15 @@ fn test_fields(file: &[u8], data: &[u8], metadata: &[u8]) -> Result<(), Refusal>
     if u64_at(data, 16) != Some(file.len() as u64) {
         return Err(Refusal::of_file(8));
     }
-    let braces = metadata.len() >= 2 && metadata.starts_with(b"{") && metadata.ends_with(b"}");
-    if !braces {
+    if !is_metadata(metadata) {
         return Err(Refusal::of_file(9));
     }
     Ok(())
+}
+
+/// Whether these bytes may be the metadata of a file: two or more, in braces.
+pub fn is_metadata(bytes: &[u8]) -> bool {
+    bytes.len() >= 2 && bytes.starts_with(b"{") && bytes.ends_with(b"}")
 }
 
 /// The fields that are needed. None only where H is below 80.

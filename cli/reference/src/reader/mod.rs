@@ -14,6 +14,7 @@ mod refusal;
 mod search;
 
 pub use check::{check, Checked};
+pub use header::is_metadata;
 pub use number::{number, NumberFault};
 pub use part::{metadata, record, within};
 pub use query::{may_hold_match, Query};
