@@ -85,7 +85,7 @@ pub fn import_lines(lines: &Path, database: &Path) -> Call {
     Call::new("sqlite3", &words)
 }
 
-/// The independent reader or the second maker in a process of its own, with its files in its memory.
+/// The independent reader or the second writer in a process of its own, with its files in its memory.
 pub struct Reference {
     child: Child,
     asked: ChildStdin,

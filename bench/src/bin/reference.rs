@@ -1,4 +1,4 @@
-//! The independent reader or the second maker, once for each line of standard input; prints the time in nanoseconds and the answer.
+//! The independent reader or the second writer, once for each line of standard input; prints the time in nanoseconds and the answer.
 //!
 //!     reference check FILE                             number, place, blocks and records
 //!     reference write INPUT PER_BLOCK PER_INDEX FILE   1 where what is made of INPUT, with these counts, is FILE; else 0
@@ -10,8 +10,8 @@ use std::fs::read;
 use std::io::{self, BufRead, Write};
 use std::time::Instant;
 
-use zs_reference::maker::Tree;
-use zs_reference::reader::{check, metadata, number};
+use zs_reference::reader::{check, metadata, Checked};
+use zs_reference::writer::{write, Counts};
 
 fn main() -> io::Result<()> {
     let words: Vec<String> = std::env::args().skip(1).collect();
@@ -19,23 +19,25 @@ fn main() -> io::Result<()> {
     match words[..] {
         ["check", file] => {
             let file = read(file)?;
-            let tell =
-                |a: zs_reference::reader::Checked| vec![a.number, a.place, a.blocks, a.records];
+            let tell = |a: Checked| vec![a.number, a.place, a.blocks, a.records];
             answer_lines(|| check(&file, usize::MAX), tell)
         }
         ["write", input, per_block, per_index, file] => {
             let (input, file) = (read(input)?, read(file)?);
-            let counts = (count(per_block)?, count(per_index)?);
+            let counts = Counts {
+                per_block: count(per_block)?,
+                per_index: count(per_index)?,
+            };
             let (offset, length) = metadata(&file);
             let metadata = &file[offset as usize..][..length as usize];
-            let tell = |made| vec![u64::from(made == file)];
-            answer_lines(|| write(metadata, &input, counts), tell)
+            let tell = |made: Result<Vec<u8>, u64>| vec![u64::from(made.as_ref() == Ok(&file))];
+            answer_lines(|| write(metadata, &input, counts, usize::MAX), tell)
         }
         _ => Err(io::ErrorKind::InvalidInput.into()),
     }
 }
 
-fn count(word: &str) -> io::Result<usize> {
+fn count(word: &str) -> io::Result<u64> {
     word.parse().map_err(|_| io::ErrorKind::InvalidInput.into())
 }
 
@@ -52,28 +54,4 @@ fn answer_lines<T>(work: impl Fn() -> T, tell: impl Fn(T) -> Vec<u64>) -> io::Re
         out.flush()?;
     }
     Ok(())
-}
-
-/// The file of an input with so many records in a data block and so many entries in an index block, by the maker of test files.
-fn write(metadata: &[u8], input: &[u8], (per_block, per_index): (usize, usize)) -> Vec<u8> {
-    let mut tree = Tree::new::<Vec<u8>>(&[]);
-    tree.groups = records(input)
-        .chunks(per_block)
-        .map(<[_]>::to_vec)
-        .collect();
-    tree.fan_out = vec![per_index];
-    tree.metadata = metadata.to_vec();
-    tree.bytes()
-}
-
-/// The records of an input, each a length and as many bytes.
-fn records(input: &[u8]) -> Vec<Vec<u8>> {
-    let mut records = Vec::new();
-    let mut rest = input;
-    while let Ok((length, digits)) = number(rest) {
-        let (record, after) = rest[digits..].split_at(length as usize);
-        records.push(record.to_vec());
-        rest = after;
-    }
-    records
 }

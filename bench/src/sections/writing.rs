@@ -1,4 +1,4 @@
-//! Writing a large file: against its checksums and copies alone and the second maker, and as a process against `sqlite3`, `sort -c` and `xz`.
+//! Writing a large file: against its checksums and copies alone and the second writer, and as a process against `sqlite3`, `sort -c` and `xz`.
 
 use std::path::{Path, PathBuf};
 
@@ -28,8 +28,8 @@ pub fn measure(setting: &Setting, report: &mut Report) {
 }
 
 fn measure_in_process(setting: &Setting, input: &Input, file: &[u8], report: &mut Report) {
-    let mut portable = start_maker(setting, &setting.programs.portable, input, file);
-    let mut accelerated = start_maker(setting, &setting.programs.accelerated, input, file);
+    let mut portable = start_writer(setting, &setting.programs.portable, input, file);
+    let mut accelerated = start_writer(setting, &setting.programs.accelerated, input, file);
     let blocks: Vec<&[u8]> = blocks(file).collect();
     let (mut output, mut copies) = (vec![0; file.len()], (file.to_vec(), file.to_vec()));
     input.write(COUNTS, &mut output);
@@ -49,8 +49,8 @@ fn measure_in_process(setting: &Setting, input: &Input, file: &[u8], report: &mu
     report.add_table(large_file_table(setting, &times, file.len()));
 }
 
-/// The second maker in a process of its own, which has made the same file once.
-fn start_maker(setting: &Setting, program: &Path, input: &Input, file: &[u8]) -> Reference {
+/// The second writer in a process of its own, which has made the same file once.
+fn start_writer(setting: &Setting, program: &Path, input: &Input, file: &[u8]) -> Reference {
     let paths = ["records.input", "written.zs"].map(|name| setting.folder.join(name));
     std::fs::write(&paths[0], &input.bytes).expect("room for the input");
     std::fs::write(&paths[1], file).expect("room for the file");
@@ -61,9 +61,9 @@ fn start_maker(setting: &Setting, program: &Path, input: &Input, file: &[u8]) ->
         &COUNTS.per_index.to_string(),
         &paths[1].to_string_lossy(),
     ];
-    let mut maker = Reference::start(program, &words);
-    assert_eq!(maker.ask().answer, [1]);
-    maker
+    let mut writer = Reference::start(program, &words);
+    assert_eq!(writer.ask().answer, [1]);
+    writer
 }
 
 /// A copy, and a copy of the copy.
@@ -85,7 +85,7 @@ fn add_goals(times: &[f64], report: &mut Report) {
         times[0] / (parts + times[4]),
         Goal::None,
     );
-    let against = "writing: speed against the second maker";
+    let against = "writing: speed against the second writer";
     for (checksums, seconds) in [
         ("portable checksums", times[5]),
         ("SHA by the processor", times[6]),
@@ -102,7 +102,7 @@ fn large_file_table(setting: &Setting, times: &[f64], length: usize) -> Table {
     let about = format!(
         "A file of {}: {} records, {} to a data block (about 16 KiB), {} entries to an index block. The output is as long as the file; \
          the writer clears it first, within the time. The tests of the input are the writer's own: it was lent an output of no bytes, and so \
-         read each record's number, compared each record with the one before it (28, 29), and gave 31. The second maker runs in a process of \
+         read each record's number, compared each record with the one before it (28, 29), and gave 31. The second writer runs in a process of \
          its own and times itself.",
         size(length),
         setting.records.len(),
@@ -120,8 +120,8 @@ fn large_file_table(setting: &Setting, times: &[f64], length: usize) -> Table {
         ("these three", parts),
         ("the proved tests of the input, alone", times[4]),
         ("these four", parts + times[4]),
-        ("second maker, Rust -O, portable checksums", times[5]),
-        ("second maker, Rust -O, SHA by the processor", times[6]),
+        ("second writer, Rust -O, portable checksums", times[5]),
+        ("second writer, Rust -O, SHA by the processor", times[6]),
     ];
     for (what, seconds) in rows {
         table.add_row(&[
