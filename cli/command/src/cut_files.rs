@@ -60,9 +60,10 @@ extern "C" fn report_and_end(_signal: libc::c_int) {
     remove_unfinished();
     // SAFETY: the pointer is null or that of a report which is never freed.
     if let Some(report) = unsafe { REPORT.load(Ordering::SeqCst).as_ref() } {
-        let words = match WRITES.load(Ordering::SeqCst) {
-            true => &report.partly_written,
-            false => &report.nothing_written,
+        let words = if WRITES.load(Ordering::SeqCst) {
+            &report.partly_written
+        } else {
+            &report.nothing_written
         };
         // SAFETY: a handler may call `write`, and the bytes come with their length.
         unsafe { libc::write(libc::STDERR_FILENO, words.as_ptr().cast(), words.len()) };

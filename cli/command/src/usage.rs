@@ -47,8 +47,9 @@ fn show_mistake(mistake: &clap::Error) {
     let lines: Vec<String> = text.split('\n').map(hide_controls).collect();
     let text = lines.join("\n");
     // On a terminal clap colours what it prints. Where standard error can't be written, the exit status is all there is.
-    let _ = match text == plain {
-        true => mistake.print(),
-        false => io::stderr().write_all(text.as_bytes()),
+    let _ = if text == plain {
+        mistake.print()
+    } else {
+        io::stderr().write_all(text.as_bytes())
     };
 }

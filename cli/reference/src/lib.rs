@@ -1,15 +1,13 @@
-//! A second, independent reader and writer of ZS files, written from the papers.
+//! A second, independent reader and writer of ZS files.
 //!
-//! It judges another implementation and shares no code with it; docs/DECISIONS.md says more.
+//! It judges another implementation and shares no code with it; docs/DECISIONS.md says more. What it does, and the numbers of
+//! refusals, are those of docs/FORMAT.md.
 //!
 //! * [`reader`] checks, reads and searches files, and hands back records.
 //! * [`writer`] writes files from metadata and records.
 //! * [`maker`] builds files: sound ones, unusual ones and damaged ones.
 //! * [`corpus`] names a fixed set of files and cases with the answers due.
 //! * [`samples`] makes the archives of fictitious contacts that `make demo` shows.
-//!
-//! "The paper" in comments is 01-scope.md, and requests are those of 02-change-requests.md; refusal
-//! numbers are theirs.
 
 #![forbid(unsafe_code)]
 #![warn(missing_docs)]

@@ -156,7 +156,7 @@ fn cases_read_back() {
     assert!(rest.is_empty());
 }
 
-/// The line due for a case of the paper's two-block file.
+/// The line due for a case of the example with two data blocks.
 fn line(call: Call, change: impl FnOnce(&mut Case)) -> String {
     let corpus = Corpus::whole();
     let two_blocks = corpus.files.iter().find(|file| file.name == "two-blocks");

@@ -2,8 +2,8 @@
 
 mod corpus;
 mod drawn;
+mod examples;
 mod opening;
-mod paper;
 mod samples;
 mod support;
 mod writer;

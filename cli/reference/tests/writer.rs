@@ -27,7 +27,7 @@ fn hex(bytes: &[u8]) -> String {
     bytes.iter().map(|byte| format!("{byte:02x}")).collect()
 }
 
-/// The paper's smallest file: one empty record, 130 bytes.
+/// The smallest file of docs/FORMAT.md: one empty record, 130 bytes.
 #[test]
 fn smallest_file() {
     let file = write(b"{}", b"\0", counts(1, 2), 130).expect("a file");
@@ -43,7 +43,7 @@ fn smallest_file() {
     assert_eq!(hex(&file), due);
 }
 
-/// The records of the paper's file with two data blocks. Its first key is empty; here it is the first record.
+/// The records of the example with two data blocks. Its first key is empty; here it is the first record.
 #[test]
 fn two_block_file() {
     let records = input(&[&b"a"[..], b"b\xff", b"b\xff", b"c"]);

@@ -1,10 +1,10 @@
-//! The whole files that the paper prints, with its queries, and records cut from them.
+//! The whole files of docs/FORMAT.md, section 8, with its queries, and records cut from them.
 
 use super::build::{everything, prefix, query, start, stop};
 use super::Corpus;
 use crate::maker::{Image, Plan, Tree};
 
-/// Adds the paper's examples.
+/// Adds the examples of docs/FORMAT.md.
 pub fn add(corpus: &mut Corpus) {
     add_smallest(corpus);
     add_two_blocks(corpus);

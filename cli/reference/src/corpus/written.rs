@@ -24,7 +24,7 @@ fn input<R: AsRef<[u8]>>(records: &[R]) -> Vec<u8> {
     Plan::data(records).payload(&[])
 }
 
-/// The records of the paper's smallest file and of its file with two data blocks.
+/// The records of the smallest file of docs/FORMAT.md and of its file with two data blocks.
 fn add_examples(corpus: &mut Corpus) {
     let name = "write-smallest";
     corpus.add_input(name, b"\0".to_vec(), 0);

@@ -1,6 +1,6 @@
 //! Refusals, as the functions of this module pass them to each other.
 
-/// A refusal: the paper's number for it, and its place.
+/// A refusal: its number in docs/FORMAT.md, and its place.
 #[derive(Debug, Clone, Copy, PartialEq, Eq)]
 pub struct Refusal {
     /// Which refusal.

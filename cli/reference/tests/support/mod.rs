@@ -1,4 +1,4 @@
-//! The paper's rules, each tested by itself and without an order.
+//! The rules of docs/FORMAT.md, each tested by itself and without an order.
 //!
 //! This shares nothing with the reader but the checksums. It answers which refusals
 //! apply to a file at all, so that tests can tell a single fault from several.

@@ -1,4 +1,4 @@
-//! The rules of the tree, said in the paper's own terms: all pairs, all records before.
+//! The rules of the tree, said as docs/FORMAT.md says them: all pairs, all records before.
 
 use std::collections::BTreeSet;
 

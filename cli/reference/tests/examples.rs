@@ -1,4 +1,4 @@
-//! The numbers and whole files that the paper prints.
+//! The numbers and whole files of docs/FORMAT.md, section 8.
 
 use zs_reference::corpus::Corpus;
 use zs_reference::reader::{
