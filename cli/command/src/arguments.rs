@@ -37,9 +37,9 @@ OUT appears once it is whole, and not at all after a refusal. A file that is the
 unless --force is given.
 
 Examples:
-  zs make '{\"about\": \"names\"}' names.txt names.zs         names.txt is sorted by its bytes
-  zs make '{}' names.txt names.zs --sort                   lines in any order
-  zs make '{}' names.txt names.zs --terminator '\\r\\n'     lines as Windows has them
+  zs make '{\"about\": \"names\"}' names.txt names.zs        lines that are sorted by their bytes
+  zs make '{}' names.txt names.zs --sort                 lines in any order
+  zs make '{}' names.txt names.zs --terminator '\\r\\n'    lines as Windows has them
   zs make @about.json records out.zs --length-prefixed u64le
   LC_ALL=C sort names.txt | zs make '{}' - names.zs
   zs dump old.zs --length-prefixed uleb128 |
