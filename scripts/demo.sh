@@ -1,5 +1,5 @@
 #!/usr/bin/env bash
-# Installs what is missing, builds the proved library and the command zs, and shows them on an archive of fictitious contacts.
+# Installs what is missing, builds the proved library and the command zs, and shows them on archives of fictitious contacts.
 set -euo pipefail
 cd "$(dirname "$0")/.."
 PATH="$PATH:${CARGO_HOME:-$HOME/.cargo}/bin"
@@ -15,10 +15,12 @@ fi
 echo "Building the command zs over it."
 (cd cli && cargo build --offline --release --quiet --bin zs)
 
-# From here on the commands are those that a person would type beside a copy of samples/contacts.zs.
+# From here on the commands are those that a person would type beside a list of names and a copy of samples/contacts.zs.
 PATH="$PWD/cli/target/release:$PATH"
 cp samples/contacts.zs "$made"
 cd "$made"
+printf '%s\t%s\n' 'Ned Unreal' 201-555-0152 'Ada Blank' 412-555-0193 'Greta Mockley' 808-555-0136 'Pia Invented' 305-555-0120 \
+    'Bram Sample' 503-555-0132 'Greta Mockley' 201-555-0191 'Cleo Fiction' 617-555-0118 >names.txt
 
 # show STATUS SENTENCE COMMAND: says what is to be seen, runs the command, and holds it to its exit status.
 show() {
@@ -31,7 +33,22 @@ show() {
     fi
 }
 
-show 0 "The file is checked against every rule of the format: checksums, order, index, and the hash of its data." \
+show 0 "A list of names, in no order." \
+    "cat names.txt"
+show 1 "The records of an archive are in order. Those that aren't are shown, and no archive is made." \
+    "zs make '{\"about\": \"names and numbers\"}' names.txt names.zs"
+show 0 "Sorted, they make an archive. Blocks of two records give the index something to do." \
+    "zs make '{\"about\": \"names and numbers\"}' names.txt names.zs --sort --records-per-block 2"
+show 0 "The archive is valid .." \
+    "zs validate names.zs"
+show 0 ".. and every record is found." \
+    "zs dump names.zs --prefix 'Greta '"
+show 0 "The search has opened only what it had to." \
+    "zs explain names.zs --prefix 'Greta '"
+show 2 "A file that is there already is kept, unless --force is given." \
+    "zs make '{}' names.txt names.zs --sort"
+
+show 0 "A sample of 1500 contacts. The file is checked against every rule of the format: checksums, order, index, and the hash of its data." \
     "zs validate contacts.zs"
 show 0 "What its header says, and what the check counted." \
     "zs info contacts.zs"

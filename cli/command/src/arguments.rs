@@ -1,5 +1,6 @@
 //! What a person can ask for, and the help for it.
 
+use std::ffi::OsString;
 use std::path::PathBuf;
 
 use clap::builder::{OsStringValueParser, TypedValueParser};
@@ -7,13 +8,16 @@ use clap::{Args, Parser, Subcommand, ValueEnum};
 use zs_library::Query;
 
 use crate::escapes::{resolve, Bytes};
+use crate::records::Form;
+use crate::writing::{BLOCK_BYTES, ENTRIES_PER_BLOCK};
 
-const ABOUT: &str = "Checks, reads and searches ZS archives (version 0.10, codec none), by a library that is proved.";
+const ABOUT: &str = "Makes, checks, reads and searches ZS archives (version 0.10, codec none), by a library that is proved.";
 
 const STATUS: &str = "Exit status: 0 answered, 1 refused, 2 usage or input/output.
 A refusal has a number, a place (the first byte of the block meant, if one is) and a sentence.";
 
 const EXAMPLES: &str = "Examples:
+  zs make '{\"about\": \"contacts\"}' contacts.txt contacts.zs --sort
   zs validate contacts.zs
   zs dump contacts.zs --prefix 'Ada '
   zs info contacts.zs
@@ -21,6 +25,25 @@ const EXAMPLES: &str = "Examples:
 
 Exit status: 0 answered, 1 refused, 2 usage or input/output.
 'zs COMMAND --help' says more about each command.";
+
+const MAKE_EXAMPLES: &str = "METADATA is stored without white space around it. Nothing is added, so that the same input always
+makes the same archive.
+
+By default each line of INPUT is a record, without its line end. A last record that nothing follows
+is one, too. T takes the escapes \\t \\n \\r \\\\ and \\x00 to \\xff. Equal records are all kept. INPUT is
+read into memory.
+
+OUT appears once it is whole, and not at all after a refusal. A file that is there already is kept,
+unless --force is given.
+
+Examples:
+  zs make '{\"about\": \"names\"}' names.txt names.zs        lines that are sorted by their bytes
+  zs make '{}' names.txt names.zs --sort                 lines in any order
+  zs make '{}' names.txt names.zs --terminator '\\r\\n'    lines as Windows has them
+  zs make @about.json records out.zs --length-prefixed u64le
+  LC_ALL=C sort names.txt | zs make '{}' - names.zs
+  zs dump old.zs --length-prefixed uleb128 |
+    zs make \"$(zs info -m old.zs)\" - new.zs --length-prefixed uleb128 --records-per-block 50";
 
 const VALIDATE_EXAMPLES: &str = "Examples:
   zs validate contacts.zs
@@ -69,6 +92,9 @@ pub struct Arguments {
 
 #[derive(Subcommand)]
 pub enum Command {
+    /// Make an archive of records
+    #[command(after_help = format!("{MAKE_EXAMPLES}\n\n{STATUS}"))]
+    Make(Make),
     /// Check files against every rule of the format
     #[command(after_help = format!("{VALIDATE_EXAMPLES}\n\n{STATUS}"))]
     Validate(Validate),
@@ -84,6 +110,31 @@ pub enum Command {
 }
 
 #[derive(Args)]
+pub struct Make {
+    /// What the archive says of itself: JSON in braces, or @FILE
+    pub metadata: OsString,
+    /// The records, in rising order; - is standard input
+    pub input: PathBuf,
+    /// The archive to be made; - is standard output
+    #[arg(value_name = "OUT")]
+    pub output: PathBuf,
+    #[command(flatten)]
+    pub separation: Separation,
+    /// Take the records in any order, and sort them by their bytes
+    #[arg(long)]
+    pub sort: bool,
+    #[arg(long, value_name = "N", value_parser = parse_number, allow_hyphen_values = true,
+        help = format!("Records in a data block, 1 to 65535 [default: about {} KiB of them]", BLOCK_BYTES >> 10))]
+    pub records_per_block: Option<u64>,
+    /// Entries in an index block, 2 to 65535
+    #[arg(long, value_name = "N", value_parser = parse_number, allow_hyphen_values = true, default_value_t = ENTRIES_PER_BLOCK)]
+    pub entries_per_block: u64,
+    /// Replace a file that is there already, once the new one is whole
+    #[arg(long)]
+    pub force: bool,
+}
+
+#[derive(Args)]
 pub struct Validate {
     /// The files to check; - is standard input
     #[arg(value_name = "FILE", required = true)]
@@ -96,17 +147,8 @@ pub struct Dump {
     pub file: PathBuf,
     #[command(flatten)]
     pub selection: Selection,
-    /// What follows each record
-    #[arg(long, value_name = "T", default_value = "\\n", value_parser = bytes_parser(), allow_hyphen_values = true)]
-    pub terminator: Bytes,
-    /// Put each record's length before it instead
-    #[arg(
-        long,
-        value_name = "FORM",
-        conflicts_with = "terminator",
-        allow_hyphen_values = true
-    )]
-    pub length_prefixed: Option<Length>,
+    #[command(flatten)]
+    pub separation: Separation,
     /// Write to this file, which appears once it is whole; - is standard output
     #[arg(short, long, value_name = "OUT")]
     pub output: Option<PathBuf>,
@@ -140,6 +182,31 @@ pub struct Explain {
     pub selection: Selection,
     #[command(flatten)]
     pub trust: Trust,
+}
+
+/// How records are told apart, in an input or an output.
+#[derive(Args)]
+pub struct Separation {
+    /// What follows each record
+    #[arg(long, value_name = "T", default_value = "\\n", value_parser = bytes_parser(), allow_hyphen_values = true)]
+    terminator: Bytes,
+    /// Each record has its length before it instead
+    #[arg(
+        long,
+        value_name = "FORM",
+        conflicts_with = "terminator",
+        allow_hyphen_values = true
+    )]
+    length_prefixed: Option<Length>,
+}
+
+impl Separation {
+    pub fn form(&self) -> Form<'_> {
+        match self.length_prefixed {
+            Some(length) => Form::Prefixed(length),
+            None => Form::Terminated(&self.terminator.0),
+        }
+    }
 }
 
 /// Which records are asked for.

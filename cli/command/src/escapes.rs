@@ -5,6 +5,9 @@ use std::fmt;
 use std::os::unix::ffi::{OsStrExt, OsStringExt};
 use std::path::Path;
 
+/// Longer byte strings are cut for display.
+const LONGEST_QUOTE: usize = 40;
+
 /// Bytes as an argument gives them, its escapes resolved.
 #[derive(Clone, Debug, Default, PartialEq, Eq)]
 pub struct Bytes(pub Vec<u8>);
@@ -111,6 +114,14 @@ pub fn escape(bytes: &[u8]) -> String {
         }
     }
     text
+}
+
+/// Gives bytes in quotes, with escapes. What is long is cut, and two dots say so.
+pub fn quote(bytes: &[u8]) -> String {
+    match bytes.get(..LONGEST_QUOTE) {
+        Some(beginning) if bytes.len() > LONGEST_QUOTE => format!("\"{}\"..", escape(beginning)),
+        _ => format!("\"{}\"", escape(bytes)),
+    }
 }
 
 /// Gives a file's name on one line: printable characters as they are, every other byte as an escape. In a line that goes on after the

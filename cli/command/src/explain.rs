@@ -8,15 +8,12 @@ use zs_library::Query;
 use crate::answers::{search, Answer, Contents};
 use crate::archive::Archive;
 use crate::arguments::Explain;
-use crate::escapes::escape;
+use crate::escapes::quote;
 use crate::failure::Failure;
 use crate::layout::records;
 use crate::output::{self, format_count};
 use crate::progress;
 use crate::walk::{Bounds, Walk};
-
-/// Longer bounds are cut for display.
-const LONGEST_BOUND: usize = 40;
 
 pub fn run(asked: &Explain) -> Result<(), Failure> {
     let archive = Archive::open(&asked.file, &asked.trust)?;
@@ -95,19 +92,9 @@ fn describe_bounds(bounds: Option<Bounds>) -> String {
         Some(Bounds {
             lower,
             upper: Some(upper),
-        }) => format!("{} to {}", quote_bound(lower), quote_bound(upper)),
-        Some(Bounds { lower, upper: None }) => format!("{} and up", quote_bound(lower)),
+        }) => format!("{} to {}", quote(lower), quote(upper)),
+        Some(Bounds { lower, upper: None }) => format!("{} and up", quote(lower)),
         None => String::from("the root"),
-    }
-}
-
-fn quote_bound(bytes: &[u8]) -> String {
-    match bytes
-        .get(..LONGEST_BOUND)
-        .filter(|_| bytes.len() > LONGEST_BOUND)
-    {
-        Some(beginning) => format!("\"{}\"..", escape(beginning)),
-        None => format!("\"{}\"", escape(bytes)),
     }
 }
 

@@ -44,6 +44,18 @@ pub fn map(path: &Path) -> Result<Input, Failure> {
     load(path, 0)
 }
 
+/// Reads what needn't be an archive; nothing where it is longer than `longest`.
+pub fn read_any(path: &Path, longest: u64) -> Result<Option<Vec<u8>>, Failure> {
+    let name_fault = |error: io::Error| Failure::of_file(path, &error);
+    let (file, length) = open(path).map_err(name_fault)?;
+    if length.map_or(false, |length| length > longest) {
+        return Ok(None);
+    }
+    let mut bytes = Vec::new();
+    read_rest(&file, length, longest, &mut bytes).map_err(name_fault)?;
+    Ok((bytes.len() as u64 <= longest).then_some(bytes))
+}
+
 /// The path by which the system knows an input: `-` is standard input.
 pub fn system_path(path: &Path) -> &Path {
     if is_standard_input(path) {
@@ -53,7 +65,7 @@ pub fn system_path(path: &Path) -> &Path {
     }
 }
 
-fn is_standard_input(path: &Path) -> bool {
+pub fn is_standard_input(path: &Path) -> bool {
     path == Path::new("-")
 }
 
@@ -79,7 +91,7 @@ fn load(path: &Path, longest_read: u64) -> Result<Input, Failure> {
         let number = if is_long { 1 } else { number };
         return Err(Failure::Refused(Refusal::of_file(number, 0, &bytes)));
     }
-    read_rest(&file, length, &mut bytes).map_err(name_fault)?;
+    read_rest(&file, length, LONGEST as u64, &mut bytes).map_err(name_fault)?;
     Ok(Input::Read(bytes))
 }
 
@@ -114,15 +126,20 @@ pub fn begins_as_archive(path: &Path) -> bool {
     read.is_err() || refused_by_first_bytes(&first) != Some(3)
 }
 
-/// Reads what follows. One byte more than the longest file is enough to be refused.
-fn read_rest(file: &File, length: Option<u64>, bytes: &mut Vec<u8>) -> io::Result<()> {
-    let expected = usize::try_from(length.unwrap_or(0)).unwrap_or(LONGEST);
-    let room = bytes.try_reserve_exact(expected.min(LONGEST) + 1);
+/// Reads what follows. One byte more than the longest is enough to be refused.
+fn read_rest(
+    file: &File,
+    length: Option<u64>,
+    longest: u64,
+    bytes: &mut Vec<u8>,
+) -> io::Result<()> {
+    let expected = usize::try_from(length.unwrap_or(0).min(longest)).unwrap_or(usize::MAX);
+    let room = bytes.try_reserve_exact(expected.saturating_add(1));
     room.map_err(|_| {
         let words = "there isn't enough memory to read it";
         io::Error::new(io::ErrorKind::OutOfMemory, words)
     })?;
-    let most = LONGEST + 1 - bytes.len();
-    file.take(most as u64).read_to_end(bytes)?;
+    let most = longest.saturating_add(1) - bytes.len() as u64;
+    file.take(most).read_to_end(bytes)?;
     Ok(())
 }

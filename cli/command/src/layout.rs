@@ -95,7 +95,7 @@ pub fn take_entry<'a>(rest: &mut &'a [u8]) -> Option<Entry<'a>> {
 }
 
 /// Takes a uleb128 number of at most nine bytes.
-fn take_number(rest: &mut &[u8]) -> Option<u64> {
+pub fn take_number(rest: &mut &[u8]) -> Option<u64> {
     let last = rest.iter().take(9).position(|byte| *byte < 0x80)?;
     let digits = rest.get(..=last)?;
     *rest = rest.get(last + 1..)?;

@@ -1,12 +1,13 @@
-//! The command `zs`: checks, reads and searches ZS archives.
+//! The command `zs`: makes, checks, reads and searches ZS archives.
 //!
-//! Every verdict, every match and every opened block comes from the proved library. This crate reads the arguments and the files, and
+//! Every archive, every verdict, every match and every opened block comes from the proved library. This crate reads the arguments and the files, and
 //! prints the answers.
 //!
 //! * [`arguments`], [`escapes`] and [`usage`]: what a person asks for.
 //! * [`input`], [`cut_files`], [`archive`], [`answers`], [`refusals`]: bytes, checked or not, the library's answers with lists that
 //!   grow, and refusals in words.
-//! * [`validate`], [`dump`], [`info`], [`explain`]: one module for each command.
+//! * [`records`], [`encoding`], [`writing`]: records one after the other in an input, and the archive that the library makes of them.
+//! * [`make`], [`validate`], [`dump`], [`info`], [`explain`]: one module for each command.
 //! * [`output`], [`target`], [`temporary`], [`signals`], [`system`]: where answers are written, and how a file appears only when it is
 //!   whole.
 //! * [`terminal`], [`progress`], [`failure`]: text and progress on a terminal, and what went wrong.
@@ -19,6 +20,7 @@ mod arguments;
 #[allow(unsafe_code)]
 mod cut_files;
 mod dump;
+mod encoding;
 mod escapes;
 mod explain;
 mod failure;
@@ -27,8 +29,10 @@ mod info;
 mod input;
 mod json;
 mod layout;
+mod make;
 mod output;
 mod progress;
+mod records;
 mod refusals;
 #[allow(unsafe_code)]
 mod signals;
@@ -40,6 +44,7 @@ mod terminal;
 mod usage;
 mod validate;
 mod walk;
+mod writing;
 
 use std::process::ExitCode;
 
@@ -60,10 +65,14 @@ fn main() -> ExitCode {
 
 fn run(command: &Command) -> Status {
     let (file, outcome) = match command {
+        Command::Make(asked) => {
+            let outcome = make::run(asked);
+            (make::file_at_fault(asked, &outcome), outcome)
+        }
         Command::Validate(asked) => return report(STANDARD_OUTPUT, validate::run(asked)),
-        Command::Dump(asked) => (&asked.file, dump::run(asked)),
-        Command::Info(asked) => (&asked.file, info::run(asked)),
-        Command::Explain(asked) => (&asked.file, explain::run(asked)),
+        Command::Dump(asked) => (asked.file.as_path(), dump::run(asked)),
+        Command::Info(asked) => (asked.file.as_path(), info::run(asked)),
+        Command::Explain(asked) => (asked.file.as_path(), explain::run(asked)),
     };
     report(&escape_name(file), outcome.map(|()| Status::Answered))
 }

@@ -24,6 +24,8 @@ pub type Writing<'a> = dyn Fn(&mut dyn Write) -> io::Result<()> + 'a;
 pub struct Output {
     name: String,
     target: Target,
+    /// Whether a file that comes to have this name meanwhile is replaced.
+    replaces: bool,
 }
 
 impl Output {
@@ -34,19 +36,42 @@ impl Output {
             Some(path) => (escape_name(path), Target::find(path)),
         };
         match target {
-            Ok(target) => Ok(Output { name, target }),
+            Ok(target) => Ok(Output {
+                name,
+                target,
+                replaces: true,
+            }),
             Err(error) => Err(describe(&name, &error)),
         }
     }
 
     /// An archive isn't replaced by its own records, and nothing is added to it.
     pub fn refuse_archive(&self, archive: &Path) -> Result<(), Failure> {
-        if self.is_file(archive) {
-            let name = escape_name(archive);
-            let words = format!("{name}: the output is the archive itself; name another output");
+        self.refuse_input(archive, "archive")
+    }
+
+    /// What is read isn't written. `what` says what it is.
+    pub fn refuse_input(&self, input: &Path, what: &str) -> Result<(), Failure> {
+        if self.is_file(input) {
+            let name = escape_name(input);
+            let words = format!("{name}: the output is the {what} itself; name another output");
             return Err(Failure::Trouble(words));
         }
         Ok(())
+    }
+
+    /// From here on a file that has this name is kept, also one that comes to have it.
+    pub fn keep_existing(&mut self) -> Result<(), Failure> {
+        self.replaces = false;
+        match self.target {
+            Target::Plain(..) => Err(describe(&self.name, &ErrorKind::AlreadyExists.into())),
+            _ => Ok(()),
+        }
+    }
+
+    /// Whether this is a plain file, or will be one.
+    pub fn is_plain(&self) -> bool {
+        matches!(self.target, Target::Plain(..) | Target::New(_))
     }
 
     pub fn is_file(&self, path: &Path) -> bool {
@@ -60,8 +85,13 @@ impl Output {
                 .write(true)
                 .open(path)
                 .and_then(|file| write_through(&file, writing)),
-            Target::Plain(path, about) => replace(path, Some(about), writing),
-            Target::New(path) => replace(path, None, writing),
+            Target::Plain(path, about) => {
+                write_whole(path, Some(about), Temporary::rename, writing)
+            }
+            Target::New(path) if self.replaces => {
+                write_whole(path, None, Temporary::rename, writing)
+            }
+            Target::New(path) => write_whole(path, None, Temporary::take_free_name, writing),
         };
         outcome.map_err(|error| match error.kind() {
             ErrorKind::BrokenPipe => Failure::ReaderGone,
@@ -93,6 +123,9 @@ pub fn format_count(number: u64, one: &str, more: &str) -> String {
 fn describe(name: &str, error: &io::Error) -> Failure {
     let words = match error.raw_os_error() {
         Some(libc::EBADF) => "it isn't open for writing".into(),
+        _ if error.kind() == ErrorKind::AlreadyExists => {
+            "it is there already; --force replaces it".into()
+        }
         _ => in_words(error),
     };
     Failure::Trouble(format!("can't write {name}: {words}"))
@@ -113,15 +146,23 @@ fn write_buffered(file: &File, writing: &Writing) -> io::Result<()> {
     outcome
 }
 
-/// Writes under a temporary name beside the target, and renames once everything is there.
-fn replace(target: &Path, old: Option<&Metadata>, writing: &Writing) -> io::Result<()> {
+/// How a temporary file gets its name.
+type Naming = fn(Temporary, &Path) -> io::Result<()>;
+
+/// Writes under a temporary name beside the target, and gives the file its name once everything is there.
+fn write_whole(
+    target: &Path,
+    old: Option<&Metadata>,
+    naming: Naming,
+    writing: &Writing,
+) -> io::Result<()> {
     let folder = folder_of(target);
     let temporary = match old {
         Some(old) => create_like(old, folder)?,
         None => Temporary::create_in(folder, 0o666)?,
     };
     write_buffered(temporary.file(), writing)?;
-    temporary.rename(target)?;
+    naming(temporary, target)?;
     // The file is whole under this name or under the old one. Some folders can't be synced; that is no failure.
     let _ = File::open(folder).and_then(|folder| folder.sync_all());
     Ok(())

@@ -41,6 +41,23 @@ impl Refusal {
         }
     }
 
+    /// The refusal to make an archive.
+    pub fn of_making(number: u64, detail: Option<String>) -> Self {
+        let advice = match number {
+            9 => Some("give metadata in braces, such as '{}', or @FILE for that of a file"),
+            28 => Some("give one record or more; with --length-prefixed each after its length, in the form named"),
+            29 => Some("give --sort, or sort the input by its bytes, as LC_ALL=C sort does"),
+            31 => Some("put the records into several archives"),
+            _ => None,
+        };
+        let refusal = Refusal::of_file(number, 0, &[]);
+        Refusal {
+            detail,
+            advice: advice.or(refusal.advice),
+            ..refusal
+        }
+    }
+
     /// Number, place if there is one, sentence and detail.
     pub fn describe(&self) -> String {
         // No block begins at 0.

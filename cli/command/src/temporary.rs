@@ -3,7 +3,7 @@
 use std::collections::hash_map::RandomState;
 use std::fs::{self, File, OpenOptions};
 use std::hash::{BuildHasher, Hasher};
-use std::io;
+use std::io::{self, ErrorKind};
 use std::os::unix::fs::OpenOptionsExt;
 use std::path::{Path, PathBuf};
 
@@ -40,6 +40,17 @@ impl Temporary {
         fs::rename(&self.path, target)?;
         forget_unfinished();
         Ok(())
+    }
+
+    /// Gives the file its name, if nothing has that name. Its contents are on the disk before.
+    pub fn take_free_name(self, target: &Path) -> io::Result<()> {
+        self.file.sync_all()?;
+        match fs::hard_link(&self.path, target) {
+            // Some file systems have no hard links.
+            Err(error) if error.kind() != ErrorKind::AlreadyExists => self.rename(target),
+            // The temporary name is removed with this value.
+            linked => linked,
+        }
     }
 }
 

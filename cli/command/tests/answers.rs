@@ -236,6 +236,7 @@ fn explain_counts_blocks_opened_in_vain() {
 fn every_command_has_examples_in_its_help() {
     for words in [
         &["--help"][..],
+        &["make", "--help"],
         &["validate", "--help"],
         &["dump", "--help"],
         &["info", "--help"],

@@ -4,26 +4,11 @@ use std::fs::{self, File};
 use std::io::{Read, Write};
 use std::process::{Command, Stdio};
 
-use crate::support::{shell, zs, Folder, Run, SMALL, ZS};
+use crate::support::{shell, zs, zs_with_input, Folder, Run, SMALL, ZS};
 use zs_reference::maker::Tree;
 
 /// Runs that are tried until an archive is cut before the output is whole.
 const RUNS: usize = 100;
-
-/// Runs the command with these bytes on its standard input, through a pipe.
-fn zs_with_input(arguments: &[&str], input: &[u8]) -> Run {
-    let mut child = Command::new(ZS)
-        .args(arguments)
-        .stdin(Stdio::piped())
-        .stdout(Stdio::piped())
-        .stderr(Stdio::piped())
-        .spawn()
-        .expect("the command runs");
-    let mut pipe = child.stdin.take().expect("a pipe");
-    pipe.write_all(input).expect("the command reads");
-    drop(pipe);
-    Run::of(child.wait_with_output().expect("the command ends"))
-}
 
 #[test]
 fn a_dash_is_standard_input() {

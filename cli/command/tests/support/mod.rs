@@ -2,6 +2,7 @@
 
 use std::ffi::OsStr;
 use std::fs;
+use std::io::Write;
 use std::path::{Path, PathBuf};
 use std::process::{Command, Output, Stdio};
 use std::sync::atomic::{AtomicUsize, Ordering};
@@ -36,6 +37,20 @@ pub fn zs<S: AsRef<OsStr>>(arguments: &[S]) -> Run {
     let mut command = Command::new(ZS);
     command.args(arguments).stdin(Stdio::null());
     Run::of(command.output().expect("the command runs"))
+}
+
+/// Runs the command with these bytes on its standard input, through a pipe.
+pub fn zs_with_input<S: AsRef<OsStr>>(arguments: &[S], input: &[u8]) -> Run {
+    let mut child = Command::new(ZS)
+        .args(arguments)
+        .stdin(Stdio::piped())
+        .stdout(Stdio::piped())
+        .stderr(Stdio::piped())
+        .spawn()
+        .expect("the command runs");
+    // A refusal may come before the input is read.
+    let _ = child.stdin.take().expect("a pipe").write_all(input);
+    Run::of(child.wait_with_output().expect("the command ends"))
 }
 
 /// Runs a line of the shell; `$ZS` is the command.

@@ -1,0 +1,101 @@
+//! The records of an input, in the form that the library takes.
+
+use crate::arguments::Length;
+use crate::escapes::quote;
+use crate::failure::Failure;
+use crate::records::{Flaw, Form};
+
+/// The form in which the library takes records.
+const LIBRARY_FORM: Form = Form::Prefixed(Length::Uleb128);
+/// The beginning of a length. At the end of records it stands for one that can't be made out, and the library refuses it likewise.
+const CUT_OFF: u8 = 0x80;
+
+/// Records, each after its length.
+pub struct Encoded {
+    pub bytes: Vec<u8>,
+    /// How many records there are.
+    pub number: u64,
+    /// What is wrong with the record after them, if anything is.
+    pub flaw: Option<Flaw>,
+    /// What a person calls a record of the input.
+    noun: &'static str,
+}
+
+impl Encoded {
+    /// Takes the records of an input, in their order or sorted.
+    pub fn new(input: Vec<u8>, form: Form, sort: bool) -> Result<Self, Failure> {
+        let (mut number, mut flaw) = (0, None);
+        for record in form.split(&input) {
+            match record {
+                Ok(_) => number += 1,
+                Err(found) => flaw = Some(found),
+            }
+        }
+        let mut encoded = Encoded {
+            bytes: Vec::new(),
+            number: number as u64,
+            flaw,
+            noun: form.noun(),
+        };
+        match sort {
+            false if form == LIBRARY_FORM => encoded.bytes = input,
+            false => encoded.put(form.split(&input).flatten(), input.len())?,
+            true => {
+                let sorted = sort_records(&input, form, number)?;
+                encoded.put(sorted.into_iter(), input.len())?;
+            }
+        }
+        Ok(encoded)
+    }
+
+    /// Puts the records of an input of this length.
+    fn put<'a>(
+        &mut self,
+        mut records: impl Iterator<Item = &'a [u8]>,
+        length: usize,
+    ) -> Result<(), Failure> {
+        // In the input a byte or more stands beside each record but the last. Its length takes more than one only from 128 bytes on.
+        let most = length + length / 128 + 16;
+        let bytes = &mut self.bytes;
+        bytes.try_reserve_exact(most).map_err(lack_memory)?;
+        let outcome = records.try_for_each(|record| LIBRARY_FORM.write(record, bytes));
+        outcome.map_err(lack_memory)?;
+        if self.flaw.is_some() {
+            self.bytes.push(CUT_OFF);
+        }
+        Ok(())
+    }
+
+    pub fn records(&self) -> impl Iterator<Item = &[u8]> {
+        LIBRARY_FORM.split(&self.bytes).flatten()
+    }
+
+    /// Says which record is less than the one before it, if any is.
+    pub fn describe_fall(&self) -> Option<String> {
+        let mut pairs = (1..).zip(self.records().zip(self.records().skip(1)));
+        let (at, (before, record)) = pairs.find(|(_, (before, record))| record < before)?;
+        let (noun, next) = (self.noun, at + 1);
+        let (before, record) = (quote(before), quote(record));
+        Some(format!(
+            "{noun} {next}, {record}, is less than {noun} {at}, {before}"
+        ))
+    }
+}
+
+/// Sorts as unsigned bytes. Equal records are the same bytes, so that nothing depends on which of them comes first.
+fn sort_records<'a>(
+    input: &'a [u8],
+    form: Form<'a>,
+    number: usize,
+) -> Result<Vec<&'a [u8]>, Failure> {
+    let mut records = Vec::new();
+    records.try_reserve_exact(number).map_err(lack_memory)?;
+    records.extend(form.split(input).flatten());
+    records.sort_unstable();
+    Ok(records)
+}
+
+/// What is said where there is too little memory.
+pub fn lack_memory<E>(_: E) -> Failure {
+    Failure::Trouble("there isn't enough memory to make the archive".into())
+}

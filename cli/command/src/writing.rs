@@ -1,0 +1,149 @@
+//! Archives that the library makes: how many records go into a block, an output that is long enough, and what is wrong with an input.
+
+use zs_library::Counts;
+
+use crate::encoding::{lack_memory, Encoded};
+use crate::escapes::quote;
+use crate::failure::Failure;
+use crate::input::LONGEST;
+use crate::refusals::Refusal;
+
+/// About so many bytes of records make a data block, where nobody says how many records.
+pub const BLOCK_BYTES: u64 = 4096;
+/// Entries of an index block, where nobody says how many.
+pub const ENTRIES_PER_BLOCK: u64 = 128;
+/// The index repeats the first record of each data block, which would cost much if blocks had fewer records.
+pub const FEWEST_PER_BLOCK: u64 = 16;
+/// The library takes no greater count.
+const MOST_PER_BLOCK: u64 = 65_535;
+
+/// The bytes of a header without its metadata.
+const HEADER: usize = 104;
+/// What a block takes beside its payload and its entry beside the key, at most: a level, a checksum, and four numbers, each of five bytes
+/// or less in a file that isn't too long.
+const BESIDE: usize = 1 + 8 + 4 * 5;
+
+/// What an archive is to be made of.
+pub struct Draft<'a> {
+    pub metadata: &'a [u8],
+    pub records: &'a Encoded,
+    pub counts: Counts,
+}
+
+/// An archive, and how many blocks it has.
+pub struct Made {
+    pub file: Vec<u8>,
+    pub blocks: u64,
+}
+
+/// How many records go into a data block, where nobody says it.
+pub fn usual_count(records: &Encoded) -> u64 {
+    let length = records.bytes.len().max(1) as u64;
+    let count = records.number * BLOCK_BYTES / length;
+    count.clamp(FEWEST_PER_BLOCK, MOST_PER_BLOCK)
+}
+
+/// Refuses counts and metadata that no archive can have, whatever its records: the library looks at them first.
+pub fn refuse_early(metadata: &[u8], counts: Counts) -> Result<(), Failure> {
+    let number = zs_library::write(metadata, &[], counts, &mut []).number;
+    let detail = match number {
+        9 => describe_ends(metadata),
+        30 => describe_counts(counts),
+        _ => return Ok(()),
+    };
+    Err(Failure::Refused(Refusal::of_making(number, Some(detail))))
+}
+
+impl Draft<'_> {
+    pub fn make(&self) -> Result<Made, Failure> {
+        refuse_early(self.metadata, self.counts)?;
+        let Size { blocks, longest } = self.measure();
+        let mut file = Vec::new();
+        let room = longest.min(LONGEST);
+        file.try_reserve_exact(room).map_err(lack_memory)?;
+        file.resize(room, 0);
+        let records = self.records.bytes.as_slice();
+        let written = zs_library::write(self.metadata, records, self.counts, &mut file);
+        if written.number != 0 {
+            let detail = self.find_detail(written.number);
+            let refusal = Refusal::of_making(written.number, detail);
+            return Err(Failure::Refused(refusal));
+        }
+        file.truncate(written.length as usize);
+        Ok(Made { file, blocks })
+    }
+
+    /// Goes up level by level until a block stands alone, with counts that are in range.
+    fn measure(&self) -> Size {
+        let Counts {
+            per_block,
+            per_index,
+        } = self.counts;
+        let mut size = Size {
+            blocks: 0,
+            longest: HEADER + self.metadata.len() + self.records.bytes.len(),
+        };
+        let mut apart = per_block as usize;
+        size.add_level(self.records.records().step_by(apart));
+        loop {
+            apart = apart.saturating_mul(per_index as usize);
+            if size.add_level(self.records.records().step_by(apart)) <= 1 {
+                return size;
+            }
+        }
+    }
+
+    /// What is wrong with the input, for display. That something is wrong is the library's verdict.
+    fn find_detail(&self, number: u64) -> Option<String> {
+        let length = self.records.bytes.len();
+        match number {
+            28 => match &self.records.flaw {
+                Some(flaw) => Some(flaw.to_string()),
+                None => Some("there are none: the input is empty".into()),
+            },
+            29 => self.records.describe_fall(),
+            31 => Some(format!("the records alone take {length} bytes")),
+            _ => None,
+        }
+    }
+}
+
+fn describe_counts(counts: Counts) -> String {
+    let Counts {
+        per_block,
+        per_index,
+    } = counts;
+    match per_block {
+        1..=MOST_PER_BLOCK => format!("--entries-per-block is {per_index}"),
+        _ => format!("--records-per-block is {per_block}"),
+    }
+}
+
+/// Says how metadata begin and end.
+fn describe_ends(metadata: &[u8]) -> String {
+    match (metadata.first(), metadata.last()) {
+        (Some(first), Some(last)) => {
+            let (first, last) = (quote(&[*first]), quote(&[*last]));
+            format!("it begins with {first} and ends with {last}")
+        }
+        _ => "it is empty".into(),
+    }
+}
+
+/// How many blocks a file has, and a length that it doesn't exceed.
+struct Size {
+    blocks: u64,
+    longest: usize,
+}
+
+impl Size {
+    /// Adds the blocks of a level, given the first record that each leads to, and says how many they are.
+    fn add_level<'a>(&mut self, firsts: impl Iterator<Item = &'a [u8]>) -> u64 {
+        let before = self.blocks;
+        for first in firsts {
+            self.blocks += 1;
+            self.longest += first.len() + BESIDE;
+        }
+        self.blocks - before
+    }
+}

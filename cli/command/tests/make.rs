@@ -1,0 +1,311 @@
+//! `zs make`: the archive holds the records of the input, in order, each as often as given.
+
+use std::ffi::OsStr;
+use std::fs;
+use std::os::unix::ffi::OsStrExt;
+
+use crate::support::{shell, zs, zs_with_input, Folder, CONTACTS, SMALL};
+use zs_reference::maker::random::Random;
+use zs_reference::reader::{self, Query};
+
+const LINES: &[&str] = &[];
+const ULEB128: &[&str] = &["--length-prefixed", "uleb128"];
+const U64LE: &[&str] = &["--length-prefixed", "u64le"];
+
+/// Makes an archive of an input. Command and independent reader accept it and count what the command says is in it.
+fn make(folder: &Folder, input: &[u8], words: &[&str]) -> Vec<u8> {
+    let name = folder.name("made.zs");
+    let fixed = ["make", "{}", "-", &name, "--force"];
+    let run = zs_with_input(&[&fixed, words].concat(), input);
+    assert_eq!((run.status, run.err.as_str()), (0, ""), "{words:?}");
+    let file = fs::read(&name).expect("the archive");
+    let checked = reader::check(&file, file.len());
+    assert_eq!(checked.number, 0, "{words:?}");
+    let ending = |number: u64| if number == 1 { "" } else { "s" };
+    let (records, blocks) = (checked.records, checked.blocks);
+    let counts = format!("{records} record{} in {blocks} blocks", ending(records));
+    let due = format!("{name}: made, {counts}, {} bytes\n", file.len());
+    assert_eq!(run.text(), due);
+    let verdict = zs(&["validate", &name]);
+    assert_eq!(verdict.text(), format!("{name}: valid, {counts}\n"));
+    file
+}
+
+/// Dumps the archive that was made.
+fn dump(folder: &Folder, words: &[&str]) -> Vec<u8> {
+    zs(&[&["dump", &folder.name("made.zs")], words].concat()).out
+}
+
+/// The records of an archive, by the independent reader.
+fn records_of(file: &[u8]) -> Vec<Vec<u8>> {
+    let answer = reader::read(file, &Query::default(), 2 * file.len());
+    assert_eq!(answer.number, 0);
+    let pairs = answer.results.chunks(2).take(answer.matches as usize);
+    pairs
+        .map(|pair| file[pair[0] as usize..(pair[0] + pair[1]) as usize].to_vec())
+        .collect()
+}
+
+fn terminated(records: &[Vec<u8>], terminator: &[u8]) -> Vec<u8> {
+    let records = records.iter();
+    records
+        .flat_map(|record| [record, terminator].concat())
+        .collect()
+}
+
+fn u64le(records: &[Vec<u8>]) -> Vec<u8> {
+    let records = records.iter();
+    records
+        .flat_map(|record| [&(record.len() as u64).to_le_bytes(), record.as_slice()].concat())
+        .collect()
+}
+
+/// Records of every kind: empty ones, equal ones, bytes FF, and lengths where a number takes a byte more.
+fn all_kinds() -> Vec<Vec<u8>> {
+    let mut records: Vec<Vec<u8>> = [0, 1, 126, 127, 128, 129, 16_383, 16_384]
+        .map(|length| vec![b'a'; length])
+        .into();
+    let odd: [&[u8]; 8] = [
+        b"",
+        b"",
+        b"\x00",
+        b"\x00\n",
+        b"\x7f",
+        b"\x80",
+        b"\xff",
+        b"\xff\xff",
+    ];
+    records.extend(odd.map(Vec::from));
+    records.extend(records.clone());
+    records.sort();
+    records
+}
+
+#[test]
+fn length_prefixed_records_of_every_kind() {
+    let folder = Folder::new();
+    let records = all_kinds();
+    let file = make(&folder, &u64le(&records), U64LE);
+    assert!(records_of(&file) == records);
+    // What is dumped makes the same archive, in either form.
+    for form in [U64LE, ULEB128] {
+        let dumped = dump(&folder, form);
+        assert!(make(&folder, &dumped, form) == file);
+    }
+}
+
+#[test]
+fn terminated_records() {
+    let folder = Folder::new();
+    let records: Vec<Vec<u8>> = all_kinds()
+        .into_iter()
+        .map(|mut record| {
+            record.retain(|byte| *byte != b'\n');
+            record
+        })
+        .collect();
+    for (shown, terminator) in [
+        ("\\n", &b"\n"[..]),
+        ("\\r\\n", b"\r\n"),
+        ("\\n\\n", b"\n\n"),
+        ("-\\xfe-", b"-\xfe-"),
+    ] {
+        let words = ["--terminator", shown];
+        let input = terminated(&records, terminator);
+        let file = make(&folder, &input, &words);
+        assert!(records_of(&file) == records, "{shown}");
+        assert!(dump(&folder, &words) == input, "{shown}");
+    }
+}
+
+#[test]
+fn a_last_record_without_terminator_is_a_record() {
+    let folder = Folder::new();
+    let words = ["--terminator", "\\r\\n"];
+    for (input, way, due) in [
+        (&b"a\nb"[..], LINES, &[&b"a"[..], b"b"][..]),
+        (b"a\nb\n", LINES, &[b"a", b"b"]),
+        (b"a", LINES, &[b"a"]),
+        (b"\n", LINES, &[b""]),
+        (b"\n\na\n", LINES, &[b"", b"", b"a"]),
+        (b"a\r\nb\r", &words, &[b"a", b"b\r"]),
+        (b"a\n", &words, &[b"a\n"]),
+        (b"\r\n\r\r\n", &words, &[b"", b"\r"]),
+    ] {
+        assert_eq!(records_of(&make(&folder, input, way)), due, "{input:?}");
+    }
+}
+
+#[test]
+fn samples_are_made_again() {
+    let folder = Folder::new();
+    for sample in [CONTACTS, SMALL] {
+        let records = records_of(&fs::read(sample).expect("the sample"));
+        for form in [LINES, ULEB128, U64LE] {
+            let dumped = zs(&[&["dump", sample], form].concat()).out;
+            assert!(records_of(&make(&folder, &dumped, form)) == records);
+            let hash = |file: &str| -> String {
+                let text = zs(&["info", file]).text();
+                let mut lines = text.lines().filter(|line| line.contains("sha256"));
+                lines.next().expect("a hash").to_string()
+            };
+            assert_eq!(hash(&folder.name("made.zs")), hash(sample));
+        }
+    }
+}
+
+#[test]
+fn drawn_records_and_counts() {
+    let folder = Folder::new();
+    let mut random = Random::new(12);
+    for _ in 0..15 {
+        let number = 1 + random.below(60);
+        let drawn: Vec<Vec<u8>> = (0..number).map(|_| random.string(4)).collect();
+        let mut sorted = drawn.clone();
+        sorted.sort();
+        let per_block = random.pick(&["1", "2", "3", "7", "65535"]);
+        let per_index = random.pick(&["2", "3", "10", "65535"]);
+        let counts = [
+            "--records-per-block",
+            per_block,
+            "--entries-per-block",
+            per_index,
+        ];
+        for (records, order) in [(&sorted, &[][..]), (&drawn, &["--sort"])] {
+            let lines = make(
+                &folder,
+                &terminated(records, b"\n"),
+                &[&counts, order].concat(),
+            );
+            assert!(records_of(&lines) == sorted);
+            let others = [&counts, order, U64LE].concat();
+            assert!(make(&folder, &u64le(records), &others) == lines);
+            let dumped = dump(&folder, ULEB128);
+            assert!(make(&folder, &dumped, &[&counts, ULEB128].concat()) == lines);
+        }
+    }
+}
+
+#[test]
+fn records_are_sorted_as_unsigned_bytes() {
+    let folder = Folder::new();
+    let input = b"b\n\xff\na\nB\n\nab\n\x80\na\n\x7f\na";
+    let due: [&[u8]; 10] = [
+        b"", b"B", b"a", b"a", b"a", b"ab", b"b", b"\x7f", b"\x80", b"\xff",
+    ];
+    assert_eq!(records_of(&make(&folder, input, &["--sort"])), due);
+    let unsorted = [&b"\x01b\x00\x02ab\x01a"[..], b"\x00"].concat();
+    let file = make(&folder, &unsorted, &[&["--sort"], ULEB128].concat());
+    let due: [&[u8]; 5] = [b"", b"", b"a", b"ab", b"b"];
+    assert_eq!(records_of(&file), due);
+}
+
+#[test]
+fn a_hundred_thousand_records() {
+    let folder = Folder::new();
+    let input: String = (0..100_000)
+        .map(|number| format!("{number:06}\n"))
+        .collect();
+    for words in [
+        &[][..],
+        &["--records-per-block", "1", "--entries-per-block", "2"],
+    ] {
+        let file = make(&folder, input.as_bytes(), words);
+        let records = records_of(&file);
+        assert_eq!(records.len(), 100_000);
+        assert!(terminated(&records, b"\n") == input.as_bytes());
+        let name = folder.name("made.zs");
+        let found = zs(&["dump", &name, "--prefix", "04217"]).text();
+        assert_eq!(found.lines().count(), 10);
+        assert_eq!(zs(&["dump", &name, "--count"]).text(), "100000\n");
+    }
+}
+
+#[test]
+fn usual_blocks_have_some_kilobytes() {
+    let folder = Folder::new();
+    let line = |number: usize| format!("Ada Blank {number:05}\t201-555-0123\n");
+    let input: String = (0..20_000).map(line).collect();
+    let file = make(&folder, input.as_bytes(), LINES);
+    let blocks = reader::check(&file, file.len()).blocks as usize;
+    assert!(
+        (2 << 10..8 << 10).contains(&(file.len() / blocks)),
+        "{blocks}"
+    );
+    // The index repeats records. It stays short where they are long.
+    let note = |number: usize| format!("{number:03}{}\n", "x".repeat(20_000));
+    let input: String = (0..200).map(note).collect();
+    let file = make(&folder, input.as_bytes(), LINES);
+    assert!(
+        file.len() < input.len() + input.len() / 10,
+        "{}",
+        file.len()
+    );
+}
+
+#[test]
+fn long_records_fit_however_often_the_index_repeats_them() {
+    let folder = Folder::new();
+    let note = |number: usize| format!("{number:03}{}\n", "x".repeat(5000));
+    let input: String = (0..200).map(note).collect();
+    for (per_block, per_index) in [("1", "2"), ("1", "3"), ("3", "2"), ("1", "65535")] {
+        let words = [
+            "--records-per-block",
+            per_block,
+            "--entries-per-block",
+            per_index,
+        ];
+        let file = make(&folder, input.as_bytes(), &words);
+        assert!(terminated(&records_of(&file), b"\n") == input.as_bytes());
+    }
+}
+
+#[test]
+fn inputs_are_files_or_standard_input() {
+    let folder = Folder::new();
+    folder.write("names", b"a\nb\n");
+    let due = make(&folder, b"a\nb\n", LINES);
+    for line in [
+        "$ZS make '{}' names out",
+        "$ZS make '{}' - out <names",
+        "cat names | $ZS make '{}' /dev/stdin out",
+        "mkfifo pipe; cat names >pipe & $ZS make '{}' pipe out",
+        "(read line; $ZS make '{}' - out) <names",
+    ] {
+        let run = shell(line, &folder);
+        assert_eq!((run.status, run.err.as_str()), (0, ""), "{line}");
+        let file = fs::read(folder.name("out")).expect("the archive");
+        match line.contains("read") {
+            true => assert_eq!(records_of(&file), [b"b"]),
+            false => assert!(file == due, "{line}"),
+        }
+        fs::remove_file(folder.name("out")).expect("the archive");
+    }
+}
+
+#[test]
+fn metadata_is_stored_as_it_is_given() {
+    let folder = Folder::new();
+    let about = "{\"about\": \"n\u{e9}\",\n \"-\": \"@\"}";
+    folder.write("about", format!("\r\n{about} \t\n\n").as_bytes());
+    let run = shell("printf 'a\\n' >names; $ZS make @about names text", &folder);
+    assert_eq!(run.status, 0, "{}", run.err);
+    let run = shell("$ZS make @- names piped <about", &folder);
+    assert_eq!(run.status, 0, "{}", run.err);
+    let given = format!(" {about}\n");
+    let (names, out) = (folder.name("names"), folder.name("given"));
+    assert_eq!(zs(&["make", &given, &names, &out]).status, 0);
+    for file in ["text", "piped", "given"] {
+        let stored = zs(&["info", "-m", &folder.name(file)]).text();
+        assert_eq!(stored, format!("{about}\n"));
+    }
+    let (latin, out) = (OsStr::from_bytes(b"{\xe9}"), folder.name("latin"));
+    let words = [
+        OsStr::new("make"),
+        latin,
+        OsStr::new(&names),
+        OsStr::new(&out),
+    ];
+    assert_eq!(zs(&words).status, 0);
+    assert_eq!(zs(&["info", "-m", &out]).out, b"{\xe9}\n");
+}

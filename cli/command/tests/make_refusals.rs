@@ -1,0 +1,286 @@
+//! Refusals of `zs make`: which record is at fault and why, in the library's order, and nothing is left.
+
+use std::fs::{self, File};
+
+use crate::support::{shell, zs, zs_with_input, Folder, Run};
+
+const ULEB128: &[&str] = &["--length-prefixed", "uleb128"];
+const U64LE: &[&str] = &["--length-prefixed", "u64le"];
+const NONE: &[&str] = &[];
+
+/// Makes an archive of an input, in which something is wrong. Nothing is left, and a file that was to be replaced is kept.
+fn make(metadata: &str, input: &[u8], words: &[&str]) -> Run {
+    let folder = Folder::new();
+    let out = folder.name("out");
+    let make = [&["make", metadata, "-", &out], words].concat();
+    let run = zs_with_input(&make, input);
+    assert_eq!(folder.files(), Vec::<String>::new());
+    folder.write("out", b"kept");
+    let again = zs_with_input(&[&make, &["--force"][..]].concat(), input);
+    assert_eq!((again.status, &again.err), (run.status, &run.err));
+    assert_eq!(folder.files(), ["out"]);
+    assert_eq!(fs::read(&out).expect("the old file"), b"kept");
+    assert_eq!(run.out.len(), 0);
+    Run {
+        err: run.err.replace(&out, "OUT"),
+        ..run
+    }
+}
+
+/// Holds an input to its refusal: number, what is said in brackets, and what to do. `file` is the one that is named.
+fn refuse(metadata: &str, input: &[u8], words: &[&str], file: &str, number: u64, detail: &str) {
+    let run = make(metadata, input, words);
+    let (first, second) = run.err.split_once('\n').expect("two lines");
+    assert_eq!(run.status, 1, "{first}");
+    assert!(
+        first.starts_with(&format!("zs: {file}: refused {number}: "))
+            && first.ends_with(&format!(" ({detail})")),
+        "{first}"
+    );
+    assert!(second.starts_with("zs: what to do: "), "{second}");
+    assert_eq!(second.lines().count(), 1, "{second}");
+}
+
+#[test]
+fn records_out_of_order_are_shown() {
+    for (input, words, detail) in [
+        (
+            &b"Ada\nCleo\nBea\nAda\n"[..],
+            NONE,
+            r#"line 3, "Bea", is less than line 2, "Cleo""#,
+        ),
+        (b"a\n\n", NONE, r#"line 2, "", is less than line 1, "a""#),
+        (
+            b"\xff\ta\n\x7f\"",
+            NONE,
+            r#"line 2, "\x7f\x22", is less than line 1, "\xff\ta""#,
+        ),
+        (
+            b"a\0b\0ab\0",
+            &["--terminator", "\\x00"],
+            r#"record 3, "ab", is less than record 2, "b""#,
+        ),
+        (
+            b"\x01b\x00",
+            ULEB128,
+            r#"record 2, "", is less than record 1, "b""#,
+        ),
+        (
+            b"\x01\0\0\0\0\0\0\0b\x01\0\0\0\0\0\0\0a",
+            U64LE,
+            r#"record 2, "a", is less than record 1, "b""#,
+        ),
+    ] {
+        refuse("{}", input, words, "-", 29, detail);
+    }
+    let (long, cut) = ("a".repeat(1000), "a".repeat(40));
+    let detail = format!(r#"line 2, "{cut}".., is less than line 1, "b""#);
+    refuse(
+        "{}",
+        format!("b\n{long}\n").as_bytes(),
+        NONE,
+        "-",
+        29,
+        &detail,
+    );
+    let run = make("{}", b"b\na\n", NONE);
+    assert!(
+        run.err.contains("zs: what to do: give --sort, or "),
+        "{}",
+        run.err
+    );
+}
+
+#[test]
+fn an_input_without_records() {
+    let detail = "there are none: the input is empty";
+    for words in [NONE, &["--terminator", "x"], &["--sort"], ULEB128, U64LE] {
+        refuse("{}", b"", words, "-", 28, detail);
+    }
+}
+
+#[test]
+fn lengths_that_cannot_be_made_out() {
+    let wide = [b"\x00", &[0xff; 9][..], b"\x01"].concat();
+    for (input, words, detail) in [
+        (
+            &b"\x01a\x02b"[..],
+            ULEB128,
+            "record 2, after 2 bytes: its length is 2, with 1 byte left",
+        ),
+        (
+            b"\x80",
+            ULEB128,
+            "record 1, after 0 bytes: its length is cut off by the end of the input",
+        ),
+        (
+            b"\x00\xff\xff",
+            ULEB128,
+            "record 2, after 1 byte: its length is cut off by the end of the input",
+        ),
+        (
+            &wide,
+            ULEB128,
+            "record 2, after 1 byte: its length takes more than nine bytes",
+        ),
+        (
+            b"\x01a\x81\x00b",
+            ULEB128,
+            "record 2, after 2 bytes: its length isn't written in its shortest form",
+        ),
+        (
+            b"\0\0\0\0\0\0\0\0\x01\0\0\0\0\0\0",
+            U64LE,
+            "record 2, after 8 bytes: its length is cut off by the end of the input",
+        ),
+        (
+            b"\x03\0\0\0\0\0\0\0ab",
+            U64LE,
+            "record 1, after 0 bytes: its length is 3, with 2 bytes left",
+        ),
+        (
+            b"\xff\xff\xff\xff\xff\xff\xff\xffab",
+            U64LE,
+            "record 1, after 0 bytes: its length is 18446744073709551615, with 2 bytes left",
+        ),
+    ] {
+        refuse("{}", input, words, "-", 28, detail);
+        refuse("{}", input, &[words, &["--sort"]].concat(), "-", 28, detail);
+    }
+}
+
+#[test]
+fn metadata_without_braces() {
+    for (metadata, detail) in [
+        ("", "it is empty"),
+        (" \n", "it is empty"),
+        ("{", r#"it begins with "{" and ends with "{""#),
+        ("about.json", r#"it begins with "a" and ends with "n""#),
+        ("-", r#"it begins with "-" and ends with "-""#),
+        ("{}\u{feff}", r#"it begins with "{" and ends with "\xbf""#),
+        ("@/dev/null", "it is empty"),
+    ] {
+        refuse(metadata, b"a\n", NONE, "OUT", 9, detail);
+    }
+}
+
+#[test]
+fn counts_out_of_range() {
+    for count in ["0", "65536", "18446744073709551615"] {
+        let words = ["--records-per-block", count];
+        let detail = format!("--records-per-block is {count}");
+        refuse("{}", b"a\n", &words, "OUT", 30, &detail);
+    }
+    for count in ["0", "1", "65536", "18446744073709551615"] {
+        let words = ["--entries-per-block", count];
+        let detail = format!("--entries-per-block is {count}");
+        refuse("{}", b"a\n", &words, "OUT", 30, &detail);
+    }
+}
+
+#[test]
+fn of_several_faults_the_first_in_order_is_told() {
+    let no_entries = ["--entries-per-block", "1"];
+    let entries = "--entries-per-block is 1";
+    refuse("x", b"", &no_entries, "OUT", 30, entries);
+    refuse(
+        "x",
+        b"",
+        NONE,
+        "OUT",
+        9,
+        r#"it begins with "x" and ends with "x""#,
+    );
+    let cut = "record 3, after 3 bytes: its length is 1, with 0 bytes left";
+    refuse("{}", b"\x01b\x00\x01", ULEB128, "-", 28, cut);
+}
+
+#[test]
+fn counts_and_metadata_are_refused_before_the_input_is_read() {
+    let folder = Folder::new();
+    for words in ["x missing out", "'{}' missing out --records-per-block 0"] {
+        let run = shell(&format!("$ZS make {words}"), &folder);
+        assert_eq!(run.status, 1, "{}", run.err);
+    }
+}
+
+#[test]
+fn an_input_longer_than_every_archive() {
+    let folder = Folder::new();
+    let file = File::create(folder.name("long")).expect("a temporary file");
+    file.set_len((1 << 30) + 1).expect("room for a sparse file");
+    for (words, what) in [
+        ("'{}' long out", "input"),
+        ("@long /dev/null out", "metadata"),
+    ] {
+        // Far less memory than the file is long.
+        let run = shell(&format!("ulimit -v 200000; exec $ZS make {words}"), &folder);
+        let detail = format!(" (the {what} alone has more than 1073741824 bytes)\n");
+        assert!(run.err.contains("zs: out: refused 31: "), "{}", run.err);
+        assert!(run.err.contains(&detail), "{}", run.err);
+        let advice = "zs: what to do: put the records into several archives\n";
+        assert!(run.err.ends_with(advice), "{}", run.err);
+        assert_eq!((run.status, folder.files().len()), (1, 1));
+    }
+}
+
+#[test]
+fn too_little_memory_is_said() {
+    let folder = Folder::new();
+    let file = File::create(folder.name("long")).expect("a temporary file");
+    file.set_len(60 << 20).expect("room for a sparse file");
+    for (limit, says) in [
+        (50_000, "long: there isn't enough memory to read it"),
+        (100_000, "there isn't enough memory to make the archive"),
+    ] {
+        let run = shell(
+            &format!("ulimit -v {limit}; exec $ZS make '{{}}' long out"),
+            &folder,
+        );
+        assert_eq!((run.status, run.err), (2, format!("zs: {says}\n")));
+        assert_eq!(folder.files(), ["long"]);
+    }
+}
+
+#[test]
+fn mistakes_in_arguments() {
+    let folder = Folder::new();
+    let numbers = "give a whole number from 0 to 18446744073709551615";
+    for (words, says) in [
+        ("names out", "<OUT>"),
+        ("- out", "<OUT>"),
+        ("'{}' names out more", "more"),
+        ("-x names out", "Found argument '-x'"),
+        ("'{}' names out --records-per-block few", numbers),
+        ("'{}' names out --entries-per-block -2", numbers),
+        ("'{}' names out --length-prefixed u32", "u32"),
+        (
+            "'{}' names out --length-prefixed u64le --terminator x",
+            "cannot be used with",
+        ),
+        ("'{}' names out --terminator '\\q'", "unknown escape"),
+        ("'{}' names out --terminator ''", "give a byte or more"),
+        (
+            "@- - out",
+            "standard input can't be both METADATA and INPUT",
+        ),
+        (
+            "'{}' missing out",
+            "zs: missing: No such file or directory\n",
+        ),
+        (
+            "@missing names out",
+            "zs: missing: No such file or directory\n",
+        ),
+        ("@ names out", "No such file or directory\n"),
+        ("'{}' . out", "zs: .: Is a directory\n"),
+        ("'{}' - out <&-", "zs: -: it is closed\n"),
+    ] {
+        folder.write("names", b"a\n");
+        let run = shell(&format!("$ZS make {words}"), &folder);
+        assert_eq!((run.status, run.out.len()), (2, 0), "{words}: {}", run.err);
+        assert!(run.err.contains(says), "{words}: {}", run.err);
+        assert_eq!(folder.files(), ["names"], "{words}");
+    }
+    assert_eq!(zs(&["make"]).status, 2);
+}
