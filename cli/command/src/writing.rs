@@ -9,9 +9,9 @@ use crate::input::LONGEST;
 use crate::refusals::Refusal;
 
 /// About so many bytes of records make a data block, where nobody says how many records.
-pub const BLOCK_BYTES: u64 = 4096;
+pub const BLOCK_BYTES: u64 = 2048;
 /// Entries of an index block, where nobody says how many.
-pub const ENTRIES_PER_BLOCK: u64 = 128;
+pub const ENTRIES_PER_BLOCK: u64 = 32;
 /// The index repeats the first record of each data block, which would cost much if blocks had fewer records.
 pub const FEWEST_PER_BLOCK: u64 = 16;
 /// The library takes no greater count.

@@ -222,14 +222,14 @@ fn a_hundred_thousand_records() {
 }
 
 #[test]
-fn usual_blocks_have_some_kilobytes() {
+fn usual_blocks_have_about_two_kilobytes() {
     let folder = Folder::new();
     let line = |number: usize| format!("Ada Blank {number:05}\t201-555-0123\n");
     let input: String = (0..20_000).map(line).collect();
     let file = make(&folder, input.as_bytes(), LINES);
     let blocks = reader::check(&file, file.len()).blocks as usize;
     assert!(
-        (2 << 10..8 << 10).contains(&(file.len() / blocks)),
+        (1 << 10..4 << 10).contains(&(file.len() / blocks)),
         "{blocks}"
     );
     // The index repeats records. It stays short where they are long.
