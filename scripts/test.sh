@@ -1,7 +1,7 @@
 #!/usr/bin/env bash
 # Checks the layout of the sources, the scripts and what docs/CLAIMS.md cites, proves every crate from nothing, tries the must-fail edits and
-# runs the programs; then tests the independent reader, the command and the library, compares both readers on drawn files and prints how many
-# cases that were, and holds the stored cases to those that the independent reader makes.
+# runs the programs; then tests the second implementation, the command and the library, compares both implementations on drawn files and
+# inputs and prints how many cases that were, and holds the stored cases to those that the second one makes.
 # `rt ci` removes target/, so whatever is built from the proved libraries comes after it.
 set -eu
 cd "$(dirname "$0")/.."
@@ -25,7 +25,7 @@ made=$(mktemp -d)
 trap 'rm -rf "$made"' EXIT
 scripts/make-corpus.sh "$made"
 if ! diff -rq "$made/data" crates/test_archives/data || ! cmp "$made/stdout" crates/test_archives/stdout; then
-    echo "the stored cases aren't those that the independent reader makes: scripts/make-corpus.sh crates/test_archives"
+    echo "the stored cases aren't those that the second implementation makes: scripts/make-corpus.sh crates/test_archives"
     echo "0 passed, 1 failed"
     exit 1
 fi
