@@ -11,11 +11,9 @@ use Rattle.lists.proofs.GroupsLaws.{groups-join, groups-member}
 use Rattle.part.specs.Part.{part}
 use Rattle.byte_string.specs.Order.{AreBytes}
 use Rattle.header.specs.Metadata.{Metadata}
-use Rattle.header.specs.Header.{M}
 use Rattle.header.proofs.MetadataLaws.{Metadata⇒isMetadata}
 use Rattle.header.proofs.HeaderLaws.{is-header}
 use Rattle.payload.specs.Payload.{rising}
-use Rattle.block.specs.Block.{Block}
 use Rattle.tree.specs.Stages.{payloads}
 use Rattle.layout.specs.Blocks.{textBytes, recordsBytes}
 use Rattle.layout.specs.File.{blocksStart, fileOf}

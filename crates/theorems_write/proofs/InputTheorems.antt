@@ -24,7 +24,7 @@ use Rattle.layout.proofs.InputLaws.{row-encoded}
 use Rattle.layout.proofs.InputBackLaws.{ShortRecords, input-items, input-long, input-rising, input-falling, input-injective, row-short}
 use Rattle.theorems_check.specs.Rules.{Sorted}
 use Rattle.theorems_check.proofs.SortedLaws.{rising⇒Sorted, Sorted⇒rising}
-use Rattle.writer.specs.Write.{inputRefusal, inputOf}
+use Rattle.writer.specs.Write.{inputOf}
 use Rattle.writer.proofs.InputRuleLaws as rule
 use Rattle.theorems_write.specs.WrittenByRules.{InputOf}
 

@@ -1,10 +1,9 @@
 -- A written file reads back as the records of the input: front to back, and through its index.
 -- Assumes nothing.
-use mathlib.Core.Path.{_≡_, refl, sym, ap, _∙_, subst}
+use mathlib.Core.Path.{_≡_, sym, ap, _∙_, subst}
 use mathlib.Core.Bool.{false}
 use mathlib.Core.List.{List, [], map}
 use Prim.Native.Nat.{ℕ, _≤_}
-use native.Mathlib.Omega.{arith}
 use lib.ListN.{length, take, length-map}
 use Rattle.lists.specs.Lists.{keep}
 use Rattle.lists.proofs.CountLaws.{keep-map, keep-all}
@@ -18,13 +17,12 @@ use Rattle.matching.specs.ResultList.{roomFor}
 use Rattle.reader.specs.declared.ReadAnswer.{ReadAnswer}
 use Rattle.search.specs.declared.Found.{Found}
 use Rattle.writer.specs.declared.Written.{Written}
-use Rattle.theorems_check.specs.Rules.{Sorted}
 use Rattle.theorems_read.specs.ReadByRules.{GivesMatches, ReadByRules}
 use Rattle.theorems_read.proofs.ReadAccepted.{accepted⇒matches}
 use Rattle.theorems_search.specs.OpeningRule.{RuleOpens}
 use Rattle.theorems_search.specs.SearchedByRules.{Searched, SearchedByRules}
 use Rattle.theorems_write.specs.WrittenByRules.{InputOf, HoldsRecords, WrittenByRules}
-use Rattle.theorems_write.proofs.NumberTheorems.{Sound, exact-0}
+use Rattle.theorems_write.proofs.NumberTheorems.{exact-0}
 
 -- ---- reading and searching a file that holds these records
 
@@ -83,6 +81,11 @@ pub written-output : (metadata input : List ℕ) (perBlock perIndex room : ℕ) 
     → (rs : List (List ℕ)) × InputOf input rs × ((bs : List Block) × HoldsRecords metadata input rs (take (r .length) output) bs)
 written-output metadata input perBlock perIndex room r output w z =
     let s = exact-0 metadata input perBlock perIndex room r output w .0 z .0 in
-    let written = w .written (s .records) (s .form) z in
-    (s .records, s .form, (written .1 .0,
-    subst (λ (file : List ℕ). HoldsRecords metadata input (s .records) file (written .1 .0)) (sym (written .0 .front-is)) (written .1 .1)))
+    let written = w .written (s .records) (s .form) z in (
+      s .records,
+      s .form,
+      (
+        written .1 .0,
+        subst (λ (file : List ℕ). HoldsRecords metadata input (s .records) file (written .1 .0)) (sym (written .0 .front-is)) (written .1 .1),
+      ),
+    )

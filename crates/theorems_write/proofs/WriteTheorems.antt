@@ -1,17 +1,17 @@
 -- Writing is as claimed.
 -- Assumes nothing.
-use mathlib.Core.Path.{_≡_, refl, sym, ap, _∙_, subst}
+use mathlib.Core.Path.{_≡_, refl, sym, _∙_, subst}
 use mathlib.Core.Logic.{_≢_}
 use mathlib.Core.Bool.{Bool, true, false, _&&_, false≢true}
 use mathlib.Core.List.{List}
-use Prim.Native.Nat.{ℕ, _^_, _≤_}
+use Prim.Native.Nat.{ℕ, _^_}
 use native.Mathlib.Omega.{arith}
 use lib.Dec.{leb}
 use lib.ListN.{length}
 use borrow.Author.Tests.{leb-true, le-leb}
 use Rattle.lists.specs.Groups.{groups}
 use Rattle.lists.proofs.ListsLaws.{both, both⁻¹}
-use Rattle.output_list.specs.OutputList.{padded, zeros}
+use Rattle.output_list.specs.OutputList.{padded}
 use Rattle.output_list.proofs.OutputListLaws.{take-padded}
 use Rattle.outcome.specs.Outcome.{Outcome, answer, refused, numberOf, placeOf, countOf, listOf}
 use Rattle.outcome.proofs.OutcomeLaws.{kept, broken, bind-answer, bind-refused}

@@ -1,15 +1,14 @@
 -- Laws of the refusals that come before the file is made.
 -- Assumes nothing.
-use mathlib.Core.Path.{_≡_, refl, sym, ap, _∙_}
-use mathlib.Core.Bool.{Bool, true, false, _&&_, cond}
+use mathlib.Core.Path.{_≡_, sym, ap, _∙_}
+use mathlib.Core.Bool.{true, false}
 use mathlib.Core.List.{List, map}
-use Prim.Native.Nat.{ℕ, _+_, _≤_, _<_}
-use native.Mathlib.Omega.{arith}
-use lib.Dec.{leb, eqb}
+use Prim.Native.Nat.{ℕ, _≤_, _<_}
+use lib.Dec.{leb}
 use lib.ListN.{length}
 use borrow.Author.Tests.{le-leb, lt-leb, ne-eqb, eq-eqb}
-use Rattle.outcome.specs.Outcome.{Outcome, answer, refused, _>>=_, numberOf}
-use Rattle.outcome.proofs.OutcomeLaws.{kept, broken, bind-answer, bind-refused, bind⁻¹, map-refused⁻¹}
+use Rattle.outcome.specs.Outcome.{answer, refused, _>>=_, numberOf}
+use Rattle.outcome.proofs.OutcomeLaws.{kept, broken, bind⁻¹, map-refused⁻¹}
 use Rattle.header.specs.Metadata.{isMetadata}
 use Rattle.payload.specs.Payload.{Text, recordsAt}
 use Rattle.payload.specs.Answers.{counted}

@@ -8,7 +8,7 @@ use native.Mathlib.Omega.{arith}
 use lib.Dec.{eqb}
 use lib.ListN.{length}
 use Rattle.lists.specs.Groups.{groups}
-use Rattle.output_list.specs.OutputList.{padded, zeros}
+use Rattle.output_list.specs.OutputList.{zeros}
 use Rattle.outcome.specs.Outcome.{Outcome, answer, refused, _>>=_, numberOf, placeOf, countOf, listOf}
 use Rattle.outcome.proofs.OutcomeLaws.{kept, broken, bind-answer, bind-refused}
 use Rattle.header.specs.Metadata.{isMetadata}
