@@ -1,2 +1,3 @@
 -- Laws of numbers and frames.
 pub mod FrameLaws
+pub mod RefusalLaws

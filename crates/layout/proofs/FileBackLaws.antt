@@ -28,7 +28,7 @@ use Rattle.layout.proofs.LiesLaws.{Lies, lies-last, lies-front, lies-ba
 use Rattle.layout.proofs.ReadBackLaws.{body-lies}
 use Rattle.layout.proofs.SideBySideLaws.{SideBySide, side-by-side-within, index-side-by-side}
 use Rattle.layout.proofs.BlockBackLaws.{DataFit, IndexFit, blocks-back}
-use Rattle.layout.proofs.HeaderBackLaws.{length-header, headerData-bytes, hash-back, header-back}
+use Rattle.layout.proofs.HeaderBackLaws.{length-header, headerData-bytes, hash-back, metadata-back, header-back}
 use Rattle.layout.proofs.KeyLaws.{Filled}
 use Rattle.layout.proofs.LaidBytesLaws.{flatMap-bytes, sha256-bytes, header-bytes, block-bytes}
 use Rattle.layout.proofs.FileFitLaws.{data-fit, index-fit}
@@ -138,6 +138,10 @@ module _ (metadata : List ℕ) (blocks : List (List (List ℕ))) (perIndex : ℕ
   -- the hash in the header
   pub file-hash-back : part (fileOf metadata blocks perIndex) 40 32 ≡ sha256 (flatMap recordsBytes blocks)
   file-hash-back = hash-back file metadata (root .offset) (root .size) hash all (sha256-length _) file-header
+
+  -- the metadata
+  pub file-metadata-back : part (fileOf metadata blocks perIndex) 96 (length metadata) ≡ metadata
+  file-metadata-back = metadata-back file metadata (root .offset) (root .size) hash all (sha256-length _) file-header
 
   module _ (fits : FileFits metadata blocks perIndex) where
     pub file-header-back : headerOf (fileOf metadata blocks perIndex)

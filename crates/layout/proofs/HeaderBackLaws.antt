@@ -125,6 +125,10 @@ module _ (file metadata : List ℕ) (root rootsize : ℕ) (hash all : List ℕ) 
   pub hash-back : part file 40 32 ≡ hash
   hash-back = ap (part file 40) (sym long) ∙ lies-part file 40 hash (lies-front file 40 hash _ hash-field)
 
+  -- the metadata
+  pub metadata-back : part file 96 (length metadata) ≡ metadata
+  metadata-back = lies-part file 96 metadata metadata-field
+
   -- the header lies within the file
   inside : 104 + length metadata ≤ length file
   unfolding blocksStart
@@ -171,7 +175,7 @@ module _ (file metadata : List ℕ) (root rootsize : ℕ) (hash all : List ℕ) 
           room = omega arith;
           codec = ap (begins codecNone) (lies-drop file 72 codecNone (lies-front file 72 codecNone _ codec-field)) ∙ begins-append codecNone _;
           total = field-back file 32 (length file) (omega arith) (lies-front file 32 (littleBytes 8 (length file)) _ third-field);
-          metadata-rule = isMetadata⇒Metadata _ (ap isMetadata (ap (part file 96) M-is ∙ lies-part file 96 metadata metadata-field) ∙ rule);
+          metadata-rule = isMetadata⇒Metadata _ (ap isMetadata (ap (part file 96) M-is ∙ metadata-back) ∙ rule);
           is-blocks = omega arith;
           is-root = sym (field-back file 16 root r (lies-front file 16 (littleBytes 8 root) _ first-field));
           is-rootsize = sym (field-back file 24 rootsize z (lies-front file 24 (littleBytes 8 rootsize) _ second-field));

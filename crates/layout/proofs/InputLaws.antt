@@ -2,10 +2,10 @@
 -- Assumes nothing.
 use mathlib.Core.Path.{_≡_, refl, sym, ap, _∙_, subst}
 use mathlib.Core.List.{List, [], _∷_, _++_, flatMap, map, append-nil, append-assoc}
-use Prim.Native.Nat.{ℕ, zero, suc, _+_, _-_, _≤_, _<_}
+use Prim.Native.Nat.{ℕ, _+_, _-_, _≤_, _<_}
 use native.Mathlib.Nat.{sub-self}
 use native.Mathlib.Omega.{arith}
-use lib.ListN.{length, take, drop, length-append, drop-of-length-le, take-append-drop}
+use lib.ListN.{length, take, drop, drop-of-length-le, take-append-drop}
 use lib.Seq.{drop-drop, take-add}
 use Rattle.byte_string.specs.Order.{AreBytes}
 use Rattle.byte_string.proofs.BytesLaws.{bytes-drop}
@@ -18,7 +18,6 @@ use Rattle.outcome.specs.Outcome.{answer}
 use Rattle.outcome.proofs.OutcomeLaws.{answer-injective}
 use Rattle.items.specs.Items.{Step}
 use Rattle.items.proofs.ItemsLaws.{Row, row-end, row-more}
-use Rattle.framing.specs.Frame.{numberAt}
 use Rattle.framing.proofs.FrameLaws.{Numbered, numbered, number-read}
 use Rattle.payload.specs.Payload.{Text, textAt}
 use Rattle.payload.specs.Answers.{textIn}

@@ -6,6 +6,7 @@ pub mod ItemsBackLaws
 pub mod SideBySideLaws
 pub mod ChildBackLaws
 pub mod PayloadBackLaws
+pub mod InputBackLaws
 pub mod BlockBackLaws
 pub mod HeaderBackLaws
 pub mod KeyLaws

@@ -3,7 +3,7 @@
 use mathlib.Core.Path.{_≡_, refl, sym, ap, _∙_, subst}
 use mathlib.Core.Bool.{Bool, true, false, cond, true≢false}
 use mathlib.Core.Logic.{_⊎_, inl, inr}
-use mathlib.Core.List.{List, [], _∷_, _++_, flatMap, List·Memᴰ, List·Memᴰ·head, List·Memᴰ·tail, List·Memᴰ·not-nil}
+use mathlib.Core.List.{List, [], _∷_, _++_, flatMap, map, List·Memᴰ, List·Memᴰ·head, List·Memᴰ·tail, List·Memᴰ·not-nil}
 use mathlib.Core.List.{List·Memᴰ·cases-cons, Memᴰ·append-right, head-eq-of-cons-eq, tail-eq-of-cons-eq}
 use Prim.Native.Nat.{_+_, _≤_, suc}
 use native.Mathlib.Omega.{arith}
@@ -19,6 +19,17 @@ pub keep-flatMap : {A B : Type 0} (test : B → Bool) (f : A → List B) (xs : L
 unfolding keep flatMap
 keep-flatMap test f [] = refl
 keep-flatMap {A} {B} test f (x ∷ xs) = keep-append test (f x) (flatMap f xs) ∙ ap (λ (l : List B). keep test (f x) ++ l) (keep-flatMap test f xs)
+
+-- of a list with a function of each
+pub keep-map : {A B : Type 0} (test : B → Bool) (f : A → B) (xs : List A) → map f (keep (λ x. test (f x)) xs) ≡ keep test (map f xs)
+unfolding keep
+keep-map test f [] = refl
+keep-map {A} {B} test f (x ∷ xs) = go (test (f x)) (keep-map test f xs)
+  where
+    go : (b : Bool) → map f (keep (λ y. test (f y)) xs) ≡ keep test (map f xs)
+        → map f (cond b (x ∷ keep (λ y. test (f y)) xs) (keep (λ y. test (f y)) xs)) ≡ cond b (f x ∷ keep test (map f xs)) (keep test (map f xs))
+    go true same = ap (λ (l : List B). f x ∷ l) same
+    go false same = same
 
 pub keep-none : {A : Type 0} (test : A → Bool) (xs : List A) → ((x : A) → List·Memᴰ x xs → test x ≡ false) → keep test xs ≡ []
 unfolding keep

@@ -2,3 +2,4 @@
 pub mod PayloadLaws
 pub mod ScanLaws
 pub mod ReadLaws
+pub mod RefusalLaws

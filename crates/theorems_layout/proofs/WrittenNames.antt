@@ -2,16 +2,16 @@
 -- Assumes nothing.
 use mathlib.Core.Path.{_≡_, refl, sym, ap, _∙_, subst}
 use mathlib.Core.Logic.{_≢_, _⊎_, inl, inr}
-use mathlib.Core.Bool.{Bool, true, false, cond}
 use mathlib.Core.Option.{none}
 use mathlib.Core.List.{List, [], _∷_, _++_, flatMap, map, map-append, List·Memᴰ, List·Memᴰ·head, List·Memᴰ·not-nil}
 use mathlib.Core.List.{List·Memᴰ·append-cases, List·Memᴰ·eq-of-singleton, Memᴰ·append-left, Memᴰ·append-right, Memᴰ·map, Memᴰ·of-map}
 use Prim.Native.Nat.{ℕ, _+_, _≤_}
 use native.Mathlib.Omega.{arith}
 use lib.Dec.{eqb}
-use lib.ListN.{length}
+use lib.ListN.{length, length-map}
 use Rattle.lists.specs.Lists.{keep}
 use Rattle.lists.proofs.ListsLaws.{Ascending, AscendingIn, ascending-append, ascending-all, flatMap-append}
+use Rattle.lists.proofs.CountLaws.{keep-map}
 use Rattle.lists.proofs.RisingLaws.{flatMap-map, each-once, ascending-left, ascending-apart, ascending-distinct, distinct-count, absent-count}
 use Rattle.payload.specs.Payload.{Entry}
 use Rattle.block.specs.Block.{Block}
@@ -33,16 +33,6 @@ use Rattle.theorems_layout.proofs.PlacedLaws.{dataEntries-offsets, data
 
 pub map-one : {A B : Type 0} (f : A → B) (xs : List A) → flatMap (λ x. f x ∷ []) xs ≡ map f xs
 map-one f xs = sym (flatMap-map (λ y. y ∷ []) f xs) ∙ each-once (map f xs)
-
-count-map : {A B : Type 0} (test : B → Bool) (f : A → B) (xs : List A) → length (keep (λ x. test (f x)) xs) ≡ length (keep test (map f xs))
-unfolding keep
-count-map test f [] = refl
-count-map {A} {B} test f (x ∷ xs) = go (test (f x)) (count-map test f xs)
-  where
-    go : (b : Bool) → length (keep (λ y. test (f y)) xs) ≡ length (keep test (map f xs))
-        → length (cond b (x ∷ keep (λ y. test (f y)) xs) (keep (λ y. test (f y)) xs)) ≡ length (cond b (f x ∷ keep test (map f xs)) (keep test (map f xs)))
-    go true same = omega arith
-    go false same = same
 
 -- ---- the tree
 
@@ -157,7 +147,9 @@ module _ (perIndex from : ℕ) (blocks : List (List (List ℕ))) where
 
     namings-count : (at : ℕ) → namings allBlocks at ≡ length (keep (λ x. eqb x at) entryOffsets)
     unfolding namings
-    namings-count at = count-map (λ x. eqb x at) (λ e. e .offset) (flatMap (λ b. b .entries) allBlocks)
+    namings-count at =
+        let es = flatMap (λ b. b .entries) allBlocks in
+        sym (length-map (keep (λ e. eqb (e .offset) at) es) (λ e. e .offset)) ∙ ap length (keep-map (λ x. eqb x at) (λ e. e .offset) es)
 
     pub written-once : (b : Block) → List·Memᴰ b allBlocks → b .frame .start ≢ rootAt → namings allBlocks (b .frame .start) ≡ 1
     written-once b m other =

@@ -1,1 +1,6 @@
--- What writing gives.
+-- Theorems about writing.
+pub mod InputTheorems
+pub mod NumberTheorems
+pub mod FileHolds
+pub mod WriteTheorems
+pub mod ReadBack

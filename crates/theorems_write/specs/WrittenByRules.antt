@@ -62,15 +62,19 @@ pub record HoldsRecords (metadata input : List ℕ) (rs : List (List ℕ)) (file
   -- at most 27 levels of index blocks
   pub low : (b : Block) → List·Memᴰ b bs → b .frame .level ≤ 27
 
+-- r gives the length of the file, and the output holds the file and zeros after it
+pub record HoldsFile (room : ℕ) (r : Written) (output file : List ℕ) : Type 0 where
+  pub length-is : r .length ≡ length file
+  pub output-is : output ≡ padded room file
+  pub front-is : take (r .length) output ≡ file
+
 -- The writer's promise: r is the answer of writing into an output of `room` bytes, `output` the output at exit.
 pub record WrittenByRules (metadata input : List ℕ) (perBlock perIndex room : ℕ) (r : Written) (output : List ℕ) : Type 0 where
   pub ends : Ends metadata input perBlock perIndex room (r .number)
   pub place : r .place ≡ 0
   -- after a refusal no length, and zeros
   pub refused : r .number ≢ 0 → (r .length ≡ 0) × (output ≡ zeros room)
-  -- else the file, and zeros after it
+  -- else the file of the records, and what it holds
   pub written : (rs : List (List ℕ)) → InputOf input rs → r .number ≡ 0
-      → (output ≡ padded room (fileOf metadata (groups perBlock rs) perIndex))
-      × (take (r .length) output ≡ fileOf metadata (groups perBlock rs) perIndex)
-      × (r .length ≡ length (fileOf metadata (groups perBlock rs) perIndex))
+      → HoldsFile room r output (fileOf metadata (groups perBlock rs) perIndex)
       × ((bs : List Block) × HoldsRecords metadata input rs (fileOf metadata (groups perBlock rs) perIndex) bs)

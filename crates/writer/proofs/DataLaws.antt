@@ -9,7 +9,7 @@ use native.Mathlib.Omega.{arith}
 use lib.Dec.{leb}
 use lib.ListN.{length, take, drop, length-append, length-take, length-drop, drop-of-length-le, take-append-drop}
 use lib.Seq.{take-all}
-use borrow.Author.Tests.{le-leb, lt-leb, leb-true, leb-false}
+use borrow.Author.Tests.{le-leb, lt-leb}
 use Rattle.byte_string.specs.Order.{AreBytes}
 use Rattle.outcome.specs.Outcome.{answer, refused}
 use Rattle.outcome.proofs.OutcomeLaws.{refused-not-answer}

@@ -1,25 +1,22 @@
 -- Laws of a file that is put into an output of zeros: data blocks, then the index, then the header.
 -- Assumes nothing.
 use mathlib.Core.Path.{_≡_, refl, sym, ap, _∙_, subst}
-use mathlib.Core.Bool.{Bool, true, false, _&&_, cond}
-use mathlib.Core.List.{List, [], _∷_, _++_, flatMap, append-assoc}
+use mathlib.Core.List.{List, _++_, flatMap, append-assoc}
 use Prim.Native.Nat.{ℕ, _+_, _-_, _^_, _≤_, _<_}
 use native.Mathlib.Omega.{arith}
-use lib.Dec.{leb}
-use lib.ListN.{length, take, drop, length-append}
-use borrow.Author.Tests.{leb-true, leb-false}
+use lib.ListN.{length, length-append}
 use Rattle.output_list.specs.OutputList.{padded, zeros}
-use Rattle.output_list.proofs.OutputListLaws.{length-zeros, padded-append, take-padded}
+use Rattle.output_list.proofs.OutputListLaws.{length-zeros}
 use Rattle.output_bytes.specs.OutputBytes.{stored}
 use Rattle.output_bytes.proofs.OutputBytesLaws.{padded-zeros, stored-padded, stored-front}
 use Rattle.sha256.specs.declared.State.{State}
 use Rattle.sha256.specs.Sha256.{sha256}
-use Rattle.sha256.specs.State.{begun, absorbed, finished, Holds, none, more}
+use Rattle.sha256.specs.State.{begun, absorbed, finished, none, more}
 use Rattle.sha256.proofs.StateLaws.{Holds⇒sha256, sha256-length}
 use Rattle.header_encoder.proofs.HeaderPutLaws.{length-header}
 use Rattle.layout.specs.Blocks.{dataBytes, recordsBytes}
-use Rattle.layout.specs.Index.{IndexBlock, indexBytes}
-use Rattle.layout.specs.File.{headerData, headerBytes, blocksStart, dataPart, indexBlocks, blocksPart, rootEntry, fileOf, fileFits}
+use Rattle.layout.specs.Index.{indexBytes}
+use Rattle.layout.specs.File.{headerData, headerBytes, blocksStart, dataPart, indexBlocks, blocksPart, rootEntry, fileOf}
 use Rattle.layout.proofs.FileBackLaws.{length-file}
 use Rattle.writer.specs.Steps.{endIfFits, FilePut}
 use Rattle.writer.proofs.DataLaws.{not-fitting, too-long, fitting}

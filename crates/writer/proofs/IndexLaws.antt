@@ -1,22 +1,22 @@
 -- Laws of the index over the data blocks of a file that is put.
 -- Assumes nothing.
-use mathlib.Core.Path.{_≡_, refl, sym, ap, _∙_, subst}
-use mathlib.Core.Bool.{Bool, true, false, _&&_, cond, false≢true}
+use mathlib.Core.Path.{_≡_, refl, sym, ap, _∙_}
+use mathlib.Core.Bool.{Bool, true, false, _&&_, false≢true}
 use mathlib.Core.Logic.{_⊎_, inl, inr}
-use mathlib.Core.List.{List, [], _∷_, _++_, flatMap}
+use mathlib.Core.List.{List, _++_, flatMap}
 use mathlib.Core.Option.{none}
 use Prim.Native.Nat.{ℕ, _+_, _^_, _≤_, _<_}
 use native.Mathlib.Omega.{arith}
 use lib.Dec.{leb}
 use lib.ListN.{length, take, length-append}
 use borrow.Author.Tests.{le-leb, leb-true, leb-false}
-use Rattle.outcome.specs.Outcome.{Outcome, answer, refused, _>>=_}
-use Rattle.outcome.proofs.OutcomeLaws.{kept, broken, bind-answer, answer-injective, refused-not-answer, answer-not-refused}
+use Rattle.outcome.specs.Outcome.{answer, refused, _>>=_}
+use Rattle.outcome.proofs.OutcomeLaws.{kept, broken, answer-injective, refused-not-answer, answer-not-refused}
 use Rattle.output_list.specs.OutputList.{padded, zeros}
 use Rattle.output_list.proofs.OutputListLaws.{length-zeros, length-padded, take-padded}
 use Rattle.output_bytes.specs.OutputBytes.{stored}
 use Rattle.layout.specs.Blocks.{dataBytes}
-use Rattle.layout.specs.Index.{IndexBlock, indexBytes, indexOver, rootOf}
+use Rattle.layout.specs.Index.{IndexBlock, indexBytes, indexOver}
 use Rattle.layout.specs.File.{blocksStart, dataEntries, dataPart, indexBlocks, rootEntry, fileOf, fileFits}
 use Rattle.layout.proofs.LiesLaws.{lies-last}
 use Rattle.layout.proofs.KeyLaws.{Filled}

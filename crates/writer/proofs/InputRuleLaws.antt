@@ -1,15 +1,14 @@
 -- Laws of the refusals that come before the file is made.
 -- Assumes nothing.
-use mathlib.Core.Path.{_≡_, refl, sym, ap, _∙_}
-use mathlib.Core.Bool.{Bool, true, false, _&&_, cond}
+use mathlib.Core.Path.{_≡_, sym, ap, _∙_}
+use mathlib.Core.Bool.{true, false}
 use mathlib.Core.List.{List, map}
-use Prim.Native.Nat.{ℕ, _+_, _≤_, _<_}
-use native.Mathlib.Omega.{arith}
-use lib.Dec.{leb, eqb}
+use Prim.Native.Nat.{ℕ, _≤_, _<_}
+use lib.Dec.{leb}
 use lib.ListN.{length}
 use borrow.Author.Tests.{le-leb, lt-leb, ne-eqb, eq-eqb}
-use Rattle.outcome.specs.Outcome.{Outcome, answer, refused, _>>=_, numberOf}
-use Rattle.outcome.proofs.OutcomeLaws.{kept, broken, bind-answer, bind-refused, bind⁻¹, map-refused⁻¹}
+use Rattle.outcome.specs.Outcome.{answer, refused, _>>=_, numberOf}
+use Rattle.outcome.proofs.OutcomeLaws.{kept, broken, bind⁻¹, map-refused⁻¹}
 use Rattle.header.specs.Metadata.{isMetadata}
 use Rattle.payload.specs.Payload.{Text, recordsAt}
 use Rattle.payload.specs.Answers.{counted}
@@ -32,6 +31,16 @@ counts-index-low b i h k l = rw (le-leb 1 b h, le-leb b 65535 k, lt-leb 2 i l)
 pub counts-asked : (b i : ℕ) → 1 ≤ b → b ≤ 65535 → 2 ≤ i → leb i 65535 ≡ countsFit b i
 unfolding countsFit
 counts-asked b i h k l = rw (le-leb 1 b h, le-leb b 65535 k, le-leb 2 i l)
+
+-- ---- the records of the input
+
+pub input-some : (input : List ℕ) (ts : List Text) → recordsAt 0 input 0 ≡ answer ts → inputOf input ≡ answer (map (λ r. r .bytes) ts)
+unfolding inputOf refusedAs _>>=_
+input-some input ts e = ap (λ o. refusedAs inputRefusal o >>= λ rs. answer (map (λ r. r .bytes) rs)) e
+
+pub input-none : (input : List ℕ) (n place : ℕ) → recordsAt 0 input 0 ≡ refused n place → inputOf input ≡ refused (inputRefusal n) 0
+unfolding inputOf refusedAs _>>=_
+input-none input n place e = ap (λ o. refusedAs inputRefusal o >>= λ rs. answer (map (λ r. r .bytes) rs)) e
 
 -- ---- the number of the refusal
 
@@ -57,23 +66,15 @@ module _ (metadata input : List ℕ) (b i : ℕ) where
     unfolding recordsToWrite
     to-input = rw (kept (countsFit b i) 30 0 _ h, kept (isMetadata metadata) 9 0 _ k)
 
-    pub input-some : (ts : List Text) → recordsAt 0 input 0 ≡ answer ts → inputOf input ≡ answer (map (λ r. r .bytes) ts)
-    unfolding inputOf refusedAs _>>=_
-    input-some ts e = ap (λ o. refusedAs inputRefusal o >>= λ rs. answer (map (λ r. r .bytes) rs)) e
-
-    pub input-none : (n place : ℕ) → recordsAt 0 input 0 ≡ refused n place → inputOf input ≡ refused (inputRefusal n) 0
-    unfolding inputOf refusedAs _>>=_
-    input-none n place e = ap (λ o. refusedAs inputRefusal o >>= λ rs. answer (map (λ r. r .bytes) rs)) e
-
     pub input-answer : (count : ℕ) → answer count ≡ counted (recordsAt 0 input 0) → 0 ≡ numberOf (recordsToWrite metadata input b i)
     unfolding counted numberOf
     input-answer count e =
         let r = bind⁻¹ (recordsAt 0 input 0) _ count (sym e) in
-        sym (ap numberOf (to-input ∙ input-some (r .0) (r .1)))
+        sym (ap numberOf (to-input ∙ input-some input (r .0) (r .1)))
 
     pub input-refused : (n : ℕ) → refused n 0 ≡ counted (recordsAt 0 input 0) → inputRefusal n ≡ numberOf (recordsToWrite metadata input b i)
     unfolding counted numberOf
-    input-refused n e = sym (ap numberOf (to-input ∙ input-none n 0 (map-refused⁻¹ (recordsAt 0 input 0) length n 0 (sym e))))
+    input-refused n e = sym (ap numberOf (to-input ∙ input-none input n 0 (map-refused⁻¹ (recordsAt 0 input 0) length n 0 (sym e))))
 
 pub not-rising : (n : ℕ) → n ≡ 16 → 29 ≡ inputRefusal n
 unfolding inputRefusal

@@ -1,15 +1,15 @@
 -- What is known of an input that isn't refused.
 -- Assumes nothing.
 use mathlib.Core.Path.{_≡_, refl, sym, ap, _∙_}
-use mathlib.Core.Bool.{Bool, true, false, _&&_, cond, false≢true}
-use mathlib.Core.List.{List, map, flatMap}
+use mathlib.Core.Bool.{Bool, true, false, _&&_, false≢true}
+use mathlib.Core.List.{List, flatMap}
 use Prim.Native.Nat.{ℕ, _-_, _≤_, _<_}
 use native.Mathlib.Omega.{arith}
 use lib.Dec.{leb}
 use lib.ListN.{length}
 use borrow.Author.Tests.{leb-true}
 use Rattle.byte_string.specs.Order.{AreBytes}
-use Rattle.outcome.specs.Outcome.{Outcome, answer, refused, _>>=_, _>>_, must}
+use Rattle.outcome.specs.Outcome.{Outcome, answer, refused}
 use Rattle.outcome.proofs.OutcomeLaws.{kept⁻¹, bind⁻¹, answer-injective, refused-not-answer}
 use Rattle.lists.specs.Groups.{groups}
 use Rattle.lists.proofs.GroupsLaws.{groups-join}

@@ -8,7 +8,7 @@ use native.Mathlib.Omega.{arith}
 use lib.Dec.{eqb}
 use lib.ListN.{length}
 use Rattle.lists.specs.Groups.{groups}
-use Rattle.output_list.specs.OutputList.{padded, zeros}
+use Rattle.output_list.specs.OutputList.{zeros}
 use Rattle.outcome.specs.Outcome.{Outcome, answer, refused, _>>=_, numberOf, placeOf, countOf, listOf}
 use Rattle.outcome.proofs.OutcomeLaws.{kept, broken, bind-answer, bind-refused}
 use Rattle.header.specs.Metadata.{isMetadata}
@@ -37,8 +37,8 @@ pub known : (metadata input : List ℕ) (b i : ℕ) → Known (recordsToWrite me
 known metadata input b i = counts (countsFit b i) refl
   where
     read : countsFit b i ≡ true → isMetadata metadata ≡ true → (o : Outcome (List Text)) → recordsAt 0 input 0 ≡ o → Known (recordsToWrite metadata input b i)
-    read h k (answer ts) e = some (map (λ r. r .bytes) ts) (to-input metadata input b i h k ∙ input-some metadata input b i h k ts e)
-    read h k (refused n place) e = none (inputRefusal n) (inputRefusal-some n) (to-input metadata input b i h k ∙ input-none metadata input b i h k n place e)
+    read h k (answer ts) e = some (map (λ r. r .bytes) ts) (to-input metadata input b i h k ∙ input-some input ts e)
+    read h k (refused n place) e = none (inputRefusal n) (inputRefusal-some n) (to-input metadata input b i h k ∙ input-none input n place e)
 
     rule : countsFit b i ≡ true → (c : Bool) → isMetadata metadata ≡ c → Known (recordsToWrite metadata input b i)
     rule h true k = read h k (recordsAt 0 input 0) refl

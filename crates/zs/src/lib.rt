@@ -1,5 +1,5 @@
 // The C interface: thin exports. Each has the contract of the function that it calls, and beside it what the theorems say of that very call:
-// check, read and search are decided by the rules of the format. include/zs.h documents the interface for callers.
+// check, read, search and write are decided by the rules of the format. include/zs.h documents the interface for callers.
 //
 // C can't receive a slice as a result, so zs_record and zs_metadata hand back where the part lies.
 ghost use mathlib.Core.Path.{_≡_};
@@ -16,6 +16,7 @@ ghost use Rattle.theorems_check.specs.CheckedByRules.{CheckedByRules};
 ghost use Rattle.theorems_read.specs.ReadByRules.{ReadByRules};
 ghost use Rattle.theorems_search.specs.SearchedByRules.{SearchedByRules};
 ghost use Rattle.theorems_search.specs.Locality.{SearchedLocally};
+ghost use Rattle.theorems_write.specs.WrittenByRules.{WrittenByRules};
 use checker::Checked;
 use part::Part;
 use reader::ReadAnswer;
@@ -130,6 +131,8 @@ pub extern "C" fn zs_write(
         (writeOf (now (metadata .entry)) (now (records .entry)) «per_block» «per_index» (length (now (output .entry)))) ⌝ }
     ensures { λ r. ⌜ now (output .exit) ≡ writtenOutput (length (now (output .entry)))
         (writeOf (now (metadata .entry)) (now (records .entry)) «per_block» «per_index» (length (now (output .entry)))) ⌝ }
+    ensures { λ r. ⌜ WrittenByRules (now (metadata .entry)) (now (records .entry)) «per_block» «per_index»
+        (length (now (output .entry))) r (now (output .exit)) ⌝ }
 {
     writer::write(metadata, records, per_block, per_index, output)
 }

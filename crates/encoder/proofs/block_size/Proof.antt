@@ -56,8 +56,8 @@ returns-5 : tie.Need-returns-5
 returns-5 c =
     let args = c .before .before .before .before .before .args in
     let number-length = c .before .before .before .number-length in
-    let size = block-size (args .payload) _ (number-length .ensures) in size-some (args .at) (args .payload) (args .room) _ size (omega
-    arith)
+    let size = block-size (args .payload) _ (number-length .ensures) in
+    size-some (args .at) (args .payload) (args .room) _ (omega arith) (omega arith)
 
 pub block-size-spec : {M : Type 1} → statement M
 block-size-spec =
