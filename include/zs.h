@@ -14,13 +14,14 @@
  *
  * With length 0 any pointer may be NULL.
  *
- * Threads: nothing is allocated and nothing is kept between calls. Any number of calls may run at once, each with its own lists; they may
- * share byte strings, which nobody may write meanwhile. A call takes less than 64 KiB of stack (measured, not proved).
+ * Threads: nothing is allocated and nothing is kept between calls. Any number of calls may run at once, each with its own lists and outputs;
+ * they may share byte strings, which nobody may write meanwhile. A call takes less than 64 KiB of stack (measured, not proved).
  *
- * Lengths of lists that always suffice:
+ * Lengths that always suffice:
  *   work      file_len / 11, since a block with records or entries takes 11 bytes or more
  *   opened    on a file that zs_check accepts: `blocks` of its answer
  *   results   on a file that zs_check accepts: twice `records` of its answer; for zs_read on any bytes: 2 * file_len
+ *   output    2^30 bytes, since no file is longer
  * On other bytes there is no such length for zs_search: they can lead to one block again and again, and only the length of the opened
  * list bounds how often.
  */
@@ -33,7 +34,7 @@
 
 #define ZS_VERSION "0.1.0"
 
-/* ---- Answers. Without a refusal number and place are 0. After one every count is 0 and every place of every list is 0. */
+/* ---- Answers. Without a refusal number and place are 0. After one every count and length is 0, and every list and output is zeros. */
 
 typedef struct zs_read_answer { uint64_t number, place, matches; } zs_read_answer;
 typedef struct zs_checked { uint64_t number, place, blocks, records; } zs_checked;

@@ -1,5 +1,4 @@
-// The index over a run of blocks that stand side by side in an output: index blocks level by level, each full but the last of its level,
-// until one stands alone.
+// The index over a run of blocks that stand side by side in an output: one level after the other, up to the first that has a single block.
 ghost use Prim.Native.Nat.{ℕ, _^_, _≤_};
 ghost use mathlib.Core.Path.{_≡_};
 ghost use lib.Dec.{leb};
@@ -70,7 +69,7 @@ fn file_room(room: usize) -> usize
     room
 }
 
-// Puts level after level, until one block stands alone on its level.
+// Puts level after level, up to the first that has a single block.
 fn put_levels(output: &mut [u8], from: usize, to: usize, per_index: u64) -> RaiseOutcome
     requires { ⌜ (2 ≤ «per_index») × (to ≤ length (now output)) × (length (now output) ≤ 2 ^ 30) ⌝ }
     ensures { λ r. ⌜ LevelsPut (now (output .entry)) (now (output .exit)) to (indexFor «per_index» (now (output .entry)) from to) r ⌝ }

@@ -1,4 +1,4 @@
--- A file that the writer makes: the header without extra bytes, all data blocks, then the index.
+-- A file that the writer makes: the header, the data blocks, the index blocks, and nothing between them.
 use Prim.Native.Nat.{ℕ, _+_, _^_}
 use mathlib.Core.Bool.{Bool, _&&_}
 use mathlib.Core.List.{List, [], _∷_, _++_, flatMap}

@@ -1,4 +1,5 @@
--- The index of a file that the writer makes: index blocks level by level, each full but the last of its level, until one stands alone.
+-- The index of a file that the writer makes. A level has a block for each group of entries over the level below, and the last level is the
+-- one that has a single block.
 use Prim.Native.Nat.{ℕ, zero, suc, _+_}
 use mathlib.Core.Bool.{cond}
 use mathlib.Core.List.{List, [], _∷_, _++_, flatMap, map}
@@ -54,7 +55,7 @@ levelsFrom (suc fuel) perIndex level at es =
 unfoldable pub indexOver : (perIndex at : ℕ) → List IndexEntry → List IndexBlock
 indexOver perIndex at es = levelsFrom (length es) perIndex 1 at es
 
--- the root is the last index block, which stands alone on its level; as an entry would name it (nothing, where there is no block)
+-- the root is the last index block, the only one of its level; as an entry would name it (nothing, where there is no block)
 unfoldable pub rootOf : List IndexBlock → IndexEntry
 rootOf [] = record { key = []; offset = 0; size = 0 }
 rootOf (b ∷ bs) = entryFor (lastOr b bs)

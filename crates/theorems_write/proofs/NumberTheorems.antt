@@ -103,7 +103,7 @@ module _ (metadata input : List ℕ) (perBlock perIndex room : ℕ) where
     number-is : (n : ℕ) → Ends metadata input perBlock perIndex room n → r .number ≡ n
     number-is n e = ends-one (r .number) n (w .ends) e
 
-    -- 31 exactly if no other refusal applies and the file would exceed the output or 2^30
+    -- 31 exactly where no other refusal applies and the file is longer than the output or than 2^30 bytes
     pub exact-31 : (r .number ≡ 31) ↔ ((s : Sound) × ((room < fileLength s) ⊎ (2 ^ 30 < fileLength s)))
     unfolding Fits
     exact-31 = (λ e. there (r .number) (w .ends) e, λ p. number-is 31 (back (p .0) (p .1)))
