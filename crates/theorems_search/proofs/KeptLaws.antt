@@ -4,9 +4,12 @@ use mathlib.Core.Path.{_≡_, refl, sym, ap, subst}
 use mathlib.Core.Logic.{_⊎_, inl, inr}
 use mathlib.Core.Bool.{Bool, true, false, cond}
 use mathlib.Core.List.{List, [], _∷_, _++_, flatMap, List·Memᴰ, List·Memᴰ·head, List·Memᴰ·tail, List·Memᴰ·not-nil, List·Memᴰ·cases-cons}
-use Prim.Native.Nat.{ℕ}
+use mathlib.Core.List.{List·Memᴰ·append-cases, Memᴰ·append-left, Memᴰ·append-right}
+use Prim.Native.Nat.{ℕ, _≤_}
+use native.Mathlib.Omega.{arith}
+use lib.ListN.{length, length-append}
 use Rattle.lists.specs.Lists.{keep}
-use Rattle.lists.proofs.RisingLaws.{Distinct}
+use Rattle.lists.proofs.RisingLaws.{Distinct, member-split}
 use Rattle.theorems_tree.specs.Preorder.{Kept, no-more, taken, left-out, Once, empty, another}
 
 module _ {A : Type 0} (P : A → Type 0) where
@@ -110,3 +113,34 @@ Distinct⇒Once (x ∷ xs) h = another (h .0) (Distinct⇒Once xs (h .1))
 -- a kept part of numbers that are all different has none twice
 pub kept-once : (P : ℕ → Type 0) (xs ys : List ℕ) → Kept P xs ys → Distinct xs → Once ys
 kept-once P xs ys k h = Distinct⇒Once ys (kept-distinct P xs ys k h)
+
+-- ---- lengths
+
+-- no more are kept than there are
+pub kept-few : {A : Type 0} (P : A → Type 0) (xs ys : List A) → Kept P xs ys → length ys ≤ length xs
+kept-few P xs ys no-more = omega arith
+kept-few P xs ys (taken {xs = more} {ys = more′} p k) = let rest = kept-few P more more′ k in omega arith
+kept-few P xs ys (left-out {xs = more} n k) = let rest = kept-few P more ys k in omega arith
+
+-- numbers of which none occurs twice are no more than a list that has them all
+pub once-few : (xs ys : List ℕ) → Once xs → ((x : ℕ) → List·Memᴰ x xs → List·Memᴰ x ys) → length xs ≤ length ys
+once-few xs ys empty among = omega arith
+once-few xs ys (another {x = x} {xs = more} new once) among =
+    go (member-split ys x (among x (List·Memᴰ·head refl))) (λ zs inside. once-few more zs once inside)
+  where
+    go : (before : List ℕ) × (after : List ℕ) × (ys ≡ before ++ (x ∷ after))
+        → ((zs : List ℕ) → ((y : ℕ) → List·Memᴰ y more → List·Memᴰ y zs) → length more ≤ length zs) → length (x ∷ more) ≤ length ys
+    go (before, after, split) rest =
+        let fewer = rest (before ++ after) (λ y m. other y m (List·Memᴰ·append-cases before (subst (List·Memᴰ y) split (among y (List·Memᴰ·tail m))))) in
+        let whole = ap length split in
+        let long = length-append before (x ∷ after) in
+        let short = length-append before after in
+        omega arith
+      where
+        other : (y : ℕ) → List·Memᴰ y more → List·Memᴰ y before ⊎ List·Memᴰ y (x ∷ after) → List·Memᴰ y (before ++ after)
+        other y m (inl early) = Memᴰ·append-left after early
+        other y m (inr late) = either (List·Memᴰ·cases-cons late)
+          where
+            either : (y ≡ x) ⊎ List·Memᴰ y after → List·Memᴰ y (before ++ after)
+            either (inl same) = absurd (new (subst (λ (z : ℕ). List·Memᴰ z more) same m))
+            either (inr later) = Memᴰ·append-right before later

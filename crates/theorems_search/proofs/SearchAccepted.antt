@@ -2,16 +2,18 @@
 -- Assumes nothing.
 use mathlib.Core.Path.{_≡_, sym, ap, _∙_, subst}
 use mathlib.Core.Logic.{_↔_}
-use mathlib.Core.List.{List, List·Memᴰ}
+use mathlib.Core.List.{List, map, List·Memᴰ, Memᴰ·map}
 use Prim.Native.Nat.{ℕ, _≤_, _<_}
 use native.Mathlib.Omega.{arith}
-use lib.ListN.{length, take}
+use lib.ListN.{length, take, length-map}
 use Rattle.byte_string.specs.Order.{AreBytes}
 use Rattle.output_list.proofs.OutputListLaws.{take-padded}
+use borrow.Author.Tests.{le-leb}
+use Rattle.lists.proofs.ListsLaws.{member-keep}
 use Rattle.outcome.specs.Outcome.{answer}
 use Rattle.header.specs.Header.{fieldAt}
-use Rattle.block.specs.Block.{Block}
-use Rattle.block.specs.Survey.{recordsOf}
+use Rattle.block.specs.Block.{Block, isOrdinary}
+use Rattle.block.specs.Survey.{ordinary, recordsOf}
 use Rattle.query.specs.Query.{Query}
 use Rattle.matching.specs.Matching.{matching}
 use Rattle.matching.specs.ResultList.{roomFor}
@@ -27,7 +29,7 @@ use Rattle.theorems_search.specs.OpeningRule.{Opened, walkOrder, RuleOpe
 use Rattle.theorems_search.specs.SearchedByRules.{QueryBytes, Searched, SearchedByRules}
 use Rattle.theorems_search.proofs.Events.{searchEvents, opensIn}
 use Rattle.theorems_tree.proofs.TreePreorder.{ordinary⇒preorder, preorder⇒ordinary, preorder-distinct}
-use Rattle.theorems_search.proofs.KeptLaws.{Distinct⇒Once, kept-member, member-kept}
+use Rattle.theorems_search.proofs.KeptLaws.{Distinct⇒Once, kept-member, member-kept, kept-few, once-few}
 use Rattle.theorems_search.proofs.SearchFinds.{accepted⇒SearchTree}
 use Rattle.theorems_search.proofs.SearchRoom as rooms
 use Rattle.theorems_search.proofs.SearchReads as reads
@@ -58,6 +60,21 @@ module _ (file : List ℕ) (bs : List Block) (accepted : acceptOf file ≡ answe
     λ i. kept-member (Opened bs (fieldAt file 16) q) (walkOrder file bs) opened rule (b .frame .start) i .1,
     λ o. member-kept (Opened bs (fieldAt file 16) q) (walkOrder file bs) opened rule (b .frame .start) (walk-order-all .all b m ordinary) o,
   )
+
+  -- a place for each ordinary block is enough: no more are opened
+  pub opened-few : (q : Query) (opened : List ℕ) → RuleOpens file bs q opened → length opened ≤ length (ordinary bs)
+  unfolding RuleOpens ordinary isOrdinary
+  opened-few q opened rule =
+      let kept = kept-few (Opened bs (fieldAt file 16) q) (walkOrder file bs) opened rule in
+      let all = once-few (walkOrder file bs) (map (λ b. b .frame .start) (ordinary bs)) (walk-order-all .once) among in
+      let long = length-map (ordinary bs) (λ b. b .frame .start) in
+      omega arith
+    where
+      among : (x : ℕ) → List·Memᴰ x (walkOrder file bs) → List·Memᴰ x (map (λ b. b .frame .start) (ordinary bs))
+      among x m =
+          let (b, i, starts, low) = walk-order-all .only x m in
+          subst (λ (y : ℕ). List·Memᴰ y (map (λ c. c .frame .start) (ordinary bs))) starts
+          (Memᴰ·map (λ (c : Block). c .frame .start) (member-keep (λ c. isOrdinary (c .frame .level)) bs b i (le-leb (b .frame .level) 63 low)))
 
   module _ (bytes : AreBytes file) (q : Query) (asked : QueryBytes q) where
     -- the blocks that the search opens are those of the rule
