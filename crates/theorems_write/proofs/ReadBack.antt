@@ -19,6 +19,7 @@ use Rattle.search.specs.declared.Found.{Found}
 use Rattle.writer.specs.declared.Written.{Written}
 use Rattle.theorems_read.specs.ReadByRules.{GivesMatches, ReadByRules}
 use Rattle.theorems_read.proofs.ReadAccepted.{accepted⇒matches}
+use Rattle.theorems_layout.specs.WrittenLayout.{WrittenLayout}
 use Rattle.theorems_search.specs.OpeningRule.{RuleOpens}
 use Rattle.theorems_search.specs.SearchedByRules.{Searched, SearchedByRules}
 use Rattle.theorems_write.specs.WrittenByRules.{InputOf, HoldsRecords, WrittenByRules}
@@ -66,7 +67,7 @@ module _ (metadata input : List ℕ) (rs : List (List ℕ)) (file : List ℕ) (b
   unfolding SearchedByRules GivesRecords
   written⇒searched q places room r list results searched =
       let s = searched bs (holds .accepted) in
-      (s .0, s .1, λ enough fits. (matching q (recordsOf bs), matching-bytes q, found (s .0) (s .2 enough (matching-fits q room fits)) (matching-fits q room fits)))
+      (s .0, s .1, λ enough fits. let h = matching-fits q room fits in (matching q (recordsOf bs), matching-bytes q, found (s .0) (s .2 enough h) h))
     where
       found : (opened : List ℕ) → Searched file bs q opened places room r list results → roomFor (length (matching q (recordsOf bs))) ≤ room
           → GivesMatches file (matching q (recordsOf bs)) room (record { number = r .number; place = r .place; matches = r .matches }) results
@@ -75,17 +76,16 @@ module _ (metadata input : List ℕ) (rs : List (List ℕ)) (file : List ℕ) (b
 
 -- ---- what was written
 
--- the output of a call that wasn't refused begins with a file that holds the records of the input
+-- the output of a call that wasn't refused begins with a file that holds the records of the input, laid out as claimed
 pub written-output : (metadata input : List ℕ) (perBlock perIndex room : ℕ) (r : Written) (output : List ℕ)
     → WrittenByRules metadata input perBlock perIndex room r output → r .number ≡ 0
-    → (rs : List (List ℕ)) × InputOf input rs × ((bs : List Block) × HoldsRecords metadata input rs (take (r .length) output) bs)
+    → (rs : List (List ℕ)) × InputOf input rs
+    × ((bs : List Block) × HoldsRecords metadata input rs (take (r .length) output) bs × WrittenLayout perBlock perIndex (take (r .length) output) bs)
 written-output metadata input perBlock perIndex room r output w z =
     let s = exact-0 metadata input perBlock perIndex room r output w .0 z .0 in
     let written = w .written (s .records) (s .form) z in (
       s .records,
       s .form,
-      (
-        written .1 .0,
-        subst (λ (file : List ℕ). HoldsRecords metadata input (s .records) file (written .1 .0)) (sym (written .0 .front-is)) (written .1 .1),
-      ),
+      subst (λ (file : List ℕ). (bs : List Block) × HoldsRecords metadata input (s .records) file bs × WrittenLayout perBlock perIndex file bs)
+          (sym (written .0 .front-is)) (written .1),
     )
