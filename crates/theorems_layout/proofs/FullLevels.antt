@@ -164,7 +164,8 @@ module _ (perBlock perIndex : ℕ) where
       go true rest = subst (λ (l : List IndexBlock). Chain Next (map placedIndex l)) (sym (append-nil here)) own
       go false rest =
           subst (Chain Next) (sym (map-append placedIndex here above))
-          (chain-append Next (map placedIndex here) (map placedIndex above) own (rest next (map entryFor here)) (λ x m y zs e. inr (omega (arith, seam x m y zs e))))
+          (chain-append Next (map placedIndex here) (map placedIndex above) own (rest next (map entryFor here))
+          (λ x m y zs e. inr (omega (arith, seam x m y zs e))))
 
   -- no index block has more than perIndex entries
   levels-most : 1 ≤ perIndex → (fuel level at : ℕ) (es : List IndexEntry) (w : IndexBlock) → List·Memᴰ w (levelsFrom fuel perIndex level at es)
