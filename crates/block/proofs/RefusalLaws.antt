@@ -14,7 +14,8 @@ use Rattle.payload.specs.Payload.{textAt, entryAt, recordsAt, entriesAt}
 use Rattle.payload.proofs.RefusalLaws.{text-refuses, entry-refuses, payload-refuses}
 use Rattle.block.specs.Block.{Block, isData, isOrdinary, blockIn, blockAt, blockStep, blocksAt}
 
-module _ (Kind : ℕ → Type 0) (k10 : Kind 10) (k11 : Kind 11) (k12 : Kind 12) (k13 : Kind 13) (k14 : Kind 14) (k15 : Kind 15) (k16 : Kind 16) (k21 : Kind 21) where
+module _ (Kind : ℕ → Type 0) (k10 : Kind 10) (k11 : Kind 11) (k12 : Kind 12) (k13 : Kind 13) (k14 : Kind 14) (k15 : Kind 15) (k16 : Kind 16)
+    (k21 : Kind 21) where
   pub frame-refuses : (file : List ℕ) (at : ℕ) → Refuses Kind (soundFrameAt file at)
   unfolding soundFrameAt frameAt framed
   frame-refuses file at =
@@ -36,7 +37,8 @@ module _ (Kind : ℕ → Type 0) (k10 : Kind 10) (k11 : Kind 11) (k12 : Kind 12)
           (answer (record { frame = f; records = []; entries = [] }))))
       go true o =
           refuses-bind Kind (recordsAt (f .start) s (f .body + 1)) _
-          (payload-refuses Kind k11 k12 k15 (textAt (f .start) s) (λ r. r) 16 (f .start) (length s) (f .body + 1) k16 (text-refuses Kind k11 k12 k15 (f .start) s))
+          (payload-refuses Kind k11 k12 k15 (textAt (f .start) s) (λ r. r) 16 (f .start) (length s) (f .body + 1) k16
+          (text-refuses Kind k11 k12 k15 (f .start) s))
           (λ rs. refuses-answer Kind _)
       go false true =
           refuses-bind Kind (entriesAt (f .start) s (f .body + 1)) _
@@ -49,5 +51,6 @@ module _ (Kind : ℕ → Type 0) (k10 : Kind 10) (k11 : Kind 11) (k12 : Kind 12)
   unfolding blocksAt blockStep blockAt
   blocks-refuses file at =
       refuses-items Kind (blockStep file) (length file)
-      (λ a. refuses-bind Kind (blockAt file a) _ (refuses-bind Kind (soundFrameAt file a) (blockIn file) (frame-refuses file a) (inside-refuses file)) (λ b. refuses-answer Kind _))
+      (λ a. refuses-bind Kind (blockAt file a) _ (refuses-bind Kind (soundFrameAt file a) (blockIn file) (frame-refuses file a) (inside-refuses file))
+      (λ b. refuses-answer Kind _))
       (length file - at) at

@@ -14,14 +14,16 @@ module _ (Kind : ℕ → Type 0) (k11 : Kind 11) (k12 : Kind 12) (k15 : Kind 15)
   pub text-refuses : (place : ℕ) (s : List ℕ) (at : ℕ) → Refuses Kind (textAt place s at)
   unfolding textAt
   text-refuses place s at =
-      refuses-bind Kind (numberAt 15 place s at) _ (number-refuses Kind k11 k12 15 place s at k15) (λ n. refuses-rule Kind _ 15 place _ k15 (refuses-answer Kind _))
+      refuses-bind Kind (numberAt 15 place s at) _ (number-refuses Kind k11 k12 15 place s at k15)
+      (λ n. refuses-rule Kind _ 15 place _ k15 (refuses-answer Kind _))
 
   pub entry-refuses : (place : ℕ) (s : List ℕ) (at : ℕ) → Refuses Kind (entryAt place s at)
   unfolding entryAt entrySized
   entry-refuses place s at =
       refuses-bind Kind (textAt place s at) _ (text-refuses place s at)
       (λ key. refuses-bind Kind (numberAt 15 place s (key .next)) _ (number-refuses Kind k11 k12 15 place s (key .next) k15)
-      (λ offset. refuses-bind Kind (numberAt 15 place s (offset .next)) _ (number-refuses Kind k11 k12 15 place s (offset .next) k15) (λ size. refuses-answer Kind _)))
+      (λ offset. refuses-bind Kind (numberAt 15 place s (offset .next)) _ (number-refuses Kind k11 k12 15 place s (offset .next) k15)
+      (λ size. refuses-answer Kind _)))
 
   pub payload-refuses : {A : Type 0} (step : ℕ → Outcome (Step A)) (textOf : A → Text) (unsorted place end at : ℕ) → Kind unsorted
       → ((a : ℕ) → Refuses Kind (step a)) → Refuses Kind (payloadAt step textOf unsorted place end at)

@@ -76,19 +76,27 @@ module _ (perIndex from : ℕ) (blocks : List (List (List ℕ))) (good : Writabl
   abbrev KeyLeads : IndexEntry → Type 0
   KeyLeads e = Leads perIndex from blocks good KeyHolds 0 e
 
+  -- what a data block leads to
+  pub under-data : (at : ℕ) (s : List ℕ) (rs : List (List ℕ)) (more : List (List (List ℕ)))
+      → List·Memᴰ (placedData at (s ∷ rs)) (placedBlocks perIndex from blocks)
+      → under (placedBlocks perIndex from blocks) 0 at ≡ data-first at s rs more .first ∷ data-first at s rs more .rest
+  unfolding under leaves flatMap
+  under-data at s rs more member =
+      append-nil (blockRecords bs at) ∙ ap (blockRecords bs) (sym (data-start at (s ∷ rs)))
+      ∙ records-at bs (rootEntry perIndex from blocks .offset) (written-Tree perIndex from blocks good) (placedData at (s ∷ rs)) member
+      ∙ data-first at s rs more .records-are
+
   -- one block, after the records `earlier`
   leads-first : (before : Option (List ℕ)) (at : ℕ) (s : List ℕ) (rs : List (List ℕ)) (more : List (List (List ℕ))) (earlier : List Text)
       → recordsOf bs ≡ earlier ++ flatMap (λ b. b .records) (placedDatas at ((s ∷ rs) ∷ more)) → List·Memᴰ (placedData at (s ∷ rs)) bs
       → Between before earlier (joined ((s ∷ rs) ∷ more)) → (size : ℕ)
       → KeyLeads (record { key = keyFor before s; offset = at; size = size })
-  unfolding under leaves KeyHolds joined flatMap
+  unfolding KeyHolds joined flatMap
   leads-first before at s rs more earlier all member between size =
       record {
         first = f .first;
         rest = f .rest;
-        under-is = append-nil (blockRecords bs at) ∙ ap (blockRecords bs) (sym (data-start at (s ∷ rs)))
-            ∙ records-at bs (rootEntry perIndex from blocks .offset) (written-Tree perIndex from blocks good) (placedData at (s ∷ rs)) member
-            ∙ f .records-are;
+        under-is = under-data at s rs more member;
         holds = (
           subst (λ (l : List ℕ). atMost (keyFor before s) l ≡ true) (sym (f .bytes-are)) (key-atMost-first before s),
           λ r m less. go r less (List·Memᴰ·append-cases earlier (subst (List·Memᴰ r) all m)),

@@ -10,5 +10,8 @@ pub mod SortedParts
 pub mod WrittenRecords
 pub mod WrittenKeys
 pub mod DataKeys
+pub mod FirstKeys
+pub mod FullLevels
+pub mod LevelCounts
 pub mod WrittenTree
 pub mod WrittenFile

@@ -1,11 +1,13 @@
--- A written file keeps the rules of the format: it is accepted, with the blocks and the records that were written.
+-- A written file keeps the rules of the format: it is accepted, with the blocks and the records that were written. And it is laid out as
+-- claimed.
 -- Assumes nothing.
-use mathlib.Core.Path.{_≡_, sym, ap, _∙_}
+use mathlib.Core.Path.{_≡_, sym, ap, _∙_, subst}
 use mathlib.Core.Logic.{_≢_}
 use mathlib.Core.List.{List, []}
-use Prim.Native.Nat.{ℕ, _+_}
+use Prim.Native.Nat.{ℕ, _+_, _≤_}
 use native.Mathlib.Omega.{arith}
 use lib.ListN.{length}
+use Rattle.lists.specs.Groups.{groups}
 use Rattle.outcome.specs.Outcome.{answer}
 use Rattle.sha256.specs.Sha256.{sha256}
 use Rattle.header.specs.declared.Header.{Header}
@@ -22,8 +24,12 @@ use Rattle.theorems_check.proofs.HeaderRuleLaws.{header⇒HeaderRules}
 use Rattle.theorems_check.proofs.BlockRuleLaws.{blocks⇒Fill}
 use Rattle.theorems_check.proofs.AcceptLaws.{Rules⇒accepted}
 use Rattle.theorems_layout.specs.WrittenTree.{joined, Writable}
+use Rattle.theorems_layout.specs.WrittenLayout.{EndsOn, WrittenLayout}
 use Rattle.theorems_layout.proofs.WritableLaws.{file-writable}
 use Rattle.theorems_layout.proofs.WrittenTree.{written-rules}
+use Rattle.theorems_layout.proofs.FullLevels.{written-followed, written-data-first, written-no-fuller}
+use Rattle.theorems_layout.proofs.LevelCounts.{written-ends}
+use Rattle.theorems_layout.proofs.FirstKeys.{written-keys}
 
 module _ (metadata : List ℕ) (blocks : List (List (List ℕ))) (perIndex : ℕ) (fits : FileFits metadata blocks perIndex) (some : blocks ≢ []) where
   abbrev file : List ℕ
@@ -65,3 +71,25 @@ module _ (metadata : List ℕ) (blocks : List (List (List ℕ))) (perIndex : ℕ
   -- a written file is accepted
   pub file-accepted : acceptOf file ≡ answer bs
   file-accepted = Rules⇒accepted file bs file-rules
+
+-- and a file of records in groups is laid out as claimed
+pub file-layout : (metadata : List ℕ) (rs : List (List ℕ)) (perBlock perIndex : ℕ) → 1 ≤ perBlock → FileFits metadata (groups perBlock rs) perIndex
+    → groups perBlock rs ≢ []
+    → WrittenLayout perBlock perIndex (fileOf metadata (groups perBlock rs) perIndex) (placedBlocks perIndex (blocksStart metadata) (groups perBlock rs))
+unfolding blocksStart
+file-layout metadata rs perBlock perIndex one fits some =
+    let blocks = groups perBlock rs in
+    let from = blocksStart metadata in
+    let file = fileOf metadata blocks perIndex in
+    let good = fits-writable metadata blocks perIndex fits some in
+    let is = header-is metadata blocks perIndex fits some in
+    let ends = written-ends perIndex from blocks good in
+    record {
+      plain = let H-is = is .is-blocks in let M-is = is .is-metadata in omega arith;
+      data-first = written-data-first perBlock perIndex from rs one good;
+      followed = written-followed perBlock perIndex from rs one good;
+      no-fuller = written-no-fuller perBlock perIndex from rs one good;
+      top = ends .0;
+      ends = subst (λ (root : ℕ). EndsOn (placedBlocks perIndex from blocks) root (ends .0)) (is .is-root) (ends .1);
+      keys = written-keys perIndex from blocks good;
+    }

@@ -4,19 +4,22 @@
 use mathlib.Core.Path.{_≡_, refl, sym, ap, _∙_, subst}
 use mathlib.Core.Logic.{_≢_, _⊎_, inl, inr}
 use mathlib.Core.List.{List, [], _∷_, _++_, flatMap, map, List·Memᴰ, List·Memᴰ·head, List·Memᴰ·append-cases, List·Memᴰ·eq-of-singleton}
-use mathlib.Core.List.{Memᴰ·append-left, Memᴰ·append-right, Memᴰ·of-map}
-use Prim.Native.Nat.{ℕ, suc, _+_}
+use mathlib.Core.List.{List·Memᴰ·not-nil, Memᴰ·append-left, Memᴰ·append-right, Memᴰ·of-map, head-eq-of-cons-eq}
+use mathlib.Core.Option.{none}
+use Prim.Native.Nat.{ℕ, suc, _+_, _-_}
 use native.Mathlib.Omega.{arith}
 use Rattle.lists.proofs.ListsLaws.{flatMap-append, member-flatMap}
-use Rattle.payload.specs.Payload.{Text}
+use Rattle.payload.specs.Payload.{Text, Entry}
 use Rattle.block.specs.Block.{Block}
 use Rattle.tree.specs.Tree.{blockRecords, leaves, under}
 use Rattle.layout.specs.Index.{IndexEntry, IndexBlock, firstKey, entryFor, levelFrom}
-use Rattle.layout.specs.File.{indexBlocks}
-use Rattle.layout.specs.Placed.{placedBlocks}
+use Rattle.layout.specs.File.{dataEntries, indexBlocks}
+use Rattle.layout.specs.Placed.{placedIndex, placedBlocks}
 use Rattle.layout.proofs.IndexFitLaws.{level-member}
 use Rattle.theorems_layout.specs.WrittenTree.{Writable}
 use Rattle.theorems_layout.proofs.Levels.{Levels, top, higher}
+use Rattle.theorems_layout.proofs.PlacedLaws.{Reads, placed-entry, index-level, index-entries, datas-member}
+use Rattle.theorems_layout.proofs.WrittenNames.{Kinds, block-kinds, levels-few, written-levels}
 use Rattle.theorems_layout.proofs.WrittenWalk.{leaves-index}
 
 module _ (perIndex from : ℕ) (blocks : List (List (List ℕ))) (good : Writable perIndex blocks) (Holds : (key : List ℕ) (first : Text) → Type 0) where
@@ -84,3 +87,32 @@ module _ (perIndex from : ℕ) (blocks : List (List (List ℕ))) (good : Writabl
           let below : l ≡ k = omega arith in
           subst (λ (j : ℕ). Leads j e) below (entry w i e n)
       go (inr i) later = later i
+
+  -- every entry of the file, where this holds of those over the data blocks
+  module _ (lowest : (e : IndexEntry) → List·Memᴰ e (dataEntries none from blocks) → Leads 0 e) where
+    keyed-index : (w : IndexBlock) → List·Memᴰ w index → (e : Entry) → List·Memᴰ e (placedIndex w .entries)
+        → (first : Text) (rest : List Text) → under bs (w .level - 1) (e .offset) ≡ first ∷ rest → Holds (e .key .bytes) first
+    keyed-index w m e n first rest leads =
+        let es = index-entries w in
+        let v = placed-entry (es .0) (w .entries) e (subst (List·Memᴰ e) (es .1) n) in
+        let low = levels-few perIndex from blocks good w m .0 in
+        let level : w .level ≡ suc (w .level - 1) = omega arith in
+        go (v .0) (v .2)
+        (leads-up 1 _ (dataEntries none from blocks) index (written-levels perIndex from blocks good) 0 refl (λ u i. i) lowest w m (v .0) (v .1)
+        (w .level - 1) level)
+      where
+        go : (v : IndexEntry) → Reads e v → Leads (w .level - 1) v → Holds (e .key .bytes) first
+        go v reads l =
+            let same = head-eq-of-cons-eq (sym (l .under-is) ∙ ap (under bs (w .level - 1)) (sym (reads .offset-is)) ∙ leads) in
+            subst (Holds (e .key .bytes)) same (subst (λ (key : List ℕ). Holds key (l .first)) (sym (reads .key-is)) (l .holds))
+
+    pub keyed-by : (b : Block) → List·Memᴰ b (placedBlocks perIndex from blocks) → (e : Entry) → List·Memᴰ e (b .entries)
+        → (first : Text) (rest : List Text) → under (placedBlocks perIndex from blocks) (b .frame .level - 1) (e .offset) ≡ first ∷ rest
+        → Holds (e .key .bytes) first
+    keyed-by b m e n first rest leads = go (block-kinds perIndex from blocks b m)
+      where
+        go : Kinds perIndex from blocks b → Holds (e .key .bytes) first
+        go (inl d) = absurd (List·Memᴰ·not-nil (subst (List·Memᴰ e) (datas-member from blocks b d .2 .no-entries) n))
+        go (inr i) =
+            keyed-index (i .0) (i .1) e (subst (λ (c : Block). List·Memᴰ e (c .entries)) (sym (i .2)) n) first rest
+            (ap (λ (l : ℕ). under bs (l - 1) (e .offset)) (sym (index-level (i .0)) ∙ ap (λ (c : Block). c .frame .level) (i .2)) ∙ leads)

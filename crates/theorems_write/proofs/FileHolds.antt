@@ -1,4 +1,4 @@
--- The file of an input holds its metadata and its records.
+-- The file of an input holds its metadata and its records, and is laid out as claimed.
 -- Assumes nothing.
 use mathlib.Core.Path.{_≡_, sym, ap, _∙_, subst}
 use mathlib.Core.Logic.{_≢_}
@@ -22,10 +22,11 @@ use Rattle.layout.proofs.FileBackLaws.{FileFits, file-header-back, file-metadat
 use Rattle.theorems_check.specs.Rules.{Sorted}
 use Rattle.theorems_check.proofs.SortedLaws.{Sorted⇒rising}
 use Rattle.theorems_layout.specs.WrittenTree.{joined}
+use Rattle.theorems_layout.specs.WrittenLayout.{WrittenLayout}
 use Rattle.theorems_layout.proofs.WritableLaws.{joined-groups}
 use Rattle.theorems_layout.proofs.WrittenRecords.{written-records}
 use Rattle.theorems_layout.proofs.WrittenNames.{blocks-few}
-use Rattle.theorems_layout.proofs.WrittenFile.{fits-writable, file-rules, file-accepted}
+use Rattle.theorems_layout.proofs.WrittenFile.{fits-writable, file-rules, file-accepted, file-layout}
 use Rattle.theorems_write.specs.WrittenByRules.{CountsFit, InputOf, HoldsRecords}
 
 module _ (metadata input : List ℕ) (perBlock perIndex : ℕ) (metadata-bytes : AreBytes metadata) (input-bytes : AreBytes input)
@@ -83,3 +84,8 @@ module _ (metadata input : List ℕ) (perBlock perIndex : ℕ) (metadata-bytes :
         payloads-are = file-payloads-back metadata blocks perIndex fits ∙ joined-input;
         low = λ b m. omega (arith, blocks-few perIndex from blocks (fits-writable metadata blocks perIndex fits some) b m);
       }
+
+  -- and is laid out as claimed
+  pub file-laid : WrittenLayout perBlock perIndex (fileOf metadata (groups perBlock rs) perIndex)
+      (placedBlocks perIndex (blocksStart metadata) (groups perBlock rs))
+  file-laid = file-layout metadata rs perBlock perIndex one fits some

@@ -81,7 +81,9 @@ module _ (input : List ℕ) where
       let row = items⇒row (textAt 0 input) (length input) (text-forward 0 input) (length input - 0) 0 ts (omega arith) e in
       record {
         bytes = row-encoded 0 input 0 ts bytes row;
-        some = λ none. let some = row-some (textAt 0 input) (length input) 0 ts row long in let same = sym (length-map ts (λ t. t .bytes)) ∙ ap length none in omega arith;
+        some = λ none. let some = row-some (textAt 0 input) (length input) 0 ts row long in
+            let same = sym (length-map ts (λ t. t .bytes)) ∙ ap length none in
+            omega arith;
         short = λ x m. omega (arith, row-short 0 input 0 ts row x m);
       }
 

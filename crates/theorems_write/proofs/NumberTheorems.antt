@@ -100,13 +100,14 @@ module _ (metadata input : List ℕ) (perBlock perIndex room : ℕ) where
           limit false h = absurd (f (ltb-false room long e, ltb-false (2 ^ 30) long h))
 
   module _ (r : Written) (output : List ℕ) (w : WrittenByRules metadata input perBlock perIndex room r output) where
-    number-is : (n : ℕ) → Ends metadata input perBlock perIndex room n → r .number ≡ n
-    number-is n e = ends-one (r .number) n (w .ends) e
+    -- a number is answered exactly if its reason holds
+    pub number-exactly : (n : ℕ) → (r .number ≡ n) ↔ Ends metadata input perBlock perIndex room n
+    number-exactly n = (λ e. subst (Ends metadata input perBlock perIndex room) e (w .ends), λ e. ends-one (r .number) n (w .ends) e)
 
     -- 31 exactly where no other refusal applies and the file is longer than the output or than 2^30 bytes
     pub exact-31 : (r .number ≡ 31) ↔ ((s : Sound) × ((room < fileLength s) ⊎ (2 ^ 30 < fileLength s)))
     unfolding Fits
-    exact-31 = (λ e. there (r .number) (w .ends) e, λ p. number-is 31 (back (p .0) (p .1)))
+    exact-31 = (λ e. there (r .number) (w .ends) e, λ p. number-exactly 31 .1 (back (p .0) (p .1)))
       where
         there : (n : ℕ) → Ends metadata input perBlock perIndex room n → n ≡ 31 → (s : Sound) × ((room < fileLength s) ⊎ (2 ^ 30 < fileLength s))
         there n (counts-out-of-range f) e = absurd (omega arith)
@@ -123,7 +124,7 @@ module _ (metadata input : List ℕ) (perBlock perIndex room : ℕ) where
 
     -- 0 exactly if none applies and the file fits
     pub exact-0 : (r .number ≡ 0) ↔ ((s : Sound) × Fits room (fileOf metadata (groups perBlock (s .records)) perIndex))
-    exact-0 = (λ e. there (r .number) (w .ends) e, λ p. number-is 0 (done (p .0 .counts) (p .0 .rule) (p .0 .records) (p .0 .form) (p .0 .rise) (p .1)))
+    exact-0 = (λ e. there (r .number) (w .ends) e, λ p. number-exactly 0 .1 (done (p .0 .counts) (p .0 .rule) (p .0 .records) (p .0 .form) (p .0 .rise) (p .1)))
       where
         there : (n : ℕ) → Ends metadata input perBlock perIndex room n → n ≡ 0 → (s : Sound) × Fits room (file (s .records))
         there n (counts-out-of-range f) e = absurd (omega arith)

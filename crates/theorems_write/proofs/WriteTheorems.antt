@@ -25,11 +25,12 @@ use Rattle.writer.specs.declared.Written.{Written}
 use Rattle.writer.specs.Write.{countsFit, inputOf, recordsToWrite, writeOf, writtenAnswer, writtenOutput}
 use Rattle.writer.proofs.InputRuleLaws.{refused-at-30, refused-at-9, to-input}
 use Rattle.theorems_check.specs.Rules.{Sorted}
+use Rattle.theorems_layout.specs.WrittenLayout.{WrittenLayout}
 use Rattle.theorems_write.specs.WrittenByRules.{CountsFit, InputOf, Fits, HoldsRecords, HoldsFile, WrittenByRules}
 use Rattle.theorems_write.specs.WrittenByRules.{Ends, counts-out-of-range, no-metadata, malformed, unsorted, too-long, done}
 use Rattle.theorems_write.proofs.InputTheorems.{InputEnds, sorted, input-ends, input-unique}
 use Rattle.theorems_write.proofs.InputTheorems as reading
-use Rattle.theorems_write.proofs.FileHolds.{file-holds}
+use Rattle.theorems_write.proofs.FileHolds.{file-holds, file-laid}
 
 -- ---- the tests
 
@@ -38,8 +39,12 @@ unfolding countsFit CountsFit
 counts⇒CountsFit b i e =
     let p = both⁻¹ (leb 1 b && leb b 65535) (leb 2 i && leb i 65535) e in
     let block = both⁻¹ (leb 1 b) (leb b 65535) (p .0) in
-    let index = both⁻¹ (leb 2 i) (leb i 65535) (p .1) in
-    (omega (arith, leb-true 1 b (block .0)), omega (arith, leb-true b 65535 (block .1)), omega (arith, leb-true 2 i (index .0)), omega (arith, leb-true i 65535 (index .1)))
+    let index = both⁻¹ (leb 2 i) (leb i 65535) (p .1) in (
+      omega (arith, leb-true 1 b (block .0)),
+      omega (arith, leb-true b 65535 (block .1)),
+      omega (arith, leb-true 2 i (index .0)),
+      omega (arith, leb-true i 65535 (index .1)),
+    )
 
 CountsFit⇒counts : (b i : ℕ) → CountsFit b i → countsFit b i ≡ true
 unfolding countsFit CountsFit
@@ -80,19 +85,25 @@ module _ (metadata input : List ℕ) (perBlock perIndex room : ℕ) where
           ends = done c m rs r s f;
           place = refl;
           refused = λ some. absurd (some refl);
-          written = λ ss q z. subst Held (input-unique input rs ss r q) (held, (placedBlocks perIndex (blocksStart metadata) (groups perBlock rs), holds));
+          written = λ ss q z. subst Held (input-unique input rs ss r q) (held, (blocks, holds, laid));
         }
       where
         Held : List (List ℕ) → Type 0
         Held ss =
             HoldsFile room (record { number = 0; place = 0; length = length (file rs) }) (padded room (file rs)) (file ss)
-            × ((bs : List Block) × HoldsRecords metadata input ss (file ss) bs)
+            × ((bs : List Block) × HoldsRecords metadata input ss (file ss) bs × WrittenLayout perBlock perIndex (file ss) bs)
 
         held : HoldsFile room (record { number = 0; place = 0; length = length (file rs) }) (padded room (file rs)) (file rs)
         held = record { length-is = refl; output-is = refl; front-is = take-padded room (file rs) }
 
-        holds : HoldsRecords metadata input rs (file rs) (placedBlocks perIndex (blocksStart metadata) (groups perBlock rs))
+        blocks : List Block
+        blocks = placedBlocks perIndex (blocksStart metadata) (groups perBlock rs)
+
+        holds : HoldsRecords metadata input rs (file rs) blocks
         holds = file-holds metadata input perBlock perIndex metadata-bytes input-bytes c m rs r s (omega (arith, f .1))
+
+        laid : WrittenLayout perBlock perIndex (file rs) blocks
+        laid = file-laid metadata input perBlock perIndex metadata-bytes input-bytes c m rs r s (omega (arith, f .1))
 
     write-claimed : AsClaimed (writeOf metadata input perBlock perIndex room)
     unfolding writeOf

@@ -18,6 +18,7 @@ use Rattle.layout.specs.File.{fileOf}
 use Rattle.writer.specs.declared.Written.{Written}
 use Rattle.checker.specs.Check.{acceptOf}
 use Rattle.theorems_check.specs.Rules.{Sorted, Rules}
+use Rattle.theorems_layout.specs.WrittenLayout.{WrittenLayout}
 
 -- ---- which inputs are written
 
@@ -74,7 +75,8 @@ pub record WrittenByRules (metadata input : List ℕ) (perBlock perIndex room : 
   pub place : r .place ≡ 0
   -- after a refusal no length, and zeros
   pub refused : r .number ≢ 0 → (r .length ≡ 0) × (output ≡ zeros room)
-  -- else the file of the records, and what it holds
+  -- else the file of the records, what it holds, and its layout
   pub written : (rs : List (List ℕ)) → InputOf input rs → r .number ≡ 0
       → HoldsFile room r output (fileOf metadata (groups perBlock rs) perIndex)
-      × ((bs : List Block) × HoldsRecords metadata input rs (fileOf metadata (groups perBlock rs) perIndex) bs)
+      × ((bs : List Block) × HoldsRecords metadata input rs (fileOf metadata (groups perBlock rs) perIndex) bs
+      × WrittenLayout perBlock perIndex (fileOf metadata (groups perBlock rs) perIndex) bs)
