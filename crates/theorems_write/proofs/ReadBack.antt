@@ -25,8 +25,8 @@ use Rattle.theorems_check.specs.CheckedByRules.{CheckedByRules}
 use Rattle.theorems_read.specs.ReadByRules.{GivesMatches, ReadByRules}
 use Rattle.theorems_read.proofs.ReadAccepted.{accepted⇒matches}
 use Rattle.theorems_layout.specs.WrittenLayout.{WrittenLayout}
-use Rattle.theorems_search.specs.OpeningRule.{RuleOpens}
 use Rattle.theorems_search.specs.SearchedByRules.{Searched, SearchedByRules}
+use Rattle.theorems_search.proofs.SearchAccepted.{opened-few}
 use Rattle.theorems_write.specs.WrittenByRules.{InputOf, HoldsRecords, WrittenByRules}
 use Rattle.theorems_write.proofs.NumberTheorems.{exact-0}
 
@@ -81,15 +81,17 @@ module _ (metadata input : List ℕ) (rs : List (List ℕ)) (file : List ℕ) (b
       let g = written⇒read q room r results read (subst (λ (l : List (List ℕ)). roomFor (length l) ≤ room) (sym all) fits) in
       (g .0, g .1 ∙ all, g .2)
 
-  -- through the index, with places for the blocks that the rule opens and room for those that match
+  -- through the index, with a place for each block and room for those that match
   pub written⇒searched : (q : Query) (places room : ℕ) (r : Found) (list results : List ℕ) → SearchedByRules file q places room r list results
-      → (opened : List ℕ) × RuleOpens file bs q opened
-      × (length opened ≤ places → roomFor (length (keep (matches q) rs)) ≤ room
-      → GivesRecords rs file q room (record { number = r .number; place = r .place; matches = r .matches }) results)
+      → length bs ≤ places → roomFor (length (keep (matches q) rs)) ≤ room
+      → GivesRecords rs file q room (record { number = r .number; place = r .place; matches = r .matches }) results
   unfolding SearchedByRules GivesRecords
-  written⇒searched q places room r list results searched =
+  written⇒searched q places room r list results searched enough fits =
       let s = searched bs (holds .accepted) in
-      (s .0, s .1, λ enough fits. let h = matching-fits q room fits in (matching q (recordsOf bs), matching-bytes q, found (s .0) (s .2 enough h) h))
+      let few = opened-few file bs (holds .accepted) q (s .0) (s .1) in
+      let all = ap length all-ordinary in
+      let h = matching-fits q room fits in
+      (matching q (recordsOf bs), matching-bytes q, found (s .0) (s .2 (omega arith) h) h)
     where
       found : (opened : List ℕ) → Searched file bs q opened places room r list results → roomFor (length (matching q (recordsOf bs))) ≤ room
           → GivesMatches file (matching q (recordsOf bs)) room (record { number = r .number; place = r .place; matches = r .matches }) results
