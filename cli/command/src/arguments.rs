@@ -9,7 +9,7 @@ use zs_library::Query;
 
 use crate::escapes::{resolve, Bytes};
 use crate::records::Form;
-use crate::writing::{BLOCK_BYTES, ENTRIES_PER_BLOCK};
+use crate::writing::{BLOCK_BYTES, ENTRIES_PER_BLOCK, FEWEST_PER_BLOCK, MOST_PER_BLOCK};
 
 const ABOUT: &str = "Makes, checks, reads and searches ZS archives (version 0.10, codec none), by a library that is proved.";
 
@@ -111,7 +111,7 @@ pub enum Command {
 
 #[derive(Args)]
 pub struct Make {
-    /// What the archive says of itself: JSON in braces, or @FILE
+    /// What the archive says of itself: JSON in braces, or @FILE; @- is standard input
     pub metadata: OsString,
     /// The records, in rising order; - is standard input
     pub input: PathBuf,
@@ -123,11 +123,12 @@ pub struct Make {
     /// Take the records in any order, and sort them by their bytes
     #[arg(long)]
     pub sort: bool,
-    #[arg(long, value_name = "N", value_parser = parse_number, allow_hyphen_values = true,
-        help = format!("Records in a data block, 1 to 65535 [default: about {} KiB of them]", BLOCK_BYTES >> 10))]
+    #[arg(long, value_name = "N", value_parser = number_parser(1, MOST_PER_BLOCK), allow_hyphen_values = true,
+        help = format!("Records in a data block, 1 to {MOST_PER_BLOCK} [default: about {} KiB of them, \
+            and {FEWEST_PER_BLOCK} records at the least]", BLOCK_BYTES >> 10))]
     pub records_per_block: Option<u64>,
-    /// Entries in an index block, 2 to 65535
-    #[arg(long, value_name = "N", value_parser = parse_number, allow_hyphen_values = true, default_value_t = ENTRIES_PER_BLOCK)]
+    #[arg(long, value_name = "N", value_parser = number_parser(2, MOST_PER_BLOCK), allow_hyphen_values = true,
+        default_value_t = ENTRIES_PER_BLOCK, help = format!("Entries in an index block, 2 to {MOST_PER_BLOCK}"))]
     pub entries_per_block: u64,
     /// Replace a file that is there already, once the new one is whole
     #[arg(long)]
@@ -161,7 +162,7 @@ pub struct Dump {
     #[command(flatten)]
     pub trust: Trust,
     /// Refuse (27) where more than N records match
-    #[arg(long, value_name = "N", value_parser = parse_number, allow_hyphen_values = true)]
+    #[arg(long, value_name = "N", value_parser = number_parser(0, u64::MAX), allow_hyphen_values = true)]
     pub max_results: Option<u64>,
 }
 
@@ -251,10 +252,10 @@ pub enum Length {
     U64le,
 }
 
-fn parse_number(text: &str) -> Result<u64, String> {
-    let greatest = u64::MAX;
-    let words = format!("give a whole number from 0 to {greatest}");
-    text.parse().map_err(|_| words)
+/// Takes a whole number, and otherwise says what range it has. A number out of that range is left to the library, which refuses it.
+fn number_parser(least: u64, greatest: u64) -> impl Fn(&str) -> Result<u64, String> + Clone {
+    let words = format!("give a whole number from {least} to {greatest}");
+    move |text| text.parse().map_err(|_| words.clone())
 }
 
 /// Takes an argument as bytes, with its escapes resolved.

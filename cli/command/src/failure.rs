@@ -34,10 +34,13 @@ impl Failure {
         Failure::Trouble(format!("{}: {}", escape_name(file), in_words(error)))
     }
 
-    /// The line for a person, if there is anything to say. `name` is that of the file.
-    pub fn describe(&self, name: &str) -> Option<String> {
+    /// The line for a person, if there is anything to say. `file` is the one that is refused, if one is.
+    pub fn describe(&self, file: Option<&Path>) -> Option<String> {
         match self {
-            Failure::Refused(refusal) => Some(format!("{name}: {}", refusal.describe())),
+            Failure::Refused(refusal) => {
+                let name = file.map_or(String::new(), |file| format!("{}: ", escape_name(file)));
+                Some(format!("{name}{}", refusal.describe()))
+            }
             Failure::Trouble(words) => Some(words.clone()),
             Failure::ReaderGone => None,
         }

@@ -1,7 +1,8 @@
 //! The bytes of an archive. Has unsafe code: it maps files.
 
-use std::fs::File;
+use std::fs::{self, File};
 use std::io::{self, Read};
+use std::os::unix::fs::MetadataExt;
 use std::path::Path;
 
 use zs_library::Mapping;
@@ -58,15 +59,25 @@ pub fn read_any(path: &Path, longest: u64) -> Result<Option<Vec<u8>>, Failure> {
 
 /// The path by which the system knows an input: `-` is standard input.
 pub fn system_path(path: &Path) -> &Path {
-    if is_standard_input(path) {
+    if is_dash(path) {
         Path::new("/dev/stdin")
     } else {
         path
     }
 }
 
-pub fn is_standard_input(path: &Path) -> bool {
+fn is_dash(path: &Path) -> bool {
     path == Path::new("-")
+}
+
+/// Whether a path is standard input, also by another name, as /dev/stdin.
+pub fn is_standard_input(path: &Path) -> bool {
+    let own = lend_descriptor(0).and_then(|file| file.metadata());
+    match (own, fs::metadata(path)) {
+        _ if is_dash(path) => true,
+        (Ok(own), Ok(other)) => (own.dev(), own.ino()) == (other.dev(), other.ino()),
+        _ => false,
+    }
 }
 
 /// Maps a file above `longest_read` bytes, and reads a shorter one. What has no length, as a pipe, can only be read.
@@ -97,7 +108,7 @@ fn load(path: &Path, longest_read: u64) -> Result<Input, Failure> {
 
 /// Opens a file, and gives its length if it has one. Standard input is read from where it stands, whatever it is.
 fn open(path: &Path) -> io::Result<(File, Option<u64>)> {
-    if is_standard_input(path) {
+    if is_dash(path) {
         return Ok((lend_descriptor(0)?.try_clone()?, None));
     }
     let file = File::open(path)?;

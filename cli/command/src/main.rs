@@ -46,19 +46,18 @@ mod validate;
 mod walk;
 mod writing;
 
+use std::path::Path;
 use std::process::ExitCode;
 
 use arguments::{Arguments, Command};
 use clap::Parser;
-use escapes::escape_name;
 use failure::{complain, Failure, Status};
-use output::STANDARD_OUTPUT;
 
 fn main() -> ExitCode {
     signals::survive_length_limit();
     let status = match Arguments::try_parse() {
         Ok(arguments) => run(&arguments.command),
-        Err(help_or_mistake) => report(STANDARD_OUTPUT, usage::show(help_or_mistake)),
+        Err(help_or_mistake) => report(None, usage::show(help_or_mistake)),
     };
     ExitCode::from(status as u8)
 }
@@ -69,20 +68,20 @@ fn run(command: &Command) -> Status {
             let outcome = make::run(asked);
             (make::file_at_fault(asked, &outcome), outcome)
         }
-        Command::Validate(asked) => return report(STANDARD_OUTPUT, validate::run(asked)),
-        Command::Dump(asked) => (asked.file.as_path(), dump::run(asked)),
-        Command::Info(asked) => (asked.file.as_path(), info::run(asked)),
-        Command::Explain(asked) => (asked.file.as_path(), explain::run(asked)),
+        Command::Validate(asked) => return report(None, validate::run(asked)),
+        Command::Dump(asked) => (Some(asked.file.as_path()), dump::run(asked)),
+        Command::Info(asked) => (Some(asked.file.as_path()), info::run(asked)),
+        Command::Explain(asked) => (Some(asked.file.as_path()), explain::run(asked)),
     };
-    report(&escape_name(file), outcome.map(|()| Status::Answered))
+    report(file, outcome.map(|()| Status::Answered))
 }
 
-/// Says on standard error why a command didn't answer, and what to do about it. `name` is that of the file.
-fn report(name: &str, outcome: Result<Status, Failure>) -> Status {
+/// Says on standard error why a command didn't answer, and what to do about it. `file` is the one that is refused, if one is.
+fn report(file: Option<&Path>, outcome: Result<Status, Failure>) -> Status {
     match outcome {
         Ok(status) => status,
         Err(failure) => {
-            if let Some(reason) = failure.describe(name) {
+            if let Some(reason) = failure.describe(file) {
                 complain(&reason);
             }
             if let Some(advice) = failure.advice() {

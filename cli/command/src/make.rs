@@ -21,6 +21,7 @@ use crate::writing::{refuse_early, usual_count, Draft, Made, FEWEST_PER_BLOCK};
 /// Writes nothing before the whole archive is known. It isn't checked then: that it would be accepted is proved of the library.
 pub fn run(asked: &Make) -> Result<(), Failure> {
     let form = find_form(asked)?;
+    refuse_mistakes(asked)?;
     let output = find_output(asked)?;
     let line_output = find_line_output(asked, &output)?;
     let metadata = read_metadata(asked)?;
@@ -49,11 +50,18 @@ pub fn run(asked: &Make) -> Result<(), Failure> {
     })
 }
 
-/// The file that a refusal is about: the input where its records are at fault.
-pub fn file_at_fault<'a>(asked: &'a Make, outcome: &Result<(), Failure>) -> &'a Path {
-    match outcome {
-        Err(Failure::Refused(refusal)) if [28, 29].contains(&refusal.number) => &asked.input,
-        _ => &asked.output,
+/// The file that is refused: that of the metadata, named as it is given, the input, or the archive that would be too long. Where an
+/// argument itself is at fault there is none.
+pub fn file_at_fault<'a>(asked: &'a Make, outcome: &Result<(), Failure>) -> Option<&'a Path> {
+    let number = match outcome {
+        Err(Failure::Refused(refusal)) => refusal.number,
+        _ => return None,
+    };
+    match number {
+        9 => metadata_file(&asked.metadata).map(|_| Path::new(&asked.metadata)),
+        28 | 29 => Some(&asked.input),
+        31 => Some(&asked.output),
+        _ => None,
     }
 }
 
@@ -67,7 +75,21 @@ fn find_form(asked: &Make) -> Result<Form<'_>, Failure> {
     }
 }
 
-/// Finds where the archive goes. That is no input, no file that is to be kept, and no terminal.
+/// Refuses a file of metadata that has no name, and standard input where it would be read twice.
+fn refuse_mistakes(asked: &Make) -> Result<(), Failure> {
+    let words = match metadata_file(&asked.metadata) {
+        Some(file) if file.as_os_str().is_empty() => {
+            "METADATA: @ needs the name of a file, as in @about.json"
+        }
+        Some(file) if is_standard_input(file) && is_standard_input(&asked.input) => {
+            "standard input can't be both METADATA and INPUT"
+        }
+        _ => return Ok(()),
+    };
+    Err(Failure::Trouble(words.into()))
+}
+
+/// Finds where the archive goes, before the input is read. That is no input, no file that is to be kept, and no terminal.
 fn find_output(asked: &Make) -> Result<Output, Failure> {
     let mut output = Output::find(Some(&asked.output))?;
     refuse_inputs(asked, &output)?;
@@ -78,6 +100,7 @@ fn find_output(asked: &Make) -> Result<Output, Failure> {
         let words = "standard output is a terminal, and an archive is no text; name a file";
         return Err(Failure::Trouble(words.into()));
     }
+    output.try_folder()?;
     Ok(output)
 }
 
@@ -116,10 +139,6 @@ fn metadata_file(given: &OsStr) -> Option<&Path> {
 /// Gives the metadata without white space around them, which no archive can have.
 fn read_metadata(asked: &Make) -> Result<Vec<u8>, Failure> {
     let text = match metadata_file(&asked.metadata) {
-        Some(file) if is_standard_input(file) && is_standard_input(&asked.input) => {
-            let words = "standard input can't be both METADATA and INPUT";
-            return Err(Failure::Trouble(words.into()));
-        }
         Some(file) => read(file, "metadata", 1)?,
         None => asked.metadata.as_bytes().to_vec(),
     };

@@ -13,8 +13,6 @@ use crate::system;
 use crate::target::{folder_of, Target};
 use crate::temporary::Temporary;
 
-/// What standard output is called in messages.
-pub const STANDARD_OUTPUT: &str = "standard output";
 const BUFFER: usize = 1 << 16;
 
 /// What writes an answer.
@@ -32,7 +30,7 @@ impl Output {
     /// Finds a file, or standard output where none (or `-`) is named. Nothing is opened for writing yet.
     pub fn find(path: Option<&Path>) -> Result<Self, Failure> {
         let (name, target) = match path.filter(|path| *path != Path::new("-")) {
-            None => (STANDARD_OUTPUT.into(), Target::standard_output()),
+            None => ("standard output".into(), Target::standard_output()),
             Some(path) => (escape_name(path), Target::find(path)),
         };
         match target {
@@ -76,6 +74,17 @@ impl Output {
 
     pub fn is_file(&self, path: &Path) -> bool {
         self.target.is_same_file(system_path(path))
+    }
+
+    /// Sees that a file can be made where this one will be. A pipe or a device isn't tried.
+    pub fn try_folder(&self) -> Result<(), Failure> {
+        let made = match &self.target {
+            Target::Plain(path, about) => create_beside(path, Some(about)),
+            Target::New(path) => create_beside(path, None),
+            Target::Open(_) | Target::Special(_) => return Ok(()),
+        };
+        // The file is removed at once.
+        made.map(drop).map_err(|error| describe(&self.name, &error))
     }
 
     pub fn write(&self, writing: &Writing) -> Result<(), Failure> {
@@ -156,16 +165,20 @@ fn write_whole(
     naming: Naming,
     writing: &Writing,
 ) -> io::Result<()> {
-    let folder = folder_of(target);
-    let temporary = match old {
-        Some(old) => create_like(old, folder)?,
-        None => Temporary::create_in(folder, 0o666)?,
-    };
+    let temporary = create_beside(target, old)?;
     write_buffered(temporary.file(), writing)?;
     naming(temporary, target)?;
     // The file is whole under this name or under the old one. Some folders can't be synced; that is no failure.
-    let _ = File::open(folder).and_then(|folder| folder.sync_all());
+    let _ = File::open(folder_of(target)).and_then(|folder| folder.sync_all());
     Ok(())
+}
+
+fn create_beside(target: &Path, old: Option<&Metadata>) -> io::Result<Temporary> {
+    let folder = folder_of(target);
+    match old {
+        Some(old) => create_like(old, folder),
+        None => Temporary::create_in(folder, 0o666),
+    }
 }
 
 /// Creates a file with the owner, the group and the permissions of the one that it will replace. Before, nobody else may open it.

@@ -190,9 +190,10 @@ fn take_length(form: Length, rest: &mut &[u8]) -> Result<u64, Fault> {
 
 fn take_shortest(rest: &mut &[u8]) -> Result<u64, Fault> {
     let bytes = *rest;
-    let number = take_number(rest).ok_or(match bytes.len() < WIDEST {
-        true => Fault::LengthCut,
-        false => Fault::LengthWide,
+    let number = take_number(rest).ok_or(if bytes.len() < WIDEST {
+        Fault::LengthCut
+    } else {
+        Fault::LengthWide
     })?;
     match bytes[..bytes.len() - rest.len()] {
         [_, .., 0] => Err(Fault::LengthPadded),

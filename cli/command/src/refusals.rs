@@ -1,4 +1,4 @@
-//! Refusals as a person reads them, in the words of the library's table; 27 in those of the command, which has no lists.
+//! Refusals as a person reads them, in the words of the library's table; 27 and 31 in those of the command, to which nobody lends lists or outputs.
 
 use zs_library::refusals::find;
 
@@ -52,6 +52,10 @@ impl Refusal {
         };
         let refusal = Refusal::of_file(number, 0, &[]);
         Refusal {
+            sentence: match number {
+                31 => "the archive would be longer than 1073741824 bytes (2^30)",
+                _ => refusal.sentence,
+            },
             detail,
             advice: advice.or(refusal.advice),
             ..refusal

@@ -41,6 +41,7 @@ impl Target {
                 refuse_read_only(&path, &about)?;
                 Ok(Target::Plain(path, about))
             }
+            Ok(about) if about.is_dir() => Err(io::Error::from_raw_os_error(libc::EISDIR)),
             Ok(_) => Ok(Target::Special(path)),
             Err(error) if error.kind() == ErrorKind::NotFound => accept_free_name(path),
             Err(error) => Err(error),

@@ -49,7 +49,7 @@ fn judge(file: &Path, output: &Output, advice: &mut Advice) -> (Status, String) 
         }
         Err(failure) => failure,
     };
-    let words = failure.describe(&name).unwrap_or_default();
+    let words = failure.describe(Some(file)).unwrap_or_default();
     if let Failure::Refused(refusal) = &failure {
         advice.note(refusal);
         return (Status::Refused, words + "\n");

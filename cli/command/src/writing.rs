@@ -15,7 +15,7 @@ pub const ENTRIES_PER_BLOCK: u64 = 32;
 /// The index repeats the first record of each data block, which would cost much if blocks had fewer records.
 pub const FEWEST_PER_BLOCK: u64 = 16;
 /// The library takes no greater count.
-const MOST_PER_BLOCK: u64 = 65_535;
+pub const MOST_PER_BLOCK: u64 = 65_535;
 
 /// The bytes of a header without its metadata.
 const HEADER: usize = 104;

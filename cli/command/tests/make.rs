@@ -241,6 +241,11 @@ fn usual_blocks_have_about_two_kilobytes() {
         "{}",
         file.len()
     );
+    // Thirteen data blocks of 16 records and less, and the root.
+    assert_eq!(reader::check(&file, file.len()).blocks, 14);
+    let help = zs(&["make", "--help"]).text();
+    let says = "about 2 KiB of them, and 16 records at the least";
+    assert!(help.contains(says), "{help}");
 }
 
 #[test]
@@ -275,9 +280,10 @@ fn inputs_are_files_or_standard_input() {
         let run = shell(line, &folder);
         assert_eq!((run.status, run.err.as_str()), (0, ""), "{line}");
         let file = fs::read(folder.name("out")).expect("the archive");
-        match line.contains("read") {
-            true => assert_eq!(records_of(&file), [b"b"]),
-            false => assert!(file == due, "{line}"),
+        if line.contains("read") {
+            assert_eq!(records_of(&file), [b"b"]);
+        } else {
+            assert!(file == due, "{line}");
         }
         fs::remove_file(folder.name("out")).expect("the archive");
     }
@@ -292,6 +298,8 @@ fn metadata_is_stored_as_it_is_given() {
     assert_eq!(run.status, 0, "{}", run.err);
     let run = shell("$ZS make @- names piped <about", &folder);
     assert_eq!(run.status, 0, "{}", run.err);
+    let help = zs(&["make", "--help"]).text();
+    assert!(help.contains("@FILE; @- is standard input"), "{help}");
     let given = format!(" {about}\n");
     let (names, out) = (folder.name("names"), folder.name("given"));
     assert_eq!(zs(&["make", &given, &names, &out]).status, 0);

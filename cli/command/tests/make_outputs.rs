@@ -190,6 +190,25 @@ fn outputs_that_cannot_be_written() {
 }
 
 #[test]
+fn an_output_that_cannot_be_made_is_told_before_the_input_is_read() {
+    let folder = Folder::new();
+    for (words, says) in [
+        (".", ".: Is a directory\n"),
+        // Nobody can make a file in these folders.
+        ("/proc/out", "/proc/out: "),
+        (
+            "/proc/self/comm --force",
+            "/proc/self/comm: no file can be made beside it (",
+        ),
+    ] {
+        let run = shell(&format!("$ZS make '{{}}' missing {words}"), &folder);
+        let due = format!("zs: can't write {says}");
+        assert_eq!((run.status, run.err.lines().count()), (2, 1));
+        assert!(run.err.starts_with(&due), "{}", run.err);
+    }
+}
+
+#[test]
 fn a_full_disk_leaves_nothing() {
     let folder = Folder::new();
     folder.write("names", &[b'a'; 100_000]);
@@ -238,7 +257,17 @@ fn progress_on_a_terminal_only() {
 /// Runs that are tried until a signal comes before the archive is there.
 const RUNS: usize = 100;
 
-/// Starts to make an archive of about 64 MB, and sends a signal once a temporary file is there. The archive may be there before.
+/// The names of temporary files in which something is written.
+fn unfinished(folder: &Folder) -> Vec<String> {
+    let is_begun =
+        |name: &String| fs::metadata(folder.name(name)).map_or(0, |about| about.len()) > 0;
+    let is_temporary = |name: &String| name.starts_with(".zs-") && name.ends_with(".tmp");
+    let mut files = folder.files();
+    files.retain(|name| is_temporary(name) && is_begun(name));
+    files
+}
+
+/// Starts to make an archive of about 64 MB, and sends a signal once some of it is written. The archive may be there before.
 fn interrupt(signal: i32, folder: &Folder) -> ExitStatus {
     let mut child = Command::new("env")
         .args(["--default-signal", ZS, "make", "{}", "long", "out"])
@@ -248,8 +277,7 @@ fn interrupt(signal: i32, folder: &Folder) -> ExitStatus {
         .stderr(Stdio::null())
         .spawn()
         .expect("the command runs");
-    let before = folder.files().len();
-    while folder.files().len() == before {
+    while unfinished(folder).is_empty() {
         if let Some(status) = child.try_wait().expect("a status") {
             return status;
         }
@@ -259,14 +287,18 @@ fn interrupt(signal: i32, folder: &Folder) -> ExitStatus {
     child.wait().expect("the command ends")
 }
 
-#[test]
-fn a_signal_leaves_nothing_new() {
-    let folder = Folder::new();
-    // One record of 2^25 zero bytes, after its length.
+/// One record of 2^25 zero bytes, after its length.
+fn write_long(folder: &Folder) {
     let mut file = File::create(folder.name("long")).expect("a temporary file");
     let length = file.write_all(b"\x80\x80\x80\x10");
     length.expect("a temporary file");
     file.set_len(4 + (1 << 25)).expect("room for a sparse file");
+}
+
+#[test]
+fn a_signal_leaves_nothing_new() {
+    let folder = Folder::new();
+    write_long(&folder);
     for signal in [1, 2, 15] {
         let is_old = || contents(&folder, "out") == b"kept";
         let mut ended = (0..RUNS).map(|_| {
@@ -277,4 +309,19 @@ fn a_signal_leaves_nothing_new() {
         assert_eq!(status.signal(), Some(signal), "{status}");
         assert_eq!(folder.files(), ["long", "out"]);
     }
+}
+
+#[test]
+fn only_a_temporary_file_is_left_by_a_kill() {
+    let folder = Folder::new();
+    write_long(&folder);
+    let mut left = (0..RUNS).map(|_| {
+        folder.write("out", b"kept");
+        interrupt(9, &folder);
+        unfinished(&folder)
+    });
+    let left = left.find(|left| !left.is_empty());
+    let left = left.expect("a signal in time");
+    assert_eq!(folder.files(), [&left[0], "long", "out"]);
+    assert_eq!(contents(&folder, "out"), b"kept");
 }

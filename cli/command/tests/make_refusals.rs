@@ -27,13 +27,17 @@ fn make(metadata: &str, input: &[u8], words: &[&str]) -> Run {
     }
 }
 
-/// Holds an input to its refusal: number, what is said in brackets, and what to do. `file` is the one that is named.
+/// Holds an input to its refusal: number, what is said in brackets, and what to do. `file` is the one that is named, if one is.
 fn refuse(metadata: &str, input: &[u8], words: &[&str], file: &str, number: u64, detail: &str) {
     let run = make(metadata, input, words);
+    let name = match file {
+        "" => String::new(),
+        _ => format!("{file}: "),
+    };
     let (first, second) = run.err.split_once('\n').expect("two lines");
     assert_eq!(run.status, 1, "{first}");
     assert!(
-        first.starts_with(&format!("zs: {file}: refused {number}: "))
+        first.starts_with(&format!("zs: {name}refused {number}: "))
             && first.ends_with(&format!(" ({detail})")),
         "{first}"
     );
@@ -158,10 +162,10 @@ fn metadata_without_braces() {
         ("about.json", r#"it begins with "a" and ends with "n""#),
         ("-", r#"it begins with "-" and ends with "-""#),
         ("{}\u{feff}", r#"it begins with "{" and ends with "\xbf""#),
-        ("@/dev/null", "it is empty"),
     ] {
-        refuse(metadata, b"a\n", NONE, "OUT", 9, detail);
+        refuse(metadata, b"a\n", NONE, "", 9, detail);
     }
+    refuse("@/dev/null", b"a\n", NONE, "@/dev/null", 9, "it is empty");
 }
 
 #[test]
@@ -169,12 +173,12 @@ fn counts_out_of_range() {
     for count in ["0", "65536", "18446744073709551615"] {
         let words = ["--records-per-block", count];
         let detail = format!("--records-per-block is {count}");
-        refuse("{}", b"a\n", &words, "OUT", 30, &detail);
+        refuse("{}", b"a\n", &words, "", 30, &detail);
     }
     for count in ["0", "1", "65536", "18446744073709551615"] {
         let words = ["--entries-per-block", count];
         let detail = format!("--entries-per-block is {count}");
-        refuse("{}", b"a\n", &words, "OUT", 30, &detail);
+        refuse("{}", b"a\n", &words, "", 30, &detail);
     }
 }
 
@@ -182,12 +186,12 @@ fn counts_out_of_range() {
 fn of_several_faults_the_first_in_order_is_told() {
     let no_entries = ["--entries-per-block", "1"];
     let entries = "--entries-per-block is 1";
-    refuse("x", b"", &no_entries, "OUT", 30, entries);
+    refuse("x", b"", &no_entries, "", 30, entries);
     refuse(
         "x",
         b"",
         NONE,
-        "OUT",
+        "",
         9,
         r#"it begins with "x" and ends with "x""#,
     );
@@ -215,13 +219,42 @@ fn an_input_longer_than_every_archive() {
     ] {
         // Far less memory than the file is long.
         let run = shell(&format!("ulimit -v 200000; exec $ZS make {words}"), &folder);
-        let detail = format!(" (the {what} alone has more than 1073741824 bytes)\n");
-        assert!(run.err.contains("zs: out: refused 31: "), "{}", run.err);
-        assert!(run.err.contains(&detail), "{}", run.err);
-        let advice = "zs: what to do: put the records into several archives\n";
-        assert!(run.err.ends_with(advice), "{}", run.err);
-        assert_eq!((run.status, folder.files().len()), (1, 1));
+        let due = format!(
+            "zs: out: refused 31: the archive would be longer than 1073741824 bytes (2^30) \
+             (the {what} alone has more than 1073741824 bytes)
+zs: what to do: put the records into several archives\n"
+        );
+        assert_eq!((run.status, run.err), (1, due));
+        assert_eq!(folder.files(), ["long"]);
     }
+}
+
+#[test]
+fn standard_input_is_not_read_twice() {
+    let folder = Folder::new();
+    folder.write("about", b"{}");
+    let due = "zs: standard input can't be both METADATA and INPUT\n";
+    for words in [
+        "@- -",
+        "@/dev/stdin -",
+        "@- /dev/stdin",
+        "@- /dev/fd/0",
+        "@/dev/fd/0 -",
+        "@/dev/stdin /proc/self/fd/0",
+    ] {
+        for input in ["cat about | $ZS", "<about $ZS"] {
+            let run = shell(&format!("{input} make {words} out"), &folder);
+            assert_eq!((run.status, run.err.as_str()), (2, due), "{words}");
+            assert_eq!(folder.files(), ["about"]);
+        }
+    }
+    for words in ["@/dev/stdin about", "@about /dev/stdin"] {
+        let line = format!("cat about | $ZS make {words} out --force");
+        let run = shell(&line, &folder);
+        assert_eq!((run.status, run.err.as_str()), (0, ""), "{words}");
+    }
+    let run = shell("$ZS make @- /dev/null more <&-", &folder);
+    assert_eq!((run.status, run.err.as_str()), (2, "zs: -: it is closed\n"));
 }
 
 #[test]
@@ -245,14 +278,22 @@ fn too_little_memory_is_said() {
 #[test]
 fn mistakes_in_arguments() {
     let folder = Folder::new();
-    let numbers = "give a whole number from 0 to 18446744073709551615";
+    let records = "give a whole number from 1 to 65535";
+    let entries = "give a whole number from 2 to 65535";
+    let named = "zs: METADATA: @ needs the name of a file, as in @about.json\n";
     for (words, says) in [
         ("names out", "<OUT>"),
         ("- out", "<OUT>"),
         ("'{}' names out more", "more"),
         ("-x names out", "Found argument '-x'"),
-        ("'{}' names out --records-per-block few", numbers),
-        ("'{}' names out --entries-per-block -2", numbers),
+        ("'{}' names out --records-per-block few", records),
+        ("'{}' names out --records-per-block -1", records),
+        (
+            "'{}' names out --records-per-block 100000000000000000000000",
+            records,
+        ),
+        ("'{}' names out --entries-per-block -2", entries),
+        ("'{}' names out --entries-per-block 1.5", entries),
         ("'{}' names out --length-prefixed u32", "u32"),
         (
             "'{}' names out --length-prefixed u64le --terminator x",
@@ -261,10 +302,6 @@ fn mistakes_in_arguments() {
         ("'{}' names out --terminator '\\q'", "unknown escape"),
         ("'{}' names out --terminator ''", "give a byte or more"),
         (
-            "@- - out",
-            "standard input can't be both METADATA and INPUT",
-        ),
-        (
             "'{}' missing out",
             "zs: missing: No such file or directory\n",
         ),
@@ -272,7 +309,7 @@ fn mistakes_in_arguments() {
             "@missing names out",
             "zs: missing: No such file or directory\n",
         ),
-        ("@ names out", "No such file or directory\n"),
+        ("@ names out", named),
         ("'{}' . out", "zs: .: Is a directory\n"),
         ("'{}' - out <&-", "zs: -: it is closed\n"),
     ] {

@@ -144,9 +144,10 @@ fn standard_output_that_cannot_be_written() {
         ] {
             let line = format!("$ZS {command} {redirection}").replace("FILE", SMALL);
             let run = shell(&line, &folder);
-            let name = match command.ends_with("fd/1") {
-                true => "/dev/fd/1",
-                false => "standard output",
+            let name = if command.ends_with("fd/1") {
+                "/dev/fd/1"
+            } else {
+                "standard output"
             };
             let due = format!("zs: can't write {name}: {says}");
             assert_eq!((run.status, run.err.lines().count()), (2, 1), "{line}");
