@@ -13,30 +13,13 @@ use Rattle.crc64.specs.Crc64.{crc64}
 use Rattle.header.specs.Header.{magic, codecNone}
 use Rattle.output_bytes.specs.OutputBytes.{bytesFit, stored}
 use Rattle.output_bytes.proofs.OutputBytesLaws.{stored-append, stored-none, stored-some, fits-some, fits-none, length-stored, put-none}
-use Rattle.layout.specs.File.{headerData, headerBytes}
+use Rattle.layout.specs.File.{headerData, headerBytes, blocksStart}
+use Rattle.layout.proofs.HeaderBackLaws.{length-headerData, length-header}
 
 -- a byte string stored after another
 pub stored-next : (o : List ℕ) (at : ℕ) (s t : List ℕ) {o1 o2 : List ℕ} {next : ℕ} → o1 ≡ stored o at s → next ≡ at + length s → at + length s + length t ≤ length o
     → o2 ≡ stored o1 next t → o2 ≡ stored o at (s ++ t)
 stored-next o at s t {next = next} e n h f = f ∙ ap (λ z. stored z next t) e ∙ ap (λ (k : ℕ). stored (stored o at s) k t) n ∙ stored-append o at s t h
-
-pub length-data : (metadata : List ℕ) (root rootsize total : ℕ) (hash : List ℕ) → length hash ≡ 32
-    → length (headerData metadata root rootsize total hash) ≡ 80 + length metadata
-unfolding headerData codecNone
-length-data metadata root rootsize total hash h =
-    rw (
-      length-append (littleBytes 8 root),
-      length-append (littleBytes 8 rootsize),
-      length-append (littleBytes 8 total),
-      length-append hash,
-      length-append (littleBytes 8 (length metadata)),
-      littleBytes-length 8 root,
-      littleBytes-length 8 rootsize,
-      littleBytes-length 8 total,
-      h,
-      littleBytes-length 8 (length metadata),
-    )
-    (omega arith)
 
 -- the fields one after the other
 pub fields-stored : (o metadata : List ℕ) (root rootsize total : ℕ) (hash : List ℕ) → length hash ≡ 32 → 96 + length metadata ≤ length o → {a b c m : List ℕ}
@@ -70,24 +53,15 @@ fields-stored o metadata root rootsize total hash long h {a} {b} {c} {m} ea eb e
 
 -- ---- the whole header
 
-pub length-header : (metadata : List ℕ) (root rootsize total : ℕ) (hash : List ℕ) → length hash ≡ 32
+pub header-long : (metadata : List ℕ) (root rootsize total : ℕ) (hash : List ℕ) → length hash ≡ 32
     → length (headerBytes (headerData metadata root rootsize total hash)) ≡ 104 + length metadata
-unfolding headerBytes magic
-length-header metadata root rootsize total hash h =
-    let d = headerData metadata root rootsize total hash in
-    rw (
-      length-append (littleBytes 8 (length d)),
-      length-append d,
-      littleBytes-length 8 (length d),
-      littleBytes-length 8 (crc64 d),
-      length-data metadata root rootsize total hash h,
-    )
-    (omega arith)
+unfolding blocksStart
+header-long metadata root rootsize total hash h = length-header metadata root rootsize total hash h
 
 pub header-full : (o metadata : List ℕ) (root rootsize total : ℕ) (hash : List ℕ) → length hash ≡ 32 → length o < 104 + length metadata
     → (false ≡ bytesFit o 0 (headerBytes (headerData metadata root rootsize total hash))) × (o ≡ stored o 0 (headerBytes (headerData metadata root rootsize total hash)))
 header-full o metadata root rootsize total hash h k =
-    put-none o 0 (headerBytes (headerData metadata root rootsize total hash)) (rw (length-header metadata root rootsize total hash h) (omega arith))
+    put-none o 0 (headerBytes (headerData metadata root rootsize total hash)) (rw (header-long metadata root rootsize total hash h) (omega arith))
 
 -- what lies where a byte string was stored
 stored-part : (o : List ℕ) (at end : ℕ) (s : List ℕ) → at + length s ≤ length o → end ≡ at + length s → take (end - at) (drop at (stored o at s)) ≡ s
@@ -104,7 +78,7 @@ pub header-stored : (o metadata : List ℕ) (root rootsize total : ℕ) (hash : 
 unfolding headerBytes magic
 header-stored o metadata root rootsize total hash long h {extent} {crc} ee {o1} {o2} {o3} e1 e2 e3 ec e4 =
     let d = headerData metadata root rootsize total hash in
-    let ld : length d ≡ 80 + length metadata = length-data metadata root rootsize total hash long in
+    let ld : length d ≡ 80 + length metadata = length-headerData metadata root rootsize total hash long in
     let le : length extent ≡ 8 = ap length ee ∙ littleBytes-length 8 (80 + length metadata) in
     let inside : crc ≡ littleBytes 8 (crc64 d) = ec ∙ ap (λ z. littleBytes 8 (crc64 z)) (at-16 ld le) in
     let lc : length crc ≡ 8 = ap length inside ∙ littleBytes-length 8 (crc64 d) in
@@ -113,7 +87,7 @@ header-stored o metadata root rootsize total hash long h {extent} {crc} ee {o1} 
     let f2 = stored-next o 0 magic extent e1 (omega arith) (omega arith) e2 in
     let f3 = stored-next o 0 (magic ++ extent) d f2 (omega arith) (omega arith) e3 in
     let f4 = stored-next o 0 (magic ++ extent ++ d) crc f3 (omega arith) (omega arith) e4 in (
-      sym (fits-some o 0 (headerBytes d) (rw (length-header metadata root rootsize total hash long) (omega arith))),
+      sym (fits-some o 0 (headerBytes d) (rw (header-long metadata root rootsize total hash long) (omega arith))),
       f4 ∙ ap (stored o 0) (joined magic extent d crc ∙ same ld inside),
     )
   where

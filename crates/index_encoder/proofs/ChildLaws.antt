@@ -19,7 +19,7 @@ use Rattle.payload.specs.Payload.{Text, textAt}
 use Rattle.payload.specs.Answers.{textIn}
 use Rattle.payload.proofs.PayloadLaws.{text⇒Placed}
 use Rattle.layout.specs.Index.{IndexEntry}
-use Rattle.index_encoder.specs.declared.child.ChildOutcome.the-variants.{Answer as AChild}
+use Rattle.index_encoder.specs.declared.child.EntryForOutcome.the-variants.{Answer as AChild}
 use Rattle.index_encoder.specs.Children.{entryIn, childAt, childrenFrom, childSaid, ChildWithin}
 use Rattle.index_encoder.proofs.StoredLaws.{by-order}
 

@@ -18,8 +18,8 @@ use Rattle.output_bytes.proofs.OutputBytesLaws.{length-stored, take-stored, cop
 use Rattle.layout.specs.Blocks.{textBytes}
 use Rattle.layout.specs.Index.{IndexEntry, entryBytes}
 use Rattle.layout.proofs.ReadBackLaws.{length-text, length-entry}
-use Rattle.index_encoder.specs.declared.child.ChildOutcome.{ChildOutcome}
-use Rattle.index_encoder.specs.declared.child.ChildOutcome.the-variants.{Answer as AChild, Refused as NoChild}
+use Rattle.index_encoder.specs.declared.child.EntryForOutcome.{EntryForOutcome}
+use Rattle.index_encoder.specs.declared.child.EntryForOutcome.the-variants.{Answer as AChild, Refused as NoChild}
 use Rattle.index_encoder.specs.Children.{entryIn, childAt, childrenFrom, childSaid, ChildWithin}
 use Rattle.index_encoder.specs.Level.{Measured, entriesFor}
 use Rattle.index_encoder.proofs.StoredLaws.{flatMap-snoc, stored-nil, stored-whole, stored-after}
@@ -51,7 +51,7 @@ module _ (s : List ℕ) (key : Part) (offset size : ℕ) (within : key .offset +
 -- ---- measuring a group of blocks
 
 -- an answer of `child_at` that is known
-module _ (s : List ℕ) (at : ℕ) {here : ℕ} (place : here ≡ at) (r : ChildOutcome) (said : childSaid s here r ≡ childAt s here) where
+module _ (s : List ℕ) (at : ℕ) {here : ℕ} (place : here ≡ at) (r : EntryForOutcome) (said : childSaid s here r ≡ childAt s here) where
   pub child-known : (key : Part) (size : ℕ) → r ≡ AChild key size → ChildWithin s here r
       → (childSaid s at (AChild key size) ≡ childAt s at) × ChildWithin s at (AChild key size)
   child-known key size told within =

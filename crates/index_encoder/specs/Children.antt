@@ -9,8 +9,8 @@ use Rattle.part.specs.declared.Part.{Part}
 use Rattle.framing.specs.Frame.{frameAt}
 use Rattle.payload.specs.Payload.{textAt}
 use Rattle.layout.specs.Index.{IndexEntry}
-use Rattle.index_encoder.specs.declared.child.ChildOutcome.{ChildOutcome}
-use Rattle.index_encoder.specs.declared.child.ChildOutcome.the-variants.{Answer as AChild, Refused as NoChild}
+use Rattle.index_encoder.specs.declared.child.EntryForOutcome.{EntryForOutcome}
+use Rattle.index_encoder.specs.declared.child.EntryForOutcome.the-variants.{Answer as AChild, Refused as NoChild}
 
 -- the entry with a key that stands in s
 unfoldable pub entryIn : List ℕ → (key : Part) (offset size : ℕ) → IndexEntry
@@ -29,11 +29,11 @@ module _ (s : List ℕ) where
   childrenFrom from = soundFrom childAt (length s) (length s - from) from
 
   -- what an answer of `child_at` says
-  unfoldable pub childSaid : ℕ → ChildOutcome → Outcome (Step IndexEntry)
+  unfoldable pub childSaid : ℕ → EntryForOutcome → Outcome (Step IndexEntry)
   childSaid at (AChild key size) = answer (record { item = entryIn s key at size; next = at + size })
   childSaid at (NoChild n) = refused n at
 
   -- the key that an answer names lies within the block, and the block within s
-  unfoldable pub ChildWithin : ℕ → ChildOutcome → Type 0
+  unfoldable pub ChildWithin : ℕ → EntryForOutcome → Type 0
   ChildWithin at (AChild key size) = (at < key .offset) × (key .offset + key .length ≤ at + size) × (at + size ≤ length s)
   ChildWithin at (NoChild n) = Unit {0}

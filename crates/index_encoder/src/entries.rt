@@ -7,7 +7,7 @@ ghost use Rattle.output_bytes.specs.OutputBytes.{stored};
 ghost use Rattle.layout.specs.Index.{entryBytes};
 ghost use Rattle.index_encoder.specs.Children.{entryIn};
 ghost use Rattle.index_encoder.specs.Level.{Measured, entriesFor};
-use crate::child::ChildOutcome;
+use crate::child::EntryForOutcome;
 use crate::child::child_at;
 use part::Part;
 
@@ -40,12 +40,12 @@ pub fn measure(s: &[u8], from: usize, most: u64) -> Group
     while count < most {
         let child = child_at(s, at);
         match child {
-            ChildOutcome::Refused(_) => return Group {
+            EntryForOutcome::Refused(_) => return Group {
                 count,
                 next: at,
                 length,
             },
-            ChildOutcome::Answer { key, size } => {
+            EntryForOutcome::Answer { key, size } => {
                 length += entry_length(key, at, size);
                 at += size;
                 count += 1;
@@ -84,8 +84,8 @@ pub fn put_entries(output: &mut [u8], to: usize, from: usize, count: u64, place:
     while 0 < left {
         let child = child_at(&output[..to], at);
         match child {
-            ChildOutcome::Refused(_) => return end,
-            ChildOutcome::Answer { key, size } => {
+            EntryForOutcome::Refused(_) => return end,
+            EntryForOutcome::Answer { key, size } => {
                 end = put_entry(output, end, key, at, size);
                 at += size;
                 left -= 1;

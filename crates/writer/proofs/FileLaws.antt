@@ -13,7 +13,7 @@ use Rattle.sha256.specs.declared.State.{State}
 use Rattle.sha256.specs.Sha256.{sha256}
 use Rattle.sha256.specs.State.{begun, absorbed, finished, none, more}
 use Rattle.sha256.proofs.StateLaws.{Holds⇒sha256, sha256-length}
-use Rattle.header_encoder.proofs.HeaderPutLaws.{length-header}
+use Rattle.header_encoder.proofs.HeaderPutLaws.{header-long}
 use Rattle.layout.specs.Blocks.{dataBytes, recordsBytes}
 use Rattle.layout.specs.Index.{indexBytes}
 use Rattle.layout.specs.File.{headerData, headerBytes, blocksStart, dataPart, indexBlocks, blocksPart, rootEntry, fileOf}
@@ -102,7 +102,7 @@ module _ (metadata : List ℕ) (blocks : List (List (List ℕ))) (perIndex room 
       total-is = t ∙ sym file-long ∙ length-file metadata blocks perIndex
 
       long : length (header (from + length B) (sha256 (flatMap recordsBytes blocks))) ≡ from
-      long = length-header metadata _ _ _ (sha256 (flatMap recordsBytes blocks)) (sha256-length (flatMap recordsBytes blocks))
+      long = header-long metadata _ _ _ (sha256 (flatMap recordsBytes blocks)) (sha256-length (flatMap recordsBytes blocks))
 
 -- the hash of an input that is taken whole
 pub hash-whole : (input : List ℕ) {state : State} {hash : List ℕ} → length input < 2 ^ 61 → state ≡ absorbed begun input → hash ≡ finished state → hash ≡ sha256 input
