@@ -94,7 +94,7 @@ static inline const char *zs_message(uint64_t number)
     case ZS_HEADER_TOO_SHORT: return "the header is too short for its fields or its metadata";
     case ZS_UNKNOWN_CODEC: return "the codec isn't `none`, the only one that is read";
     case ZS_FILE_LENGTH: return "the file's length isn't the one that its header states";
-    case ZS_BAD_METADATA: return "the metadata doesn't begin with { and end with }";
+    case ZS_BAD_METADATA: return "the metadata isn't one JSON object from { to }, in UTF-8 and nested at most 64 deep";
     case ZS_BLOCK_TRUNCATED: return "this block is cut off: its number or its bytes run past the end of the file";
     case ZS_NUMBER_TOO_WIDE: return "a number in this block takes more than nine bytes";
     case ZS_NUMBER_NOT_SHORTEST: return "a number in this block isn't written in its shortest form";
@@ -152,6 +152,10 @@ bool zs_within(const uint8_t *file, size_t file_len, uint64_t offset, uint64_t l
 
 /* Where the metadata lie, braces included; 0, 0 where the header is refused (1 to 9), and only then. Blocks aren't looked at. */
 zs_part zs_metadata(const uint8_t *file, size_t file_len);
+
+/* Whether the bytes are metadata that zs_write takes and a file may hold: one JSON object (RFC 8259) in UTF-8, from { to } with nothing
+ * before or after it, objects and arrays nested at most 64 deep, itself among them. A file or metadata without that is refused with 9. */
+bool zs_is_metadata(const uint8_t *bytes, size_t bytes_len);
 
 /* Writes a file into the output: the metadata, and records that rise, each a length (uleb128 in shortest form) and as many bytes, one
  * after the other; so many records in a data block (1 to 65535) and so many entries in an index block (2 to 65535). The output then holds

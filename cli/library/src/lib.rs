@@ -130,6 +130,7 @@ extern "C" {
     fn zs_record(file: *const u8, file_len: usize, offset: u64, length: u64) -> Part;
     fn zs_within(file: *const u8, file_len: usize, offset: u64, length: u64) -> bool;
     fn zs_metadata(file: *const u8, file_len: usize) -> Part;
+    fn zs_is_metadata(bytes: *const u8, bytes_len: usize) -> bool;
     fn zs_write(
         metadata: *const u8,
         metadata_len: usize,
@@ -229,6 +230,12 @@ pub fn metadata_part(file: &[u8]) -> Part {
 pub fn metadata(file: &[u8]) -> Option<&[u8]> {
     let part = metadata_part(file);
     (part.length > 0).then(|| bytes_of(file, part))
+}
+
+/// Whether the bytes keep the metadata rule: one JSON object (RFC 8259) in UTF-8, from `{` to `}`, nested at most 64 deep.
+pub fn is_metadata(bytes: &[u8]) -> bool {
+    // SAFETY: the pointer comes with the length of the slice it is taken from.
+    unsafe { zs_is_metadata(bytes.as_ptr(), bytes.len()) }
 }
 
 /// Writes a file of these records, each a length (uleb128) and as many bytes, into `output`, which then holds the file and zeros after it;

@@ -14,6 +14,7 @@ use Rattle.header.specs.Metadata.{Metadata}
 use Rattle.header.specs.Header.{headerOf, headerSaid}
 use Rattle.header.specs.MetadataPart.{metadataIn, metadataPart, HoldsMetadata}
 use Rattle.header.proofs.HeaderLaws.{is-header}
+use Rattle.header.proofs.MetadataLaws.{metadata-long}
 
 -- the part that the code hands back, by what `Header::read` answers
 pub metadata-told : (file : List ℕ) (read told : HeaderOutcome) → read ≡ told → headerSaid read ≡ headerOf file
@@ -57,7 +58,7 @@ pub metadata-some : (file : List ℕ) (h : Header) → headerOf file ≡ answer 
 metadata-some file h e =
     let held = metadata-sound file h e in
     let p = metadataPart file in
-    subst (λ (n : ℕ). 2 ≤ n) (length-part file (p .offset) (p .length) (held .within)) (held .rule .long)
+    subst (λ (n : ℕ). 2 ≤ n) (length-part file (p .offset) (p .length) (held .within)) (metadata-long _ (held .rule))
 
 -- so no bytes mean that the header is refused
 pub metadata-none : (file : List ℕ) → metadataPart file .length ≡ 0 → (number : ℕ) × (place : ℕ) × (headerOf file ≡ refused number place)

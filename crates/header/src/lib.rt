@@ -116,17 +116,23 @@ fn holds_metadata(file: &[u8]) -> bool
     endian::le64_at(file, Header::METADATA_LENGTH_AT) <= extent - Header::LEAST_EXTENT
 }
 
-// The metadata rule: at least two bytes, the first `{`, the last `}`.
+// The metadata rule: the first byte `{`, the last `}`, UTF-8, and one JSON object.
 pub fn is_metadata(bytes: &[u8]) -> bool
     ensures { λ r. ⌜ r ≡ isMetadata (now (bytes .entry)) ⌝ }
 {
-    if bytes.len() < 2 {
+    if bytes.len() < 1 {
         return false;
     }
     if bytes[0] != b'{' {
         return false;
     }
-    bytes[bytes.len() - 1] == b'}'
+    if bytes[bytes.len() - 1] != b'}' {
+        return false;
+    }
+    if !utf8::is_utf8(bytes) {
+        return false;
+    }
+    json::is_object(bytes)
 }
 
 // The header, or the first of the refusals 7 to 9.

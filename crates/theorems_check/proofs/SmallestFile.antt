@@ -15,6 +15,8 @@ use Rattle.outcome.specs.Outcome.{Outcome, answer, refused, _>>=_, _>>_, must, 
 use Rattle.part.specs.Part.{part}
 use Rattle.items.specs.Items.{itemsFrom}
 use Rattle.lists.specs.Lists.{keep, any, all}
+use Rattle.utf8.specs.Utf8 as utf8
+use Rattle.json.specs.Recogniser as json
 use Rattle.header.specs.Header as head
 use Rattle.header.specs.Metadata as meta
 use Rattle.framing.specs.Frame as frame
@@ -50,7 +52,8 @@ smallestFile =
 -- it is accepted, with two blocks; by computation
 two-blocks : countOf length (acceptOf smallestFile) ≡ 2
 unfolding smallestFile countOf acceptOf checkWith head.headerOf head.sizeRule head.frontRules head.dataOf head.fieldsOf head.headerNumbers head.blocksFrom _>>=_ _>>_ must head.magic head.unfinishedMagic
-    head.codecNone head.fieldAt meta.isMetadata head.H head.M head.holdsHeader head.headerCrcRight head.holdsMetadata part itemsFrom keep any all
+    head.codecNone head.fieldAt meta.isMetadata utf8.isUtf8 utf8.utf8From utf8.dueAfter json.isObject json.isDone json.objectEnd json.objectOver
+    json.structuralEnd json.containerEnd json.skip json.isSpace json.oneOf json._>>=_ head.H head.M head.holdsHeader head.headerCrcRight head.holdsMetadata part itemsFrom keep any all
     order orElse isMore atMost begins fixed.littleEndian continuing sevens reading crc.crc64 crc.crcOf crc.registerStart crc.register crc.byteStep crc.bitSteps crc.bitStep
     crc.allOnes crc.polynomial crc.reversed frame.readAs frame.numberAt frame.framed frame.frameAt frame.crcRight frame.soundFrameAt payload.textAt
     payload.entrySized payload.entryAt payload.risingFrom payload.rising payload.payloadAt payload.recordsAt payload.entriesAt block.isData

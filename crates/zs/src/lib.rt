@@ -2,9 +2,12 @@
 // check, read, search and write are decided by the rules of the format. include/zs.h documents the interface for callers.
 //
 // C can't receive a slice as a result, so zs_record and zs_metadata hand back where the part lies.
+ghost use mathlib.Core.Bool.{true};
+ghost use mathlib.Core.Logic.{_↔_};
 ghost use mathlib.Core.Path.{_≡_};
 ghost use lib.ListN.{length};
 ghost use Rattle.output_list.specs.OutputList.{zeros};
+ghost use Rattle.header.specs.Metadata.{Metadata, isMetadata};
 ghost use Rattle.header.specs.MetadataPart.{metadataPart};
 ghost use Rattle.query.specs.Query.{queryOf};
 ghost use Rattle.reader.specs.Read.{readOf, readAnswer, readList};
@@ -116,6 +119,15 @@ pub extern "C" fn zs_metadata(file: &[u8]) -> Part
     ensures { λ r. ⌜ r ≡ metadataPart (now (file .entry)) ⌝ }
 {
     header::metadata(file)
+}
+
+// Whether the bytes keep the metadata rule (`header::is_metadata`): one JSON object.
+#[no_mangle]
+pub extern "C" fn zs_is_metadata(bytes: &[u8]) -> bool
+    ensures { λ r. ⌜ r ≡ isMetadata (now (bytes .entry)) ⌝ }
+    ensures { λ r. ⌜ (r ≡ true) ↔ Metadata (now (bytes .entry)) ⌝ }
+{
+    header::is_metadata(bytes)
 }
 
 // Writes a file (`writer::write`).

@@ -1,0 +1,2 @@
+-- Laws of bytes from one to another.
+pub mod RangeLaws

@@ -1,0 +1,2 @@
+-- Bytes from one to another.
+pub mod Range

@@ -1,0 +1,65 @@
+-- `skip_digits` meets its contract. The loop's invariant: going on from here gives what the whole gives. The measure is what is left.
+-- Assumes nothing.
+use Prim.Native.Nat.{_-_}
+use mathlib.Core.Path.{_≡_, refl, sym, _∙_}
+use lib.ListN.{length, drop}
+use borrow.Author.Needs.{needs}
+use borrow.Author.Tests.{not-true, not-false}
+use Rattle.json.specs.Recogniser.{isDigit, skipDigits}
+use Rattle.json.proofs.PositionLaws.{pass-end, pass-stop, pass-more}
+use Rattle.json.proofs.NumberPositionLaws.{digits-pass}
+use Rattle.json.proofs.number.skip_digits.Statement.{statement}
+use Rattle.json.proofs.number.skip_digits.Tie as tie
+
+abbrev Inv-loop : tie.InvT-loop
+Inv-loop s from at₀ at = skipDigits (drop at s) ≡ skipDigits (drop from s)
+
+abbrev μ-loop : tie.MeasureT-loop
+μ-loop s from at₀ at = length s - at
+
+loop-holds : tie.Need-loop-holds Inv-loop μ-loop
+loop-holds c = refl
+
+shared-slice-read-is-digit : tie.Need-shared-slice-read-is-digit Inv-loop μ-loop
+shared-slice-read-is-digit c = search needs
+
+is-digit-requires : tie.Need-is-digit-requires Inv-loop μ-loop
+is-digit-requires c κs = search needs
+
+returns : tie.Need-returns Inv-loop μ-loop
+returns c =
+    let loop-test = c .before .before .before .loop-test in
+    let loop = c .before .before .before .before .loop in
+    pass-stop isDigit skipDigits digits-pass _ _ (loop-test .taken) (sym (c .before .is-digit .ensures) ∙ not-true _ (c .if1 .taken)) ∙
+    loop .inv
+
+add-at : tie.Need-add-at Inv-loop μ-loop
+add-at c = search needs
+
+loop-less : tie.Need-loop-less Inv-loop μ-loop
+loop-less c = search needs
+
+loop-again : tie.Need-loop-again Inv-loop μ-loop
+loop-again c =
+    let loop-test = c .before .before .before .loop-test in
+    let loop = c .before .before .before .before .loop in
+    pass-more isDigit skipDigits digits-pass _ _ (loop-test .taken) (sym (c .before .is-digit .ensures) ∙ not-false _ (c .if1 .left)) ∙
+    loop .inv
+
+returns-2 : tie.Need-returns-2 Inv-loop μ-loop
+returns-2 c = pass-end isDigit skipDigits digits-pass _ _ (c .loop-test .left) ∙ c .before .loop .inv
+
+pub skip-digits-spec : {M : Type 1} → statement M
+skip-digits-spec =
+    tie.close
+    (tie.spec
+    Inv-loop
+    μ-loop
+    loop-holds
+    shared-slice-read-is-digit
+    is-digit-requires
+    returns
+    add-at
+    loop-less
+    loop-again
+    returns-2)

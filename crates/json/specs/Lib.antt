@@ -1,0 +1,4 @@
+-- JSON.
+pub mod Grammar
+pub mod Recogniser
+pub mod Answers

@@ -1,0 +1,2 @@
+-- Laws of UTF-8.
+pub mod Utf8Laws

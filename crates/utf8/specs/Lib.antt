@@ -1,0 +1,2 @@
+-- UTF-8.
+pub mod Utf8
