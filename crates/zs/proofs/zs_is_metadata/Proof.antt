@@ -11,7 +11,7 @@ is-metadata-requires c κs = search needs
 
 returns : tie.Need-returns
 returns c =
-    let bytes = now (c .before .args .bytes) in
+    let bytes = now (c .before .before .args .bytes) in
     let told = c .is-metadata .ensures in
     (told, ((λ yes. isMetadata⇒Metadata bytes (sym told ∙ yes)), (λ rule. told ∙ Metadata⇒isMetadata bytes rule)))
 
