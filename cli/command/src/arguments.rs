@@ -26,8 +26,9 @@ const EXAMPLES: &str = "Examples:
 Exit status: 0 answered, 1 refused, 2 usage or input/output.
 'zs COMMAND --help' says more about each command.";
 
-const MAKE_EXAMPLES: &str = "METADATA is stored without white space around it. Nothing is added, so that the same input always
-makes the same archive.
+const MAKE_EXAMPLES: &str = "METADATA is one JSON object in UTF-8, in which objects and arrays are nested at most 64 deep. It is
+stored as it is given, without white space around it. Nothing is added, so that the same input
+always makes the same archive.
 
 By default each line of INPUT is a record, without its line end. A last record that nothing follows
 is one, too. T takes the escapes \\t \\n \\r \\\\ and \\x00 to \\xff. Equal records are all kept. INPUT is
@@ -66,8 +67,8 @@ Examples:
   gunzip -c contacts.zs.gz | zs dump - --prefix Ada    an archive on standard input";
 
 const INFO_EXAMPLES: &str =
-    "The file is checked first. Metadata that is JSON is shown as it is stored, other metadata as a
-string with escapes. On a terminal control characters are shown as escapes.
+    "The file is checked first. Its metadata is a JSON object and is shown as it is stored; on a terminal
+control characters are shown as escapes.
 
 Examples:
   zs info contacts.zs
@@ -111,7 +112,7 @@ pub enum Command {
 
 #[derive(Args)]
 pub struct Make {
-    /// What the archive says of itself: JSON in braces, or @FILE; @- is standard input
+    /// What the archive says of itself: one JSON object, or @FILE; @- is standard input
     pub metadata: OsString,
     /// The records, in rising order; - is standard input
     pub input: PathBuf,

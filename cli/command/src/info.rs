@@ -5,12 +5,11 @@ use std::io::{self, Write};
 use crate::answers::Contents;
 use crate::archive::read_and_check;
 use crate::arguments::Info;
-use crate::escapes::escape_name;
+use crate::escapes::{escape, escape_name};
 use crate::failure::Failure;
-use crate::json::{as_json, write_string};
 use crate::layout::{block, header, Header};
 use crate::output;
-use crate::terminal::{is_terminal, write_json_visibly, write_visibly};
+use crate::terminal::{is_terminal, write_json_visibly};
 
 /// Checks the file first, so that what is shown is true of it.
 pub fn run(asked: &Info) -> Result<(), Failure> {
@@ -24,21 +23,21 @@ pub fn run(asked: &Info) -> Result<(), Failure> {
     let root_level = block(file, header.root_offset).map_or(0, |root| root.level);
     output::write(&asked.file, &|out| {
         if asked.metadata_only {
-            write_metadata(header.metadata, out)
+            write_metadata(header.metadata, out)?;
+            writeln!(out)
         } else {
             write_fields(&header, root_level, &contents, out)
         }
     })
 }
 
-/// Writes the metadata: as it is stored, unless a person reads it.
-fn write_metadata(metadata: &[u8], out: &mut dyn Write) -> io::Result<()> {
+/// Writes the metadata, which are JSON, as they are stored, unless a person reads them.
+fn write_metadata(metadata: &str, out: &mut dyn Write) -> io::Result<()> {
     if is_terminal() {
-        write_visibly(out, metadata)?;
+        write_json_visibly(out, metadata)
     } else {
-        out.write_all(metadata)?;
+        out.write_all(metadata.as_bytes())
     }
-    writeln!(out)
 }
 
 fn write_fields(
@@ -59,22 +58,14 @@ fn write_fields(
     }
     let hash: String = header.hash.iter().map(|b| format!("{b:02x}")).collect();
     writeln!(out, "  \"data_sha256\": \"{hash}\",")?;
-    write!(out, "  \"codec\": ")?;
-    write_string(out, header.codec)?;
+    // The check takes one codec only, which is printable.
+    writeln!(out, "  \"codec\": \"{}\",", escape(header.codec))?;
     let length = header.metadata.len();
-    write!(out, ",\n  \"metadata_length\": {length},\n  \"metadata\": ")?;
-    write_metadata_value(header.metadata, out)?;
+    writeln!(out, "  \"metadata_length\": {length},")?;
+    write!(out, "  \"metadata\": ")?;
+    write_metadata(header.metadata, out)?;
     writeln!(out, ",\n  \"statistics\": {{")?;
     writeln!(out, "    \"root_index_level\": {root_level},")?;
     writeln!(out, "    \"blocks\": {blocks},")?;
     writeln!(out, "    \"records\": {records}\n  }}\n}}")
-}
-
-/// Writes the metadata as a JSON value: themselves where they are one, else a string.
-fn write_metadata_value(metadata: &[u8], out: &mut dyn Write) -> io::Result<()> {
-    match as_json(metadata) {
-        Some(json) if is_terminal() => write_json_visibly(out, json),
-        Some(json) => out.write_all(json.as_bytes()),
-        None => write_string(out, metadata),
-    }
 }

@@ -13,7 +13,7 @@ pub struct Header<'a> {
     pub total_length: u64,
     pub hash: &'a [u8],
     pub codec: &'a [u8],
-    pub metadata: &'a [u8],
+    pub metadata: &'a str,
 }
 
 /// A block: its level, its payload, and the position after its last byte.
@@ -37,7 +37,7 @@ pub fn header(file: &[u8]) -> Option<Header<'_>> {
         total_length: total_length(file)?,
         hash: file.get(40..72)?,
         codec: codec_name(file)?,
-        metadata: zs_library::metadata(file)?,
+        metadata: std::str::from_utf8(zs_library::metadata(file)?).ok()?,
     })
 }
 
@@ -56,6 +56,12 @@ pub fn codec_name(file: &[u8]) -> Option<&[u8]> {
     let codec = file.get(72..88)?;
     let end = codec.iter().rposition(|byte| *byte != 0);
     codec.get(..end.map_or(0, |last| last + 1))
+}
+
+/// The metadata, as long as the header says, also where they are refused.
+pub fn stored_metadata(file: &[u8]) -> Option<&[u8]> {
+    let length = usize::try_from(u64_at(file, 88)?).ok()?;
+    file.get(96..)?.get(..length)
 }
 
 pub fn block(file: &[u8], offset: u64) -> Option<Block<'_>> {

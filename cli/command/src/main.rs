@@ -11,7 +11,7 @@
 //! * [`output`], [`target`], [`temporary`], [`signals`], [`system`]: where answers are written, and how a file appears only when it is
 //!   whole.
 //! * [`terminal`], [`progress`], [`failure`]: text and progress on a terminal, and what went wrong.
-//! * [`layout`], [`walk`], [`json`]: fields and bounds for display, and what a search would cost.
+//! * [`layout`], [`walk`], [`metadata`]: fields, bounds and faults for display, and what a search would cost.
 #![deny(unsafe_code)]
 
 mod answers;
@@ -27,9 +27,9 @@ mod failure;
 mod info;
 #[allow(unsafe_code)]
 mod input;
-mod json;
 mod layout;
 mod make;
+mod metadata;
 mod output;
 mod progress;
 mod records;

@@ -3,7 +3,8 @@
 use zs_library::refusals::find;
 
 use crate::escapes::escape;
-use crate::layout::{codec_name, header_end, total_length};
+use crate::layout::{codec_name, header_end, stored_metadata, total_length};
+use crate::metadata::describe_fault;
 
 /// A refusal as the library gives it, and what the file's own bytes tell about it.
 #[derive(Clone, Debug, PartialEq, Eq)]
@@ -44,7 +45,7 @@ impl Refusal {
     /// The refusal to make an archive.
     pub fn of_making(number: u64, detail: Option<String>) -> Self {
         let advice = match number {
-            9 => Some("give metadata in braces, such as '{}', or @FILE for that of a file"),
+            9 => Some("give one JSON object, quoted for the shell as in '{\"about\": \"names\"}', or @FILE for that of a file"),
             28 => Some("give one record or more; with --length-prefixed each after its length, in the form named"),
             29 => Some("give --sort, or sort the input by its bytes, as LC_ALL=C sort does"),
             31 => Some("put the records into several archives"),
@@ -98,6 +99,7 @@ fn find_detail(number: u64, file: &[u8]) -> Option<String> {
         )),
         7 => codec_name(file).map(|codec| format!("it is \"{}\"", escape(codec))),
         8 => Some(compare_lengths(file, "the header says", total_length(file))),
+        9 => stored_metadata(file).map(describe_fault),
         _ => None,
     }
 }

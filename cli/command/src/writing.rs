@@ -3,9 +3,9 @@
 use zs_library::Counts;
 
 use crate::encoding::{lack_memory, Encoded};
-use crate::escapes::quote;
 use crate::failure::Failure;
 use crate::input::LONGEST;
+use crate::metadata::describe_fault;
 use crate::refusals::Refusal;
 
 /// About so many bytes of records make a data block, where nobody says how many records.
@@ -47,7 +47,7 @@ pub fn usual_count(records: &Encoded) -> u64 {
 pub fn refuse_early(metadata: &[u8], counts: Counts) -> Result<(), Failure> {
     let number = zs_library::write(metadata, &[], counts, &mut []).number;
     let detail = match number {
-        9 => describe_ends(metadata),
+        9 => describe_fault(metadata),
         30 => describe_counts(counts),
         _ => return Ok(()),
     };
@@ -116,17 +116,6 @@ fn describe_counts(counts: Counts) -> String {
     match per_block {
         1..=MOST_PER_BLOCK => format!("--entries-per-block is {per_index}"),
         _ => format!("--records-per-block is {per_block}"),
-    }
-}
-
-/// Says how metadata begin and end.
-fn describe_ends(metadata: &[u8]) -> String {
-    match (metadata.first(), metadata.last()) {
-        (Some(first), Some(last)) => {
-            let (first, last) = (quote(&[*first]), quote(&[*last]));
-            format!("it begins with {first} and ends with {last}")
-        }
-        _ => "it is empty".into(),
     }
 }
 

@@ -183,18 +183,6 @@ fn info_is_json_of_the_header() {
 }
 
 #[test]
-fn metadata_that_is_no_json_becomes_a_string() {
-    let mut odd = Tree::new(&[&["a"]]);
-    odd.metadata = b"{\"\xff\n}".to_vec();
-    let folder = Folder::new();
-    let file = folder.write("odd.zs", &odd.bytes());
-    let run = zs(&["info", &file]);
-    assert_eq!(run.status, 0);
-    assert!(run.text().contains(r#""metadata": "{\\x22\\xff\\n}","#));
-    assert_eq!(zs(&["info", "-m", &file]).out, b"{\"\xff\n}\n");
-}
-
-#[test]
 fn explain_shows_what_was_opened() {
     let file = fs::read(CONTACTS).expect("the sample");
     let asked = Query {

@@ -1,10 +1,8 @@
 //! `zs make`: the archive holds the records of the input, in order, each as often as given.
 
-use std::ffi::OsStr;
 use std::fs;
-use std::os::unix::ffi::OsStrExt;
 
-use crate::support::{shell, zs, zs_with_input, Folder, CONTACTS, SMALL};
+use crate::support::{nest_metadata, shell, zs, zs_with_input, Folder, CONTACTS, SMALL};
 use zs_reference::maker::random::Random;
 use zs_reference::reader::{self, Query};
 
@@ -292,7 +290,7 @@ fn inputs_are_files_or_standard_input() {
 #[test]
 fn metadata_is_stored_as_it_is_given() {
     let folder = Folder::new();
-    let about = "{\"about\": \"n\u{e9}\",\n \"-\": \"@\"}";
+    let about = "{\"about\": \"n\u{e9}\u{1f600}\u{7f}\\ud800\\u0000\",\r\n\t\"-\" : [1E9], \"\": 1, \"\": {}}";
     folder.write("about", format!("\r\n{about} \t\n\n").as_bytes());
     let run = shell("printf 'a\\n' >names; $ZS make @about names text", &folder);
     assert_eq!(run.status, 0, "{}", run.err);
@@ -304,16 +302,19 @@ fn metadata_is_stored_as_it_is_given() {
     let (names, out) = (folder.name("names"), folder.name("given"));
     assert_eq!(zs(&["make", &given, &names, &out]).status, 0);
     for file in ["text", "piped", "given"] {
-        let stored = zs(&["info", "-m", &folder.name(file)]).text();
-        assert_eq!(stored, format!("{about}\n"));
+        let file = folder.name(file);
+        let shown = zs(&["info", "-m", &file]).out;
+        assert_eq!(shown, [about.as_bytes(), b"\n"].concat());
+        let bytes = fs::read(file).expect("the archive");
+        assert_eq!(&bytes[96..][..about.len()], about.as_bytes());
     }
-    let (latin, out) = (OsStr::from_bytes(b"{\xe9}"), folder.name("latin"));
-    let words = [
-        OsStr::new("make"),
-        latin,
-        OsStr::new(&names),
-        OsStr::new(&out),
-    ];
-    assert_eq!(zs(&words).status, 0);
-    assert_eq!(zs(&["info", "-m", &out]).out, b"{\xe9}\n");
+}
+
+#[test]
+fn metadata_may_be_nested_64_deep() {
+    let folder = Folder::new();
+    let (names, out) = (folder.write("names", b"a\n"), folder.name("out"));
+    let metadata = nest_metadata(64);
+    assert_eq!(zs(&["make", &metadata, &names, &out]).status, 0);
+    assert_eq!(zs(&["info", "-m", &out]).text(), metadata + "\n");
 }

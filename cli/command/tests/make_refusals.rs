@@ -2,7 +2,7 @@
 
 use std::fs::{self, File};
 
-use crate::support::{shell, zs, zs_with_input, Folder, Run};
+use crate::support::{nest_metadata, shell, zs, zs_with_input, Folder, Run, NO_JSON};
 
 const ULEB128: &[&str] = &["--length-prefixed", "uleb128"];
 const U64LE: &[&str] = &["--length-prefixed", "u64le"];
@@ -154,18 +154,65 @@ fn lengths_that_cannot_be_made_out() {
 }
 
 #[test]
-fn metadata_without_braces() {
+fn metadata_that_is_no_json_object() {
     for (metadata, detail) in [
         ("", "it is empty"),
         (" \n", "it is empty"),
         ("{", r#"it begins with "{" and ends with "{""#),
         ("about.json", r#"it begins with "a" and ends with "n""#),
         ("-", r#"it begins with "-" and ends with "-""#),
-        ("{}\u{feff}", r#"it begins with "{" and ends with "\xbf""#),
+        ("[{}]", r#"it begins with "[" and ends with "]""#),
+        ("\u{e9}{}", r#"it begins with "\xc3\xa9" and ends with "}""#),
+        (
+            "\u{feff}{}\n",
+            r#"it begins with the byte order mark "\xef\xbb\xbf" and ends with "}""#,
+        ),
+        (
+            "{}\u{a0}",
+            r#"it begins with "{" and ends with the white space "\xc2\xa0""#,
+        ),
+        ("{oops}", NO_JSON),
+        ("{'a': 1}", NO_JSON),
+        ("{\"a\": 1,}", NO_JSON),
+        ("{} {}", NO_JSON),
+        (&nest_metadata(65), NO_JSON),
     ] {
         refuse(metadata, b"a\n", NONE, "", 9, detail);
     }
     refuse("@/dev/null", b"a\n", NONE, "@/dev/null", 9, "it is empty");
+}
+
+#[test]
+fn metadata_that_is_not_utf_8() {
+    let folder = Folder::new();
+    for (metadata, detail) in [
+        (&b"{\"\xe9\": 1}\n"[..], r#"after 2 bytes comes "\xe9""#),
+        (
+            b"{\"\xc3\xa9\": \"\xed\xa0\x80\"}",
+            r#"after 8 bytes comes "\xed""#,
+        ),
+        (b"{\xc3", r#"after 1 byte comes "\xc3""#),
+        (b"\xff\xfe{\0}\0", r#"after 0 bytes comes "\xff""#),
+    ] {
+        let file = format!("@{}", folder.write("about", metadata));
+        refuse(
+            &file,
+            b"a\n",
+            NONE,
+            &file,
+            9,
+            &format!("it isn't UTF-8: {detail}"),
+        );
+    }
+}
+
+#[test]
+fn what_metadata_has_to_be_is_said() {
+    let run = make("{oops}", b"a\n", NONE);
+    let due = "zs: refused 9: the metadata isn't one JSON object from { to }, in UTF-8 and nested at most 64 deep (";
+    assert!(run.err.starts_with(due), "{}", run.err);
+    let due = "\nzs: what to do: give one JSON object, quoted for the shell as in '{\"about\": \"names\"}', or @FILE for that of a file\n";
+    assert!(run.err.ends_with(due), "{}", run.err);
 }
 
 #[test]
@@ -202,9 +249,15 @@ fn of_several_faults_the_first_in_order_is_told() {
 #[test]
 fn counts_and_metadata_are_refused_before_the_input_is_read() {
     let folder = Folder::new();
-    for words in ["x missing out", "'{}' missing out --records-per-block 0"] {
+    for (words, number) in [
+        ("x missing out", 9),
+        ("'{oops}' missing out", 9),
+        ("'{}' missing out --records-per-block 0", 30),
+    ] {
         let run = shell(&format!("$ZS make {words}"), &folder);
         assert_eq!(run.status, 1, "{}", run.err);
+        let due = format!("zs: refused {number}: ");
+        assert!(run.err.starts_with(&due), "{}", run.err);
     }
 }
 

@@ -226,7 +226,7 @@ pub fn metadata_part(file: &[u8]) -> Part {
     unsafe { zs_metadata(file.as_ptr(), file.len()) }
 }
 
-/// The metadata, braces included; none where the header is refused. Blocks aren't looked at.
+/// The metadata, for which [`is_metadata`] holds; none where the header is refused. Blocks aren't looked at.
 pub fn metadata(file: &[u8]) -> Option<&[u8]> {
     let part = metadata_part(file);
     (part.length > 0).then(|| bytes_of(file, part))

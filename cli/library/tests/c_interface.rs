@@ -22,6 +22,7 @@ results 111 2 124 2 0 0
 record 111 2 0 0
 within 1 0 0 0
 metadata 96 2 0 0
+is metadata 1 1 0 0
 write 0 0 155 0
 check 0 0 3 4
 read 0 0 3 0
@@ -40,6 +41,7 @@ null stop 0 0 0 1
 null results 27 0 0 0
 null results 27 0 0 0
 null opened 26 0 0 0
+null metadata 0 0 0 0
 null metadata 9 0 0 0
 null records 28 0 0 0
 null output 31 0 0 0

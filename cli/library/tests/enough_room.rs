@@ -3,7 +3,7 @@
 use std::path::Path;
 use std::thread;
 
-use zs_library::{check, read, search, write, Counts, Query};
+use zs_library::{check, is_metadata, read, search, write, Counts, Query};
 use zs_reference::maker::{Image, Plan};
 
 const STACK: usize = 64 << 10;
@@ -27,11 +27,19 @@ fn least_blocks(count: usize) -> Vec<u8> {
     Image::new(blocks).bytes()
 }
 
-/// One data block, and an index block on each of the 63 levels above it.
+/// One data block, and an index block on each of the 63 levels above it; in the metadata objects are nested as deep as they may be.
 fn deepest_tree() -> Vec<u8> {
     let mut blocks = vec![Plan::data(&["a"])];
     blocks.extend((1..=63).map(|level| Plan::index(level, &[("", usize::from(level) - 1)])));
-    Image::new(blocks).bytes()
+    let mut image = Image::new(blocks);
+    image.metadata = format!("{}{{}}{}", "{\"\":".repeat(63), "}".repeat(63)).into_bytes();
+    image.bytes()
+}
+
+/// An object in which arrays are nested, so many of both.
+fn nested_arrays(depth: usize) -> Vec<u8> {
+    let (open, close) = ("[".repeat(depth - 1), "]".repeat(depth - 1));
+    format!("{{\"\":{open}{close}}}").into_bytes()
 }
 
 /// The stored files of every kind, and the two above.
@@ -87,12 +95,13 @@ fn a_stack_of_64_kib() {
         let checked = check(&file, &mut [7; 64]);
         let found = search(&file, &ALL, &mut [7; 64], &mut [7; 2]);
         let written = write(
-            b"{}",
+            &nested_arrays(64),
             &RECORDS,
             LEAST_COUNTS,
             &mut vec![7; 100 * RECORDS.len()],
         );
         assert_eq!([checked.number, found.number, written.number], [0; 3]);
+        assert!(!is_metadata(&nested_arrays(100_000)));
         (checked.blocks, found.opened)
     };
     let small = thread::Builder::new().stack_size(STACK);

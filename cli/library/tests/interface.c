@@ -75,7 +75,11 @@ static void call_all(void)
 
     print_part("record", zs_record(file, length, results[0], results[1]));
     print_four("within", zs_within(file, length, length, 0), zs_within(file, length, length, 1), 0, 0);
-    print_part("metadata", zs_metadata(file, length));
+
+    zs_part metadata = zs_metadata(file, length);
+    print_part("metadata", metadata);
+    print_four("is metadata", zs_is_metadata(file + metadata.offset, (size_t)metadata.length), zs_is_metadata((const uint8_t *)"{}", 2),
+               zs_is_metadata((const uint8_t *)"{oops}", 6), zs_is_metadata((const uint8_t *)"{}", 1));
 }
 
 /* Writes the records of the example, two in a data block, into so many bytes, and prints the answer and how many bytes after the file
@@ -123,6 +127,7 @@ static void call_with_null(void)
     print_found("null results", zs_search(file, length, NULL, 0, false, NULL, 0, NULL, 0, opened, OPENED, NULL, 0));
     print_found("null opened", zs_search(file, length, NULL, 0, false, NULL, 0, NULL, 0, NULL, 0, results, RESULTS));
 
+    print_four("null metadata", zs_is_metadata(NULL, 0), 0, 0, 0);
     print_written("null metadata", zs_write(NULL, 0, file, 0, 1, 2, output, OUTPUT));
     print_written("null records", zs_write((const uint8_t *)"{}", 2, NULL, 0, 1, 2, output, OUTPUT));
     print_written("null output", zs_write((const uint8_t *)"{}", 2, (const uint8_t *)"", 1, 1, 2, NULL, 0));

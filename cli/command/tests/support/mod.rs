@@ -11,6 +11,10 @@ pub const ZS: &str = env!("CARGO_BIN_EXE_zs");
 pub const CONTACTS: &str = concat!(env!("CARGO_MANIFEST_DIR"), "/../../samples/contacts.zs");
 pub const SMALL: &str = concat!(env!("CARGO_MANIFEST_DIR"), "/../../samples/small.zs");
 
+/// What is said of metadata in UTF-8 that begins and ends as it should.
+pub const NO_JSON: &str = "what stands between the braces isn't JSON, or is nested too deep; \
+     often a name or a text lacks its double quotes, or a comma stands before } or ]";
+
 /// What a run gave.
 #[derive(Debug)]
 pub struct Run {
@@ -106,6 +110,12 @@ impl Drop for Folder {
     fn drop(&mut self) {
         let _ = fs::remove_dir_all(&self.0);
     }
+}
+
+/// An object in which arrays are nested, so many of both.
+pub fn nest_metadata(depth: usize) -> String {
+    let (open, close) = ("[".repeat(depth - 1), "]".repeat(depth - 1));
+    format!("{{\"a\": {open}{close}}}")
 }
 
 /// The sample with one bit flipped in its first data block, and the place of that block.
