@@ -10,9 +10,9 @@ use lib.ListN.{length, length-append, getD}
 use borrow.Author.Tests.{eqb-true, eq-eqb, ne-eqb}
 use Rattle.utf8.specs.Utf8.{isUtf8}
 use Rattle.utf8.proofs.Utf8Laws.{isUtf8⇒Utf8, Utf8⇒isUtf8}
-use Rattle.json.specs.Grammar.{Structural, structural, Derives, object, no-members, some-members}
-use Rattle.json.specs.Recogniser.{isObject}
-use Rattle.json.proofs.Recognised.{isObject⇒derived, derived⇒isObject}
+use Rattle.json_grammar.specs.Grammar.{Structural, structural, Derives, object, no-members, some-members}
+use Rattle.json_grammar.specs.Recogniser.{isObject}
+use Rattle.json_grammar.proofs.Recognised.{isObject⇒derived, derived⇒isObject}
 use Rattle.header.specs.Metadata.{Metadata, isMetadata}
 
 -- ---- the test and the relation

@@ -6,8 +6,8 @@ use mathlib.Core.List.{List}
 use lib.Dec.{eqb}
 use lib.ListN.{length, getD}
 use Rattle.utf8.specs.Utf8.{Utf8, isUtf8}
-use Rattle.json.specs.Grammar.{Derives, object}
-use Rattle.json.specs.Recogniser.{isObject}
+use Rattle.json_grammar.specs.Grammar.{Derives, object}
+use Rattle.json_grammar.specs.Recogniser.{isObject}
 
 -- The metadata are UTF-8 and one JSON object, in which objects and arrays are nested at most 64 deep, itself among them. The first byte is
 -- `{` and the last `}`.

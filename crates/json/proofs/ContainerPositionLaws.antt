@@ -12,15 +12,15 @@ use borrow.Author.Tests.{leb-true, leb-false, ne-eqb}
 use Rattle.json.specs.declared.End.{End}
 use Rattle.json.specs.declared.items.Next.{Next}
 use Rattle.json.specs.declared.items.Next.the-variants.{Item, Closed as ClosedAt, Neither}
-use Rattle.json.specs.Recogniser.{_>>=_, skip, structuralEnd, scalarEnd, plainEnd, itemNext, itemsFrom, itemsEnd, containerEnd}
-use Rattle.json.specs.Recogniser.{memberOver, objectOver, arrayOver, valueOver, valueEnd, objectEnd, arrayEnd, isDone, isObject}
+use Rattle.json_grammar.specs.Recogniser.{_>>=_, skip, structuralEnd, scalarEnd, plainEnd, itemNext, itemsFrom, itemsEnd, containerEnd}
+use Rattle.json_grammar.specs.Recogniser.{memberOver, objectOver, arrayOver, valueOver, valueEnd, objectEnd, arrayEnd, isDone, isObject}
 use Rattle.json.specs.Answers.{first, endSaid, noItems, nextSaid, opened}
-use Rattle.json.proofs.BindLaws.{by-cond, only⁻¹, none-not-some, some-injective, bind-some, bind-none}
-use Rattle.json.proofs.FrontLaws.{Shortens}
+use Rattle.json_grammar.proofs.BindLaws.{by-cond, only⁻¹, none-not-some, some-injective, bind-some, bind-none}
+use Rattle.json_grammar.proofs.FrontLaws.{Shortens}
 use Rattle.json.proofs.PositionLaws.{past, here}
-use Rattle.json.proofs.SpaceLaws.{skip-shorter}
+use Rattle.json_grammar.proofs.SpaceLaws.{skip-shorter}
 use Rattle.json.proofs.ItemPositionLaws.{not-only}
-use Rattle.json.proofs.FuelLaws.{items-unfold}
+use Rattle.json_grammar.proofs.FuelLaws.{items-unfold}
 
 -- ---- how a container begins: from `s`, after the opening character `t`
 

@@ -6,8 +6,8 @@ use mathlib.Core.Bool.{Bool, true, false, cond}
 use mathlib.Core.List.{List, [], _∷_}
 use mathlib.Core.Option.{Option, none, some}
 use lib.Dec.{eqb}
-use Rattle.json.specs.Recogniser.{_>>=_, skip, stringEnd, structuralEnd, nameEnd, itemNext, memberOver}
-use Rattle.json.proofs.BindLaws.{only⁻¹, none-not-some, some-injective}
+use Rattle.json_grammar.specs.Recogniser.{_>>=_, skip, stringEnd, structuralEnd, nameEnd, itemNext, memberOver}
+use Rattle.json_grammar.proofs.BindLaws.{only⁻¹, none-not-some, some-injective}
 
 -- ---- a name: from `s`, after the string `t`, after white space `r`
 

@@ -7,8 +7,8 @@ use mathlib.Core.Bool.{Bool, true, false, _&&_, and-eq-true-iff, false≢true}
 use mathlib.Core.List.{List, [], _∷_}
 use lib.Dec.{eqb}
 use borrow.Author.Tests.{eqb-true, eq-eqb}
-use Rattle.json.specs.Recogniser.{oneOf}
-use Rattle.json.proofs.ByteLaws.{by-or, or-left, or-right}
+use Rattle.json_grammar.specs.Recogniser.{oneOf}
+use Rattle.json_grammar.proofs.ByteLaws.{by-or, or-left, or-right}
 
 -- the byte is one of the keys
 abbrev pub Key : ℕ → List ℕ → ℕ → Type 0

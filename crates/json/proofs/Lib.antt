@@ -1,23 +1,9 @@
--- Laws.
-pub mod BindLaws
-pub mod ByteLaws
+-- Laws of positions.
 pub mod KeyLaws
 pub mod PositionLaws
-pub mod FrontLaws
-pub mod SpaceLaws
 pub mod SpacePositionLaws
-pub mod NumberLaws
 pub mod NumberPositionLaws
-pub mod StringLaws
 pub mod StringPositionLaws
-pub mod ScalarLaws
 pub mod ScalarPositionLaws
 pub mod ItemPositionLaws
-pub mod ItemsSound
-pub mod Soundness
-pub mod ShorterLaws
-pub mod FuelLaws
 pub mod ContainerPositionLaws
-pub mod ItemsComplete
-pub mod Completeness
-pub mod Recognised

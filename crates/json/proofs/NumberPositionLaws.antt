@@ -9,7 +9,7 @@ use native.Mathlib.Omega.{arith}
 use lib.ListN.{drop}
 use borrow.Author.Tests.{ne-eqb}
 use Rattle.byte_range.proofs.RangeLaws.{within⇒in}
-use Rattle.json.specs.Recogniser.{_>>=_, oneOf, isDigit, skipDigits, digitsEnd, skipMinus, intEnd, fracEnd, skipSign, expEnd, numberEnd}
+use Rattle.json_grammar.specs.Recogniser.{_>>=_, oneOf, isDigit, skipDigits, digitsEnd, skipMinus, intEnd, fracEnd, skipSign, expEnd, numberEnd}
 use Rattle.json.specs.Answers.{first}
 use Rattle.json.proofs.PositionLaws.{begins, one-more, Passes}
 

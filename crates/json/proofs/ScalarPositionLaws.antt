@@ -7,7 +7,7 @@ use mathlib.Core.Option.{none, some}
 use native.Mathlib.Omega.{arith}
 use lib.ListN.{length, drop, getD}
 use borrow.Author.Tests.{eq-eqb, ne-eqb}
-use Rattle.json.specs.Recogniser.{_>>=_, skip, skipMinus, intEnd, numberEnd, stringEnd, wordEnd, scalarEnd, plainEnd}
+use Rattle.json_grammar.specs.Recogniser.{_>>=_, skip, skipMinus, intEnd, numberEnd, stringEnd, wordEnd, scalarEnd, plainEnd}
 use Rattle.json.specs.Answers.{first}
 use Rattle.json.proofs.PositionLaws.{past, here}
 

@@ -6,7 +6,7 @@ use mathlib.Core.List.{List, [], _∷_}
 use mathlib.Core.Option.{none, some}
 use lib.ListN.{drop}
 use borrow.Author.Tests.{eq-eqb, ne-eqb}
-use Rattle.json.specs.Recogniser.{isSpace, skip, structuralEnd}
+use Rattle.json_grammar.specs.Recogniser.{isSpace, skip, structuralEnd}
 use Rattle.json.specs.Answers.{first}
 use Rattle.json.proofs.PositionLaws.{begins, Passes}
 

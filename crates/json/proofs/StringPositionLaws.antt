@@ -10,10 +10,10 @@ use lib.ListN.{length, drop, getD}
 use borrow.Author.Tests.{ne-eqb, le-leb, lt-leb}
 use Rattle.json.specs.declared.string.Step.{Step}
 use Rattle.json.specs.declared.string.Step.the-variants.{Closed, Due, Stray}
-use Rattle.json.specs.Recogniser.{isHex, isEscape, charsEnd, stringEnd}
+use Rattle.json_grammar.specs.Recogniser.{isHex, isEscape, charsEnd, stringEnd}
 use Rattle.json.specs.Answers.{first, stepSaid}
 use Rattle.json.proofs.PositionLaws.{past, here, begins}
-use Rattle.json.proofs.StringLaws.{escape-plain}
+use Rattle.json_grammar.proofs.StringLaws.{escape-plain}
 
 -- ---- a byte, by what is due
 

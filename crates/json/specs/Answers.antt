@@ -9,7 +9,7 @@ use Rattle.json.specs.declared.string.Step.{Step}
 use Rattle.json.specs.declared.string.Step.the-variants.{Closed, Due, Stray}
 use Rattle.json.specs.declared.items.Next.{Next}
 use Rattle.json.specs.declared.items.Next.the-variants.{Item, Closed as ClosedAt, Neither}
-use Rattle.json.specs.Recogniser.{_>>=_, charsEnd, structuralEnd}
+use Rattle.json_grammar.specs.Recogniser.{_>>=_, charsEnd, structuralEnd}
 
 -- the first byte; 0 where there is none
 unfoldable pub first : List ℕ → ℕ

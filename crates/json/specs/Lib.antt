@@ -1,4 +1,2 @@
--- JSON.
-pub mod Grammar
-pub mod Recogniser
+-- What the code of the recogniser answers.
 pub mod Answers

@@ -2,7 +2,7 @@
 ghost use mathlib.Core.Path.{_≡_};
 ghost use lib.ListN.{drop};
 ghost use Rattle.byte_range.specs.Range.{within};
-ghost use Rattle.json.specs.Recogniser.{isSpace, isDigit, isHex};
+ghost use Rattle.json_grammar.specs.Recogniser.{isSpace, isDigit, isHex};
 ghost use Rattle.json.specs.Answers.{first};
 
 fn within(low: u8, high: u8, b: u8) -> bool

@@ -4,7 +4,7 @@ ghost use mathlib.Core.Path.{_≡_};
 ghost use mathlib.Core.List.{List};
 ghost use mathlib.Core.Option.{Option};
 ghost use lib.ListN.{drop};
-ghost use Rattle.json.specs.Recogniser.{itemNext, itemsEnd, containerEnd, nameEnd};
+ghost use Rattle.json_grammar.specs.Recogniser.{itemNext, itemsEnd, containerEnd, nameEnd};
 ghost use Rattle.json.specs.Answers.{endSaid, noItems, nextSaid, opened};
 use crate::End;
 use crate::space::skip;

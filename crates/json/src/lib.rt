@@ -3,7 +3,7 @@
 // An inner function takes the bytes and a position, and answers where the text ends that it is named after, if one stands there. Behind the
 // end of the bytes nothing stands.
 ghost use mathlib.Core.Path.{_≡_};
-ghost use Rattle.json.specs.Recogniser.{isObject};
+ghost use Rattle.json_grammar.specs.Recogniser.{isObject};
 
 mod byte;
 mod items;

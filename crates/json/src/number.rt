@@ -1,7 +1,7 @@
 // Numbers.
 ghost use mathlib.Core.Path.{_≡_};
 ghost use lib.ListN.{drop};
-ghost use Rattle.json.specs.Recogniser as recogniser;
+ghost use Rattle.json_grammar.specs.Recogniser as recogniser;
 ghost use Rattle.json.specs.Answers.{endSaid};
 use crate::End;
 use crate::byte::byte_at;

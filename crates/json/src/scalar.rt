@@ -1,7 +1,7 @@
 // Values that hold no others.
 ghost use mathlib.Core.Path.{_≡_};
 ghost use lib.ListN.{drop};
-ghost use Rattle.json.specs.Recogniser.{wordEnd, scalarEnd, plainEnd};
+ghost use Rattle.json_grammar.specs.Recogniser.{wordEnd, scalarEnd, plainEnd};
 ghost use Rattle.json.specs.Answers.{endSaid};
 use crate::End;
 use crate::byte::byte_at;

@@ -2,7 +2,7 @@
 ghost use Prim.Native.Nat.{_<_};
 ghost use mathlib.Core.Path.{_≡_};
 ghost use lib.ListN.{drop};
-ghost use Rattle.json.specs.Recogniser.{skip, structuralEnd};
+ghost use Rattle.json_grammar.specs.Recogniser.{skip, structuralEnd};
 ghost use Rattle.json.specs.Answers.{endSaid};
 use crate::End;
 use crate::byte::byte_at;

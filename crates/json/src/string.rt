@@ -3,7 +3,7 @@ ghost use Prim.Native.Nat.{ℕ};
 ghost use mathlib.Core.Path.{_≡_};
 ghost use mathlib.Core.List.{List, _∷_};
 ghost use lib.ListN.{drop};
-ghost use Rattle.json.specs.Recogniser.{charsEnd, stringEnd};
+ghost use Rattle.json_grammar.specs.Recogniser.{charsEnd, stringEnd};
 ghost use Rattle.json.specs.Answers.{endSaid, stepSaid};
 use crate::End;
 use crate::byte::byte_at;

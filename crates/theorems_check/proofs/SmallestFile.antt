@@ -16,7 +16,7 @@ use Rattle.part.specs.Part.{part}
 use Rattle.items.specs.Items.{itemsFrom}
 use Rattle.lists.specs.Lists.{keep, any, all}
 use Rattle.utf8.specs.Utf8 as utf8
-use Rattle.json.specs.Recogniser as json
+use Rattle.json_grammar.specs.Recogniser as json
 use Rattle.header.specs.Header as head
 use Rattle.header.specs.Metadata as meta
 use Rattle.framing.specs.Frame as frame

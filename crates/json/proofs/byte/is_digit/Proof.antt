@@ -1,5 +1,5 @@
 -- `is_digit` meets its contract, by that of `within`. Assumes nothing.
-use Rattle.json.specs.Recogniser.{isDigit}
+use Rattle.json_grammar.specs.Recogniser.{isDigit}
 use borrow.Author.Needs.{needs}
 use Rattle.json.proofs.byte.is_digit.Statement.{statement}
 use Rattle.json.proofs.byte.is_digit.Tie as tie

@@ -1,6 +1,6 @@
 -- `is_hex` meets its contract: each way through the tests is the definition's. Assumes nothing.
 use mathlib.Core.Path.{sym, _∙_}
-use Rattle.json.specs.Recogniser.{isHex}
+use Rattle.json_grammar.specs.Recogniser.{isHex}
 use borrow.Author.Needs.{needs}
 use Rattle.json.proofs.byte.is_hex.Statement.{statement}
 use Rattle.json.proofs.byte.is_hex.Tie as tie

@@ -2,7 +2,7 @@
 use mathlib.Core.Path.{sym}
 use mathlib.Core.Bool.{or-false}
 use borrow.Author.Tests.{ne-eqb}
-use Rattle.json.specs.Recogniser.{oneOf, isSpace}
+use Rattle.json_grammar.specs.Recogniser.{oneOf, isSpace}
 use Rattle.json.proofs.byte.is_space.Statement.{statement}
 use Rattle.json.proofs.byte.is_space.Tie as tie
 

@@ -4,7 +4,7 @@ use mathlib.Core.Logic.{⊎-elim}
 use mathlib.Core.List.{[], _∷_}
 use native.Mathlib.Omega.{arith}
 use denote.Ref.{now}
-use Rattle.json.specs.Recogniser.{oneOf}
+use Rattle.json_grammar.specs.Recogniser.{oneOf}
 use Rattle.json.specs.Answers.{endSaid}
 use Rattle.json.proofs.KeyLaws.{key-taken, no-key}
 use Rattle.json.proofs.PositionLaws.{stands}

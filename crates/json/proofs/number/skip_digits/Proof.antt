@@ -5,7 +5,7 @@ use mathlib.Core.Path.{_≡_, refl, sym, _∙_}
 use lib.ListN.{length, drop}
 use borrow.Author.Needs.{needs}
 use borrow.Author.Tests.{not-true, not-false}
-use Rattle.json.specs.Recogniser.{isDigit, skipDigits}
+use Rattle.json_grammar.specs.Recogniser.{isDigit, skipDigits}
 use Rattle.json.proofs.PositionLaws.{pass-end, pass-stop, pass-more}
 use Rattle.json.proofs.NumberPositionLaws.{digits-pass}
 use Rattle.json.proofs.number.skip_digits.Statement.{statement}

@@ -5,7 +5,7 @@ use mathlib.Core.Path.{refl}
 use mathlib.Core.List.{[], _∷_}
 use native.Mathlib.Omega.{arith}
 use denote.Ref.{now}
-use Rattle.json.specs.Recogniser.{oneOf}
+use Rattle.json_grammar.specs.Recogniser.{oneOf}
 use Rattle.json.proofs.KeyLaws.{key-taken, no-key}
 use Rattle.json.proofs.PositionLaws.{stands}
 use Rattle.json.proofs.NumberPositionLaws.{sign-found, sign-none}

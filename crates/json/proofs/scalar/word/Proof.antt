@@ -5,7 +5,7 @@ use mathlib.Core.Path.{_≡_, refl, _∙_}
 use lib.ListN.{length, drop}
 use borrow.Author.Needs.{needs}
 use denote.Ref.{now}
-use Rattle.json.specs.Recogniser.{wordEnd}
+use Rattle.json_grammar.specs.Recogniser.{wordEnd}
 use Rattle.json.specs.Answers.{endSaid}
 use Rattle.json.proofs.ScalarPositionLaws.{word-whole, word-cut, word-other, word-more}
 use Rattle.json.proofs.scalar.word.Statement.{statement}

@@ -4,7 +4,7 @@ use Prim.Native.Nat.{_-_}
 use mathlib.Core.Path.{_≡_, refl, _∙_}
 use lib.ListN.{length, drop}
 use borrow.Author.Needs.{needs}
-use Rattle.json.specs.Recogniser.{charsEnd}
+use Rattle.json_grammar.specs.Recogniser.{charsEnd}
 use Rattle.json.specs.Answers.{endSaid}
 use Rattle.json.proofs.StringPositionLaws.{step-closed, step-due, step-stray, chars-cut}
 use Rattle.json.proofs.string.chars.Statement.{statement}

@@ -2,7 +2,7 @@
 use mathlib.Core.Path.{refl, sym, _∙_}
 use mathlib.Core.List.{[], _∷_}
 use native.Mathlib.Omega.{arith}
-use Rattle.json.specs.Recogniser.{oneOf, isEscape}
+use Rattle.json_grammar.specs.Recogniser.{oneOf, isEscape}
 use Rattle.json.specs.Answers.{stepSaid}
 use Rattle.json.proofs.KeyLaws.{key-taken, no-key}
 use Rattle.json.proofs.StringPositionLaws.{char-closes, char-escapes, char-control, char-unescaped}

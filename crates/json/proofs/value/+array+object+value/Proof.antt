@@ -7,11 +7,11 @@ use native.Mathlib.Omega.{arith}
 use lib.ListN.{drop}
 use borrow.Author.Needs.{needs}
 use denote.Ref.{now}
-use Rattle.json.specs.Recogniser.{itemsEnd, memberOver, valueEnd, objectEnd, arrayEnd}
+use Rattle.json_grammar.specs.Recogniser.{itemsEnd, memberOver, valueEnd, objectEnd, arrayEnd}
 use Rattle.json.specs.Answers.{endSaid, nextSaid}
 use Rattle.json.proofs.PositionLaws.{ends, ends-nowhere}
 use Rattle.json.proofs.ItemPositionLaws.{member-unnamed, member-named}
-use Rattle.json.proofs.ShorterLaws.{value-shorter, member-shorter}
+use Rattle.json_grammar.proofs.ShorterLaws.{value-shorter, member-shorter}
 use Rattle.json.proofs.ContainerPositionLaws.{left, item-fails, item-passed, left-falls, items-ended, object-deep, array-deep}
 use Rattle.json.proofs.ContainerPositionLaws.{value-flat, value-object, value-array, value-plain}
 use Prim.Native.Nat.{ℕ, _<_}

@@ -8,11 +8,11 @@ use mathlib.Core.Option.{Option, some}
 use lib.Dec.{eqb}
 use lib.ListN.{length}
 use borrow.Author.Tests.{eqb-true}
-use Rattle.json.specs.Grammar.{Ws, Structural, ValueSeparator}
-use Rattle.json.specs.Recogniser.{skip, itemNext, itemsFrom, itemsEnd, containerEnd}
-use Rattle.json.proofs.BindLaws.{bind⁻¹, by-cond, only⁻¹, none-not-some, some-injective}
-use Rattle.json.proofs.FrontLaws.{Front, Both, both, Sound, front-both, front-as}
-use Rattle.json.proofs.SpaceLaws.{structural-front, structural-spaced}
+use Rattle.json_grammar.specs.Grammar.{Ws, Structural, ValueSeparator}
+use Rattle.json_grammar.specs.Recogniser.{skip, itemNext, itemsFrom, itemsEnd, containerEnd}
+use Rattle.json_grammar.proofs.BindLaws.{bind⁻¹, by-cond, only⁻¹, none-not-some, some-injective}
+use Rattle.json_grammar.proofs.FrontLaws.{Front, Both, both, Sound, front-both, front-as}
+use Rattle.json_grammar.proofs.SpaceLaws.{structural-front, structural-spaced}
 
 -- item *( value-separator item )
 pub data Items (P : List ℕ → Type 0) : List ℕ → Type 0 where

@@ -7,11 +7,11 @@ use mathlib.Core.List.{List, [], _∷_, append-nil}
 use mathlib.Core.Option.{Option, none, some}
 use native.Mathlib.Omega.{arith}
 use lib.ListN.{getD}
-use Rattle.json.specs.Grammar.{Derives, object}
-use Rattle.json.specs.Recogniser.{oneOf, isSpace, skip, objectEnd, isDone, isObject}
-use Rattle.json.proofs.SpaceLaws.{skip-kept}
-use Rattle.json.proofs.Soundness.{object-sound}
-use Rattle.json.proofs.Completeness.{object-complete}
+use Rattle.json_grammar.specs.Grammar.{Derives, object}
+use Rattle.json_grammar.specs.Recogniser.{oneOf, isSpace, skip, objectEnd, isDone, isObject}
+use Rattle.json_grammar.proofs.SpaceLaws.{skip-kept}
+use Rattle.json_grammar.proofs.Soundness.{object-sound}
+use Rattle.json_grammar.proofs.Completeness.{object-complete}
 
 pub recognised⇒derived : (d : ℕ) (m : List ℕ) → objectEnd d m ≡ some [] → Derives object d m
 recognised⇒derived d m e =

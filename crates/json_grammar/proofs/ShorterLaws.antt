@@ -4,13 +4,13 @@ use Prim.Native.Nat.{ℕ, _<_}
 use mathlib.Core.List.{List, _∷_, _++_}
 use native.Mathlib.Omega.{arith}
 use lib.ListN.{length, length-append}
-use Rattle.json.specs.Grammar.{Structural, structural, String, string, Number, Derives, value, object, member, array, named}
-use Rattle.json.specs.Grammar.{false-value, null-value, true-value, object-value, array-value, number-value, string-value}
-use Rattle.json.specs.Grammar.{no-members, some-members, no-values, some-values}
-use Rattle.json.specs.Recogniser.{memberOver, valueEnd, objectEnd, arrayEnd}
-use Rattle.json.proofs.FrontLaws.{Both, both, Shortens, front-shorter}
-use Rattle.json.proofs.NumberLaws.{number-first}
-use Rattle.json.proofs.Soundness.{value-sound, member-sound, object-sound, array-sound}
+use Rattle.json_grammar.specs.Grammar.{Structural, structural, String, string, Number, Derives, value, object, member, array, named}
+use Rattle.json_grammar.specs.Grammar.{false-value, null-value, true-value, object-value, array-value, number-value, string-value}
+use Rattle.json_grammar.specs.Grammar.{no-members, some-members, no-values, some-values}
+use Rattle.json_grammar.specs.Recogniser.{memberOver, valueEnd, objectEnd, arrayEnd}
+use Rattle.json_grammar.proofs.FrontLaws.{Both, both, Shortens, front-shorter}
+use Rattle.json_grammar.proofs.NumberLaws.{number-first}
+use Rattle.json_grammar.proofs.Soundness.{value-sound, member-sound, object-sound, array-sound}
 
 append-some : (s t : List ℕ) → 0 < length s → 0 < length (s ++ t)
 append-some s t h = rw (length-append s t) (omega arith)

@@ -9,11 +9,11 @@ use native.Mathlib.Omega.{arith}
 use lib.Dec.{eqb}
 use lib.ListN.{length, length-append}
 use borrow.Author.Tests.{eqb-true, eq-eqb}
-use Rattle.json.specs.Grammar.{Ws, ws-none, ws-more, Structural, structural}
-use Rattle.json.specs.Recogniser.{isSpace, skip, structuralEnd}
-use Rattle.json.proofs.ByteLaws.{oneOf⇒member, member⇒oneOf}
-use Rattle.json.proofs.BindLaws.{only⁻¹, none-not-some, some-injective}
-use Rattle.json.proofs.FrontLaws.{Front, Both, both, Sound, front-none, front-more}
+use Rattle.json_grammar.specs.Grammar.{Ws, ws-none, ws-more, Structural, structural}
+use Rattle.json_grammar.specs.Recogniser.{isSpace, skip, structuralEnd}
+use Rattle.json_grammar.proofs.ByteLaws.{oneOf⇒member, member⇒oneOf}
+use Rattle.json_grammar.proofs.BindLaws.{only⁻¹, none-not-some, some-injective}
+use Rattle.json_grammar.proofs.FrontLaws.{Front, Both, both, Sound, front-none, front-more}
 
 -- ---- white space
 

@@ -5,16 +5,16 @@ use mathlib.Core.Path.{_≡_, subst}
 use mathlib.Core.List.{List, [], _∷_, _++_, append-assoc}
 use mathlib.Core.Option.{Option}
 use lib.Dec.{eqb}
-use Rattle.json.specs.Grammar.{Ws, BeginArray, BeginObject, NameSeparator, String, Derives, value, object, members, member, array, values}
-use Rattle.json.specs.Grammar.{object-value, array-value}
-use Rattle.json.specs.Grammar.{no-members, some-members, one-member, more-members, named, no-values, some-values, one-value, more-values, ws-none}
-use Rattle.json.specs.Recogniser.{skip, stringEnd, structuralEnd, nameEnd, memberOver, objectOver, arrayOver, valueOver, valueEnd, objectEnd, arrayEnd}
-use Rattle.json.proofs.BindLaws.{bind⁻¹, by-cond, none-not-some}
-use Rattle.json.proofs.FrontLaws.{Front, Both, both, Sound, front-none, front-both, front-as}
-use Rattle.json.proofs.SpaceLaws.{skip-sound, structural-sound, structural-spaced}
-use Rattle.json.proofs.StringLaws.{string-sound}
-use Rattle.json.proofs.ScalarLaws.{plain-sound}
-use Rattle.json.proofs.ItemsSound.{Items, one-item, more-items, Body, no-items, some-items, container-sound}
+use Rattle.json_grammar.specs.Grammar.{Ws, BeginArray, BeginObject, NameSeparator, String, Derives, value, object, members, member, array, values}
+use Rattle.json_grammar.specs.Grammar.{object-value, array-value}
+use Rattle.json_grammar.specs.Grammar.{no-members, some-members, one-member, more-members, named, no-values, some-values, one-value, more-values, ws-none}
+use Rattle.json_grammar.specs.Recogniser.{skip, stringEnd, structuralEnd, nameEnd, memberOver, objectOver, arrayOver, valueOver, valueEnd, objectEnd, arrayEnd}
+use Rattle.json_grammar.proofs.BindLaws.{bind⁻¹, by-cond, none-not-some}
+use Rattle.json_grammar.proofs.FrontLaws.{Front, Both, both, Sound, front-none, front-both, front-as}
+use Rattle.json_grammar.proofs.SpaceLaws.{skip-sound, structural-sound, structural-spaced}
+use Rattle.json_grammar.proofs.StringLaws.{string-sound}
+use Rattle.json_grammar.proofs.ScalarLaws.{plain-sound}
+use Rattle.json_grammar.proofs.ItemsSound.{Items, one-item, more-items, Body, no-items, some-items, container-sound}
 
 name-sound : Sound nameEnd (Both String NameSeparator)
 unfolding nameEnd

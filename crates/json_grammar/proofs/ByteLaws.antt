@@ -8,8 +8,8 @@ use lib.Dec.{leb, eqb}
 use borrow.Author.Tests.{eqb-true, eq-eqb, leb-true, le-leb}
 use Rattle.byte_range.specs.Range.{within}
 use Rattle.byte_range.proofs.RangeLaws.{within⇒in, in⇒within}
-use Rattle.json.specs.Grammar.{Hex, hex-digit, hex-upper, hex-lower}
-use Rattle.json.specs.Recogniser.{oneOf, isHex}
+use Rattle.json_grammar.specs.Grammar.{Hex, hex-digit, hex-upper, hex-lower}
+use Rattle.json_grammar.specs.Recogniser.{oneOf, isHex}
 
 -- ---- tests joined
 

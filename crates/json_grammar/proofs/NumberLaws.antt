@@ -10,12 +10,12 @@ use lib.Dec.{eqb}
 use borrow.Author.Tests.{eqb-true, eqb-false, ne-eqb}
 use Rattle.byte_range.specs.Range.{In}
 use Rattle.byte_range.proofs.RangeLaws.{within⇒in, in⇒within}
-use Rattle.json.specs.Grammar.{Digits, digit, digits, Int, int-zero, int-one, int-more, Minus, no-minus, minus, Frac, no-frac, frac}
-use Rattle.json.specs.Grammar.{Sign, no-sign, sign, Exp, no-exp, exp, Number, number}
-use Rattle.json.specs.Recogniser.{_>>=_, oneOf, isDigit, skipDigits, digitsEnd, skipMinus, intEnd, fracEnd, skipSign, expEnd, numberEnd}
-use Rattle.json.proofs.ByteLaws.{oneOf⇒member, member⇒oneOf, or-false⁻¹}
-use Rattle.json.proofs.BindLaws.{bind-some, bind⁻¹, by-cond, only⁻¹, none-not-some, some-injective}
-use Rattle.json.proofs.FrontLaws.{Front, Both, both, Sound, front-none, front-one, front-more, front-both, front-as}
+use Rattle.json_grammar.specs.Grammar.{Digits, digit, digits, Int, int-zero, int-one, int-more, Minus, no-minus, minus, Frac, no-frac, frac}
+use Rattle.json_grammar.specs.Grammar.{Sign, no-sign, sign, Exp, no-exp, exp, Number, number}
+use Rattle.json_grammar.specs.Recogniser.{_>>=_, oneOf, isDigit, skipDigits, digitsEnd, skipMinus, intEnd, fracEnd, skipSign, expEnd, numberEnd}
+use Rattle.json_grammar.proofs.ByteLaws.{oneOf⇒member, member⇒oneOf, or-false⁻¹}
+use Rattle.json_grammar.proofs.BindLaws.{bind-some, bind⁻¹, by-cond, only⁻¹, none-not-some, some-injective}
+use Rattle.json_grammar.proofs.FrontLaws.{Front, Both, both, Sound, front-none, front-one, front-more, front-both, front-as}
 
 isDigit⇒in : (b : ℕ) → isDigit b ≡ true → In 0x30 0x39 b
 unfolding isDigit

@@ -8,10 +8,10 @@ use mathlib.Core.Option.{Option, none, some}
 use native.Mathlib.Omega.{arith}
 use lib.Dec.{eqb}
 use lib.ListN.{length}
-use Rattle.json.specs.Recogniser.{_>>=_, skip, itemNext, itemsFrom, itemsEnd}
-use Rattle.json.proofs.BindLaws.{bind-none, bind-same}
-use Rattle.json.proofs.FrontLaws.{Shortens}
-use Rattle.json.proofs.SpaceLaws.{skip-shorter}
+use Rattle.json_grammar.specs.Recogniser.{_>>=_, skip, itemNext, itemsFrom, itemsEnd}
+use Rattle.json_grammar.proofs.BindLaws.{bind-none, bind-same}
+use Rattle.json_grammar.proofs.FrontLaws.{Shortens}
+use Rattle.json_grammar.proofs.SpaceLaws.{skip-shorter}
 
 -- only shorter texts are asked of the next items
 next-same : (close : ℕ) (f g : List ℕ → Option (List ℕ)) (q : List ℕ) → ((t : List ℕ) → length t < length q → f t ≡ g t)

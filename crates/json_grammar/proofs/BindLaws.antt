@@ -6,7 +6,7 @@ use mathlib.Core.Bool.{Bool, true, false, cond}
 use mathlib.Core.List.{List}
 use mathlib.Core.Option.{Option, none, some}
 use native.Mathlib.Omega.{arith}
-use Rattle.json.specs.Recogniser.{_>>=_}
+use Rattle.json_grammar.specs.Recogniser.{_>>=_}
 
 pub some-injective : (s t : List ℕ) → some s ≡ some t → s ≡ t
 some-injective s t e = cc

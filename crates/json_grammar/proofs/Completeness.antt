@@ -9,20 +9,20 @@ use native.Mathlib.Omega.{arith}
 use lib.Dec.{eqb}
 use borrow.Author.Tests.{ne-eqb}
 use Rattle.byte_range.specs.Range.{In}
-use Rattle.json.specs.Grammar.{Structural, String, string, Number, Symbol, Derives, value, object, members, member, array, values}
-use Rattle.json.specs.Grammar.{false-value, null-value, true-value, object-value, array-value, number-value, string-value}
-use Rattle.json.specs.Grammar.{no-members, some-members, one-member, more-members, named, no-values, some-values, one-value, more-values}
-use Rattle.json.specs.Recogniser.{_>>=_, oneOf, isSpace, isDigit, skip, skipMinus, digitsEnd, intEnd, numberEnd}
-use Rattle.json.specs.Recogniser.{stringEnd, wordEnd, scalarEnd, plainEnd, structuralEnd, nameEnd}
-use Rattle.json.specs.Recogniser.{memberOver, objectOver, arrayOver, valueOver, valueEnd, objectEnd, arrayEnd}
-use Rattle.json.proofs.BindLaws.{bind-some, bind⁻¹, none-not-some}
-use Rattle.json.proofs.SpaceLaws.{skip-kept, structural-first, structural-complete}
-use Rattle.json.proofs.NumberLaws.{goesOn, Apart, number-first}
-use Rattle.json.proofs.StringLaws.{string-complete}
-use Rattle.json.proofs.ScalarLaws.{plain-string, plain-number}
-use Rattle.json.proofs.ItemsSound.{Items, one-item, more-items}
-use Rattle.json.proofs.ShorterLaws.{value-shorter, member-shorter}
-use Rattle.json.proofs.ItemsComplete.{Passes, Closes, brackets-empty, brackets-full}
+use Rattle.json_grammar.specs.Grammar.{Structural, String, string, Number, Symbol, Derives, value, object, members, member, array, values}
+use Rattle.json_grammar.specs.Grammar.{false-value, null-value, true-value, object-value, array-value, number-value, string-value}
+use Rattle.json_grammar.specs.Grammar.{no-members, some-members, one-member, more-members, named, no-values, some-values, one-value, more-values}
+use Rattle.json_grammar.specs.Recogniser.{_>>=_, oneOf, isSpace, isDigit, skip, skipMinus, digitsEnd, intEnd, numberEnd}
+use Rattle.json_grammar.specs.Recogniser.{stringEnd, wordEnd, scalarEnd, plainEnd, structuralEnd, nameEnd}
+use Rattle.json_grammar.specs.Recogniser.{memberOver, objectOver, arrayOver, valueOver, valueEnd, objectEnd, arrayEnd}
+use Rattle.json_grammar.proofs.BindLaws.{bind-some, bind⁻¹, none-not-some}
+use Rattle.json_grammar.proofs.SpaceLaws.{skip-kept, structural-first, structural-complete}
+use Rattle.json_grammar.proofs.NumberLaws.{goesOn, Apart, number-first}
+use Rattle.json_grammar.proofs.StringLaws.{string-complete}
+use Rattle.json_grammar.proofs.ScalarLaws.{plain-string, plain-number}
+use Rattle.json_grammar.proofs.ItemsSound.{Items, one-item, more-items}
+use Rattle.json_grammar.proofs.ShorterLaws.{value-shorter, member-shorter}
+use Rattle.json_grammar.proofs.ItemsComplete.{Passes, Closes, brackets-empty, brackets-full}
 
 -- ---- closing characters
 

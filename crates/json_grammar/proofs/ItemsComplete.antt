@@ -7,14 +7,14 @@ use mathlib.Core.List.{List, [], _∷_, _++_, append-assoc, List·Memᴰ, List·
 use mathlib.Core.Option.{Option, none, some}
 use lib.Dec.{eqb}
 use borrow.Author.Tests.{eqb-true, eq-eqb}
-use Rattle.json.specs.Grammar.{Ws, ws-none, ws-more, Structural, structural}
-use Rattle.json.specs.Recogniser.{_>>=_, oneOf, isSpace, isDigit, skip, itemNext, itemsFrom, itemsEnd, structuralEnd, containerEnd}
-use Rattle.json.proofs.BindLaws.{bind-some, bind-none, none-not-some}
-use Rattle.json.proofs.FrontLaws.{Shortens}
-use Rattle.json.proofs.SpaceLaws.{structural-skip, structural-complete}
-use Rattle.json.proofs.FuelLaws.{items-unfold}
-use Rattle.json.proofs.NumberLaws.{goesOn, Apart}
-use Rattle.json.proofs.ItemsSound.{Items, one-item, more-items}
+use Rattle.json_grammar.specs.Grammar.{Ws, ws-none, ws-more, Structural, structural}
+use Rattle.json_grammar.specs.Recogniser.{_>>=_, oneOf, isSpace, isDigit, skip, itemNext, itemsFrom, itemsEnd, structuralEnd, containerEnd}
+use Rattle.json_grammar.proofs.BindLaws.{bind-some, bind-none, none-not-some}
+use Rattle.json_grammar.proofs.FrontLaws.{Shortens}
+use Rattle.json_grammar.proofs.SpaceLaws.{structural-skip, structural-complete}
+use Rattle.json_grammar.proofs.FuelLaws.{items-unfold}
+use Rattle.json_grammar.proofs.NumberLaws.{goesOn, Apart}
+use Rattle.json_grammar.proofs.ItemsSound.{Items, one-item, more-items}
 
 -- ---- what follows an item
 

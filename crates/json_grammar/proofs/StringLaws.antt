@@ -8,11 +8,11 @@ use mathlib.Core.Option.{none, some}
 use native.Mathlib.Omega.{arith}
 use lib.Dec.{leb, eqb, eqb·suc-zero}
 use borrow.Author.Tests.{eqb-true, eqb-false, ne-eqb, leb-true, le-leb}
-use Rattle.json.specs.Grammar.{Hex, Char, unescaped, escaped, unicode, Chars, quotation-mark, char, String, string}
-use Rattle.json.specs.Recogniser.{oneOf, isHex, isEscape, charsEnd, stringEnd}
-use Rattle.json.proofs.ByteLaws.{oneOf⇒member, member⇒oneOf, isHex⇒hex, hex⇒isHex}
-use Rattle.json.proofs.BindLaws.{by-cond, only⁻¹, none-not-some, some-injective}
-use Rattle.json.proofs.FrontLaws.{Front, Sound, front-one, front-more}
+use Rattle.json_grammar.specs.Grammar.{Hex, Char, unescaped, escaped, unicode, Chars, quotation-mark, char, String, string}
+use Rattle.json_grammar.specs.Recogniser.{oneOf, isHex, isEscape, charsEnd, stringEnd}
+use Rattle.json_grammar.proofs.ByteLaws.{oneOf⇒member, member⇒oneOf, isHex⇒hex, hex⇒isHex}
+use Rattle.json_grammar.proofs.BindLaws.{by-cond, only⁻¹, none-not-some, some-injective}
+use Rattle.json_grammar.proofs.FrontLaws.{Front, Sound, front-one, front-more}
 
 -- ---- what was passed over
 

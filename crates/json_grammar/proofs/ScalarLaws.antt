@@ -9,13 +9,13 @@ use native.Mathlib.Omega.{arith}
 use lib.Dec.{eqb}
 use borrow.Author.Tests.{eqb-true, ne-eqb}
 use Rattle.byte_range.specs.Range.{In}
-use Rattle.json.specs.Grammar.{Ws, Number, String, string, value, Derives, false-value, null-value, true-value, number-value, string-value}
-use Rattle.json.specs.Recogniser.{_>>=_, skip, numberEnd, wordEnd, scalarEnd, plainEnd}
-use Rattle.json.proofs.BindLaws.{bind-some, bind⁻¹, by-cond, only⁻¹, none-not-some, some-injective}
-use Rattle.json.proofs.FrontLaws.{Front, Both, Sound, front-none, front-more, front-as, front-both}
-use Rattle.json.proofs.SpaceLaws.{skip-sound}
-use Rattle.json.proofs.NumberLaws.{Apart, number-sound, number-complete, number-first}
-use Rattle.json.proofs.StringLaws.{string-sound, string-complete}
+use Rattle.json_grammar.specs.Grammar.{Ws, Number, String, string, value, Derives, false-value, null-value, true-value, number-value, string-value}
+use Rattle.json_grammar.specs.Recogniser.{_>>=_, skip, numberEnd, wordEnd, scalarEnd, plainEnd}
+use Rattle.json_grammar.proofs.BindLaws.{bind-some, bind⁻¹, by-cond, only⁻¹, none-not-some, some-injective}
+use Rattle.json_grammar.proofs.FrontLaws.{Front, Both, Sound, front-none, front-more, front-as, front-both}
+use Rattle.json_grammar.proofs.SpaceLaws.{skip-sound}
+use Rattle.json_grammar.proofs.NumberLaws.{Apart, number-sound, number-complete, number-first}
+use Rattle.json_grammar.proofs.StringLaws.{string-sound, string-complete}
 
 -- ---- words
 

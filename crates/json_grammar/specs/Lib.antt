@@ -1,0 +1,3 @@
+-- The grammar of JSON.
+pub mod Grammar
+pub mod Recogniser
