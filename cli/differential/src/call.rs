@@ -1,4 +1,4 @@
-//! A call on a file, or of the writer on records: which function, with what, and how much room.
+//! A call on a file, of the writer on records, or on a text: which function, with what, and how much room.
 
 use zs_reference::reader::Query;
 use zs_reference::writer::Counts;
@@ -36,6 +36,8 @@ pub enum Call {
     },
     /// Where the metadata lie.
     Metadata,
+    /// Whether a text may be metadata; the bytes that the call is made on are the text.
+    IsMetadata,
     /// Writing a file; the bytes that the call is made on are the records.
     Write {
         /// The metadata.
@@ -83,6 +85,7 @@ impl Call {
                 format!("call: record\noffset: {offset}\nlength: {length}\n")
             }
             Call::Metadata => "call: metadata\n".to_string(),
+            Call::IsMetadata => "call: is_metadata\n".to_string(),
             Call::Write {
                 metadata,
                 counts,

@@ -15,7 +15,8 @@ const MOST_PRINTED: usize = 3;
 /// What a case gave.
 #[derive(Debug, Clone, Default)]
 pub struct Outcome {
-    /// The refusal that is due, or 0; for a record 0 if it lies within the file and 1 if not, for metadata 0 if there are any and 1 if not.
+    /// The refusal that is due, or 0. For a record 0 if it lies within the file and 1 if not; for metadata 0 if there are any and 1 if not;
+    /// for a text 0 if it is metadata and 1 if not.
     pub number: u64,
     /// How many matches are due.
     pub matches: u64,
@@ -83,6 +84,7 @@ pub fn compare(random: &mut Random, bytes: &[u8], call: &Call) -> Outcome {
         } => search(random, lent.part(), query, *opened, *results),
         Call::Record { offset, length } => record(lent.part(), *offset, *length),
         Call::Metadata => metadata(lent.part()),
+        Call::IsMetadata => is_metadata(lent.part()),
         Call::Write {
             metadata,
             counts,
@@ -167,6 +169,14 @@ fn metadata(file: &[u8]) -> Outcome {
     let due = file.get(due_offset as usize..(due_offset + due_length) as usize);
     let given = library::metadata(file);
     outcome.require(due == Some(given.unwrap_or(&[])), "metadata: other bytes");
+    outcome
+}
+
+fn is_metadata(text: &[u8]) -> Outcome {
+    let due = reader::is_metadata(text);
+    let given = library::is_metadata(text);
+    let mut outcome = Outcome::of(u64::from(!due), 0);
+    outcome.compare("is metadata", u64::from(due), u64::from(given));
     outcome
 }
 

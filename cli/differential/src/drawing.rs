@@ -1,5 +1,6 @@
 //! Drawings: bytes and the calls on them, from a seed and a number.
 
+use crate::call::{Call, Room};
 use crate::calls::{draw_calls, draw_writes, Asked};
 use crate::damage::{damage, repair, Repair};
 use crate::faults::{draw_faulty, NUMBERS};
@@ -8,19 +9,26 @@ use crate::inputs::draw_input;
 use crate::queries::strings_of;
 use crate::shapes::shape;
 use zs_reference::maker::random::{bend, Random};
-use zs_reference::maker::Image;
+use zs_reference::maker::texts::{change, grow};
+use zs_reference::maker::{edges, Image};
 use zs_reference::reader::{check, number};
 use zs_reference::writer::write;
 
-/// Of so many numbers the last two are for the writer.
-const TURNS: u64 = 12;
-/// Those before them are for the readers.
+/// Of so many numbers the last one is for the recognisers of metadata.
+const TURNS: u64 = 13;
+/// The first are for the readers.
 const READERS: u64 = 10;
+/// The two between them are for the writers.
+const WRITERS: u64 = 2;
+/// Texts of one number.
+const TEXTS: usize = 100;
+/// How deep texts are nested: not at all mostly, and about the most.
+const DEPTHS: [usize; 14] = [1, 1, 1, 1, 2, 2, 2, 3, 3, 5, 20, 63, 64, 65];
 
 /// Bytes and the calls on them.
 #[derive(Debug, Clone)]
 pub struct Drawing {
-    /// The bytes of a file, or the records that a writer is given.
+    /// The bytes of a file, the records that a writer is given, or a text.
     pub bytes: Vec<u8>,
     /// The root's level, where the independent reader accepts the file.
     pub accepted: Option<u8>,
@@ -30,7 +38,7 @@ pub struct Drawing {
     pub random: Random,
 }
 
-/// Makes the drawings of this number: a file, or records and the file written. The same seed and number give the same ones.
+/// Makes the drawings of this number: a file, records and the file written, or texts. The same seed and number give the same ones.
 pub fn draw(seed: u64, number: u64) -> Vec<Drawing> {
     let mut random = Random::new(Random::new(seed ^ number.rotate_left(32)).next());
     let (round, turn) = (number / TURNS, number % TURNS);
@@ -38,8 +46,36 @@ pub fn draw(seed: u64, number: u64) -> Vec<Drawing> {
         let (image, file) = draw_file(&mut random, round * READERS + turn);
         return vec![on_file(random, file, &strings_of(&image))];
     }
-    let writers = TURNS - READERS;
-    draw_written(random, round * writers + turn - READERS)
+    if turn < READERS + WRITERS {
+        return draw_written(random, round * WRITERS + turn - READERS);
+    }
+    let texts: Vec<Vec<u8>> = (0..TEXTS).map(|_| draw_text(&mut random)).collect();
+    on_texts(random, texts).collect()
+}
+
+/// The drawings that are the same with every seed: texts about the edges of what is metadata.
+pub fn list_edges() -> impl Iterator<Item = Drawing> {
+    on_texts(Random::new(0), edges())
+}
+
+/// Each text and the call on it.
+fn on_texts(mut random: Random, texts: Vec<Vec<u8>>) -> impl Iterator<Item = Drawing> {
+    texts.into_iter().map(move |text| Drawing {
+        bytes: text,
+        accepted: None,
+        calls: vec![(Call::IsMetadata, Room::Any)],
+        random: Random::new(random.next()),
+    })
+}
+
+/// Draws a text that is grown from the grammar, and then has at most two bytes changed.
+fn draw_text(random: &mut Random) -> Vec<u8> {
+    let depth = random.pick(&DEPTHS);
+    let mut text = grow(random, depth);
+    for _ in 0..random.pick(&[0, 0, 1, 1, 2]) {
+        change(random, &mut text);
+    }
+    text
 }
 
 /// A file and the calls on it.

@@ -33,7 +33,7 @@ const FAULTS: [Fault; 4] = [Fault::Counts, Fault::Metadata, Fault::Form, Fault::
 enum Fault {
     /// 30: a count is out of range.
     Counts,
-    /// 9: the metadata aren't in braces.
+    /// 9: the metadata break their rule.
     Metadata,
     /// 28: there is no record, or something that isn't one.
     Form,

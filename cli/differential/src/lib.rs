@@ -1,8 +1,8 @@
 //! Compares the proved library with the independent reader and writer.
 //!
 //! A seed and a number give a [`drawing`]: one file and all calls to be made on it; or records, all calls of the writer on them, and the
-//! file written with all calls on that. Each call is a case. Both implementations answer it, [`compare`] looks at everything that they
-//! gave and at everything that they were lent, [`tally`] counts, and [`run`] saves what differs.
+//! file written with all calls on that; or a row of texts that may be metadata. Each call is a case. Both implementations answer it,
+//! [`compare`] looks at everything that they gave and at everything that they were lent, [`tally`] counts, and [`run`] saves what differs.
 
 #![forbid(unsafe_code)]
 #![warn(missing_docs)]

@@ -6,7 +6,7 @@ use std::path::PathBuf;
 
 use crate::call::Call;
 use crate::compare::{compare, Outcome};
-use crate::drawing::{draw, Drawing};
+use crate::drawing::{draw, list_edges, Drawing};
 use crate::tally::Tally;
 
 /// No more cases than this are saved in one run; more of them say little.
@@ -46,6 +46,17 @@ impl Run {
         Ok(())
     }
 
+    /// Compares the recognisers of metadata on the texts that are the same with every seed, and saves what differs.
+    ///
+    /// # Errors
+    /// Says why a case can't be saved.
+    pub fn compare_edges(&mut self) -> io::Result<()> {
+        for (number, drawing) in list_edges().enumerate() {
+            self.compare_all(&format!("edge-{number}"), drawing)?;
+        }
+        Ok(())
+    }
+
     /// Compares all calls of a drawing.
     fn compare_all(&mut self, name: &str, mut drawing: Drawing) -> io::Result<()> {
         for (at, (call, room)) in drawing.calls.iter().enumerate() {
@@ -58,7 +69,7 @@ impl Run {
         Ok(())
     }
 
-    /// Saves the file or the records, and the call with what differs; prints the same.
+    /// Saves the file, the records or the text, and the call with what differs; prints the same.
     fn save(&self, name: &str, bytes: &[u8], call: &Call, outcome: &Outcome) -> io::Result<()> {
         if self.tally.differing > MOST_SAVED {
             return Ok(());
@@ -66,6 +77,7 @@ impl Run {
         let name = format!("{}-{name}", self.seed);
         let stored = match call {
             Call::Write { .. } => format!("{name}.records"),
+            Call::IsMetadata => format!("{name}.json"),
             _ => format!("{name}.zs"),
         };
         let cases = self.tally.cases();

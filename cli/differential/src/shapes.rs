@@ -2,6 +2,7 @@
 
 use crate::strings::Kind;
 use zs_reference::maker::random::Random;
+use zs_reference::maker::texts::grow;
 use zs_reference::maker::{Keys, Placing, Tree};
 
 /// A sound file.
@@ -112,12 +113,14 @@ fn add_reserved(random: &mut Random, tree: &mut Tree) {
     }
 }
 
-/// Braces, and anything between them.
+/// Metadata: empty mostly, else small, and long ones at times.
 pub fn metadata(random: &mut Random) -> Vec<u8> {
-    let mut metadata = vec![b'{'];
-    if random.once_in(4) {
-        metadata.extend(random.string(12));
+    match random.below(40) {
+        0 => grow(random, 64),
+        1..=9 => {
+            let depth = 1 + random.below(3);
+            grow(random, depth)
+        }
+        _ => b"{}".to_vec(),
     }
-    metadata.push(b'}');
-    metadata
 }

@@ -14,6 +14,8 @@ const TOO_LONG: u64 = 1;
 const LEAST: u64 = 100;
 /// The least count of searches in accepted files with two or more levels below the root.
 const LEAST_DEEP: u64 = 5000;
+/// The least count of texts that are metadata, and of others.
+const LEAST_TEXTS: u64 = 25_000;
 
 /// The numbers that a call must give: 0, for no refusal, and its refusals.
 fn due_numbers(call: refusals::Call) -> impl Iterator<Item = usize> {
@@ -39,7 +41,7 @@ pub struct Column {
 /// Counts of a run.
 #[derive(Debug, Clone, Default)]
 pub struct Tally {
-    /// Steps taken: files drawn for the readers, and inputs drawn for the writers.
+    /// Steps taken: files drawn for the readers, inputs drawn for the writers, and rows of texts.
     pub steps: u64,
     /// Of the check.
     pub check: Column,
@@ -53,6 +55,8 @@ pub struct Tally {
     pub records: [u64; 2],
     /// Files with metadata, and others.
     pub metadata: [u64; 2],
+    /// Texts that are metadata, and others.
+    pub texts: [u64; 2],
     /// Searches of accepted files with two or more levels below the root, one for each query.
     pub deep: u64,
     /// Those of them with matches.
@@ -73,6 +77,7 @@ impl Tally {
             Call::Write { .. } => &mut self.write,
             Call::Record { .. } => return self.records[number % 2] += 1,
             Call::Metadata => return self.metadata[number % 2] += 1,
+            Call::IsMetadata => return self.texts[number % 2] += 1,
         };
         column.numbers[number % NUMBERS] += 1;
         let level = match accepted {
@@ -109,8 +114,8 @@ impl Tally {
     pub fn cases(&self) -> u64 {
         let columns = self.columns();
         let counted = columns.iter().flat_map(|(_, column)| &column.numbers);
-        let parts = self.records.iter().chain(&self.metadata);
-        counted.sum::<u64>() + parts.sum::<u64>()
+        let others = [self.records, self.metadata, self.texts];
+        counted.sum::<u64>() + others.iter().flatten().sum::<u64>()
     }
 
     /// Numbers that a call can give and didn't give often enough.
@@ -132,10 +137,11 @@ impl Tally {
     }
 
     /// What a run has to reach besides the count of each number, and whether it did.
-    fn demands(&self) -> [(bool, &'static str); 9] {
+    fn demands(&self) -> [(bool, &'static str); 10] {
         [
             (self.records.iter().all(|n| *n >= LEAST), "records"),
             (self.metadata.iter().all(|n| *n >= LEAST), "metadata"),
+            (self.texts.iter().all(|n| *n >= LEAST_TEXTS), "texts"),
             (self.deep >= LEAST_DEEP, "searches below two levels"),
             (
                 self.deep_matched * 3 >= self.deep,
@@ -188,6 +194,8 @@ impl fmt::Display for Tally {
             out,
             "metadata: {sound} files with a sound header, {refused} not"
         )?;
+        let [metadata, others] = self.texts;
+        writeln!(out, "texts: {metadata} are metadata, {others} not")?;
         writeln!(
             out,
             "accepted files, one for each query: {} searches, {} with matches; {} reads, {} with matches",
@@ -213,7 +221,7 @@ impl fmt::Display for Tally {
         )?;
         write!(
             out,
-            "{} files and inputs, {} cases, {} differ",
+            "{} files, inputs and rows of texts, {} cases, {} differ",
             self.steps,
             self.cases(),
             self.differing

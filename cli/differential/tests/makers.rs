@@ -4,7 +4,7 @@ use std::collections::BTreeSet;
 
 use zs_differential::damage::{repair, Repair};
 use zs_differential::drawing::{draw, Drawing};
-use zs_differential::faults::{draw_faulty, NUMBERS};
+use zs_differential::faults::{bad_metadata, draw_faulty, NUMBERS};
 use zs_differential::inputs::{draw_input, Input};
 use zs_differential::shapes::shape;
 use zs_library::refusals::{numbers, Call};
@@ -25,8 +25,11 @@ fn sound_shapes_are_accepted_and_none_is_missing() {
         note_blocks(&image, &mut seen);
         note_keys(&image, &mut seen);
         note_records(&image, &mut seen);
+        let length = image.metadata.len();
+        note(&mut seen, (3..100).contains(&length), "small metadata");
+        note(&mut seen, length > 255, "long metadata");
     }
-    assert_eq!(seen.len(), 15, "{seen:?}");
+    assert_eq!(seen.len(), 17, "{seen:?}");
 }
 
 type Seen = BTreeSet<&'static str>;
@@ -215,6 +218,23 @@ fn every_fault_can_be_made() {
             assert_eq!(check(&file, AMPLE).number, number);
         }
     }
+}
+
+#[test]
+fn texts_that_break_each_part_of_the_metadata_rule() {
+    let mut random = Random::new(9);
+    let mut seen = BTreeSet::new();
+    for _ in 0..1000 {
+        let text = bad_metadata(&mut random);
+        let in_braces = text.starts_with(b"{") && text.ends_with(b"}");
+        let is_utf8 = std::str::from_utf8(&text).is_ok();
+        let is_deep = text.iter().filter(|byte| b"{[".contains(byte)).count() > 64;
+        note(&mut seen, !in_braces, "no braces");
+        note(&mut seen, in_braces && !is_utf8, "no UTF-8");
+        note(&mut seen, in_braces && is_utf8 && is_deep, "too deep");
+        note(&mut seen, in_braces && is_utf8 && !is_deep, "no JSON");
+    }
+    assert_eq!(seen.len(), 4, "{seen:?}");
 }
 
 #[test]

@@ -6,14 +6,16 @@ use std::path::Path;
 use zs_differential::run::Run;
 
 const SEED: u64 = 20_261_115;
-/// Files and inputs drawn; each gets some twenty calls.
-const STEPS: u64 = 7200;
+/// Files, inputs and rows of texts drawn; a file or an input gets some twenty calls.
+const STEPS: u64 = 7800;
 const LEAST_CASES: u64 = 20_000;
 
 #[test]
 fn the_same_answers() {
     let folder = Path::new(env!("CARGO_MANIFEST_DIR")).join("../target/differences");
     let mut run = Run::new(SEED, folder);
+    run.compare_edges()
+        .expect("a folder to save differences in");
     for _ in 0..STEPS {
         run.step().expect("a folder to save differences in");
     }

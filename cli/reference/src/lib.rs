@@ -14,6 +14,7 @@
 
 pub mod checksums;
 pub mod corpus;
+mod json;
 pub mod maker;
 pub mod reader;
 pub mod samples;

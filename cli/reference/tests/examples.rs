@@ -134,7 +134,8 @@ fn parts() {
 fn metadata_of_files() {
     assert_eq!(metadata(&file("smallest")), (96, 2));
     assert_eq!(metadata(&file("extra-header")), (96, 2));
-    assert_eq!(metadata(&file("meta-oops")), (96, 6));
+    assert_eq!(metadata(&file("extra-no-json")), (96, 2));
+    assert_eq!(metadata(&file("meta-nested")), (96, 9));
     assert_eq!(metadata(&file("14-index")), (96, 2));
     for refused in [
         "2-smallest",

@@ -3,6 +3,7 @@
 mod corpus;
 mod drawn;
 mod examples;
+mod json;
 mod opening;
 mod samples;
 mod support;

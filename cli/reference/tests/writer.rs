@@ -123,7 +123,7 @@ fn counts_out_of_range() {
 #[test]
 fn refusals_in_order() {
     let given = |metadata: &[u8], input: &[u8], room| write(metadata, input, counts(1, 2), room);
-    for metadata in [&b""[..], b"{", b"}{", b"[]", b"{} "] {
+    for metadata in [&b""[..], b"{", b"}{", b"[]", b"{} ", b"{oops}"] {
         assert_eq!(given(metadata, b"\0", 130), Err(9));
         assert_eq!(given(metadata, b"\x01", 0), Err(9));
     }

@@ -1,4 +1,5 @@
-// Runs the stored cases: for each case of the files `cases` and `write-cases` a call on the file that it names, and a line with the answer.
+// Runs the stored cases: for each case of the files `cases`, `more-cases` and `write-cases` a call on the file that it names, and a line
+// with the answer.
 ghost use Rattle.io.specs.Counts.{Counts};
 
 mod cases;
@@ -87,5 +88,6 @@ fn run_file(path: &[u8]) {
 
 fn main() {
     run_file(b"cases");
+    run_file(b"more-cases");
     run_file(b"write-cases");
 }

@@ -1,12 +1,33 @@
 //! Faults of the header: 2 to 9.
 
 use zs_reference::maker::random::Random;
+use zs_reference::maker::texts::{change, grow};
 use zs_reference::maker::Image;
+use zs_reference::reader::is_metadata;
 
 /// Set above a right number, these are lost where it is taken as one of 16 or 32 bits, or as a signed one.
 const HIGH_BITS: [u64; 4] = [1 << 16, 1 << 31, 1 << 32, 1 << 63];
 
 const UNFINISHED: [u8; 8] = *b"\xabZStoBe\x01";
+
+/// Texts that don't begin and end as an object.
+const NO_BRACES: [&[u8]; 8] = [b"", b"{", b"}", b"}{", b"{} ", b" {}", b"[]", b"{\"a\": 1]"];
+
+/// Texts in braces that aren't JSON, or not UTF-8.
+const NO_OBJECTS: [&[u8]; 12] = [
+    b"{oops}",
+    b"{\0\xff}",
+    b"{}{}",
+    b"{}}",
+    b"{\"a\": 1,}",
+    b"{\"a\": [1,]}",
+    b"{\"a\": 01}",
+    b"{\"a\": \"\\x\"}",
+    b"{\"a\": \"\x1f\"}",
+    b"{\"a\": \"\xc0\x80\"}",
+    b"{\"a\": \"\xed\xa0\x80\"}",
+    b"{\"a\": \"\xf4\x90\x80\x80\"}",
+];
 
 /// Gives the file with a fault in its header.
 pub fn damage(random: &mut Random, number: u64, mut image: Image) -> Vec<u8> {
@@ -131,7 +152,7 @@ fn spoil_total(random: &mut Random, image: &mut Image) -> Vec<u8> {
     image.bytes()
 }
 
-/// 9: metadata that isn't in braces. Bytes after it don't count.
+/// 9: a text that isn't metadata, or only a beginning of metadata. Bytes after it don't count.
 fn spoil_metadata(random: &mut Random, image: &mut Image) {
     match random.below(3) {
         0 => image.metadata_length = Some(random.below(image.metadata.len()) as u64),
@@ -142,8 +163,21 @@ fn spoil_metadata(random: &mut Random, image: &mut Image) {
     }
 }
 
-/// Bytes that aren't in braces.
+/// A text that isn't metadata: one of those above, one nested too deep, or a changed one.
 pub fn bad_metadata(random: &mut Random) -> Vec<u8> {
-    let choices: [&[u8]; 8] = [b"", b"{", b"}", b"}{", b"{} ", b" {}", b"[]", b"{\"a\": 1]"];
-    random.pick(&choices).to_vec()
+    loop {
+        let text = match random.below(5) {
+            0 => random.pick(&NO_BRACES).to_vec(),
+            1 | 2 => random.pick(&NO_OBJECTS).to_vec(),
+            3 => grow(random, 65),
+            _ => {
+                let mut text = grow(random, 2);
+                change(random, &mut text);
+                text
+            }
+        };
+        if !is_metadata(&text) {
+            return text;
+        }
+    }
 }

@@ -1,8 +1,8 @@
 //! `make-archives DIR [read] [check] [search] [record] [write]`
 //!
-//! Writes the corpus: `DIR/data/*` are the files, `DIR/data/cases` and `DIR/data/write-cases` the
-//! cases of the calls named (all five if none is), and `DIR/stdout` the lines due. The same calls
-//! always give the same bytes.
+//! Writes the corpus: `DIR/data/*` are the files, `DIR/data/cases`, `DIR/data/more-cases` and
+//! `DIR/data/write-cases` the cases of the calls named (all five if none is), and `DIR/stdout` the
+//! lines due. The same calls always give the same bytes.
 
 use std::error::Error;
 use std::fs;

@@ -2,6 +2,7 @@
 
 use super::build::{alter, plain};
 use super::examples::{smallest_file, two_block_image};
+use super::metadata::refused;
 use super::Corpus;
 use crate::checksums::crc64;
 use crate::maker::{Image, Placing};
@@ -153,19 +154,9 @@ fn add_cut_at_block_end(corpus: &mut Corpus) {
 }
 
 fn add_metadata(corpus: &mut Corpus) {
-    let texts: [(&str, &[u8]); 8] = [
-        ("9-empty", b""),
-        ("9-one-brace", b"{"),
-        ("9-closing", b"}"),
-        ("9-array", b"[]"),
-        ("9-space-behind", b"{} "),
-        ("9-space-before", b" {}"),
-        ("9-open", b"{\"a\": 1"),
-        ("9-swapped", b"}{"),
-    ];
-    for (name, text) in texts {
-        let image = alter(&plain(), |image| image.metadata = text.to_vec());
-        corpus.add_refused(name, image.bytes(), 9, 0);
+    for (name, text) in refused() {
+        let image = alter(&plain(), |image| image.metadata = text);
+        corpus.add_refused(&format!("9-{name}"), image.bytes(), 9, 0);
     }
     let image: Image = alter(&plain(), |image| image.metadata_length = Some(1));
     corpus.add_refused("9-cut-by-m", image.bytes(), 9, 0);

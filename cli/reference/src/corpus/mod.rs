@@ -10,6 +10,7 @@ mod examples;
 mod framing_faults;
 mod header_faults;
 mod hostile;
+mod metadata;
 mod naming_faults;
 mod order_faults;
 mod payload_faults;
@@ -29,8 +30,10 @@ pub const LONGEST_NAME: usize = 40;
 /// No list of a case is longer.
 pub const MOST_PLACES: u16 = 128;
 
-/// The file that holds the cases of the readers.
+/// The file that holds the cases of the readers, as many as fit.
 const CASES: &str = "cases";
+/// The file that holds the rest of them.
+const MORE_CASES: &str = "more-cases";
 /// The file that holds those of the writer.
 const WRITE_CASES: &str = "write-cases";
 
@@ -109,11 +112,18 @@ impl Corpus {
     }
 
     /// The files with the cases, by name, in the order in which they are run.
-    pub fn case_files(&self) -> [(&'static str, Vec<u8>); 2] {
-        let (writes, others): (Vec<&Case>, Vec<&Case>) =
-            self.cases.iter().partition(|case| case.call == Call::Write);
-        [(CASES, others), (WRITE_CASES, writes)]
-            .map(|(name, cases)| (name, cases.into_iter().flat_map(Case::encode).collect()))
+    pub fn case_files(&self) -> [(&'static str, Vec<u8>); 3] {
+        let (mut cases, mut more, mut writes) = (Vec::new(), Vec::new(), Vec::new());
+        for case in &self.cases {
+            let encoded = case.encode();
+            let fits = more.is_empty() && cases.len() + encoded.len() <= LONGEST_DATA;
+            match case.call {
+                Call::Write => writes.extend(encoded),
+                _ if fits => cases.extend(encoded),
+                _ => more.extend(encoded),
+            }
+        }
+        [(CASES, cases), (MORE_CASES, more), (WRITE_CASES, writes)]
     }
 
     /// The output due, one line for each case.
@@ -157,6 +167,6 @@ impl Corpus {
 /// Whether a name may stand in a case.
 fn is_good_name(name: &str) -> bool {
     let good = |byte: u8| matches!(byte, b'a'..=b'z' | b'0'..=b'9' | b'_' | b'-');
-    let taken = [CASES, WRITE_CASES].contains(&name);
+    let taken = [CASES, MORE_CASES, WRITE_CASES].contains(&name);
     (1..=LONGEST_NAME).contains(&name.len()) && !taken && name.bytes().all(good)
 }

@@ -1,6 +1,7 @@
 //! Accepted files that a careless reader would refuse or misread.
 
 use super::build::{plain, prefix, query, start, stop, two_levels};
+use super::metadata::accepted;
 use super::Corpus;
 use crate::maker::{Image, Keys, Placing, Plan, Target, Tree};
 
@@ -22,14 +23,15 @@ fn add_headers(corpus: &mut Corpus) {
     corpus.add_sound("extra-header", tree.bytes());
     tree.extra = Image::new(vec![Plan::data(&["zz"])]).bytes();
     corpus.add_sound("extra-file", tree.bytes());
+    tree.extra = b", {oops} \xff}".to_vec();
+    corpus.add_sound("extra-no-json", tree.bytes());
     tree.extra = Vec::new();
     tree.metadata = format!("{{\"text\": \"{}\"}}", "m".repeat(300)).into_bytes();
     corpus.add_sound("meta-long", tree.bytes());
-    tree.metadata = b"{\"a\": {}}".to_vec();
-    corpus.add_sound("meta-nested", tree.bytes());
-    // The base asks for the braces only.
-    tree.metadata = b"{oops}".to_vec();
-    corpus.add_sound("meta-oops", tree.bytes());
+    for (name, text) in accepted() {
+        tree.metadata = text;
+        corpus.add_sound(&format!("meta-{name}"), tree.bytes());
+    }
 }
 
 fn add_reserved(corpus: &mut Corpus) {

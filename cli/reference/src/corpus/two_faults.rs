@@ -49,13 +49,13 @@ const HEADER_PAIRS: [(&str, u64, Change); 11] = [
         (i.codec, i.total) = (DEFLATE, Some(0));
     }),
     ("7-then-9", 7, |i| {
-        (i.codec, i.metadata) = (DEFLATE, b"[]".to_vec());
+        (i.codec, i.metadata) = (DEFLATE, b"{oops}".to_vec());
     }),
     ("8-then-9", 8, |i| {
-        (i.total, i.metadata) = (Some(0), b"[]".to_vec());
+        (i.total, i.metadata) = (Some(0), b"{oops}".to_vec());
     }),
     ("9-then-14", 9, |i| {
-        (i.metadata, i.blocks[0].crc_flips) = (b"[]".to_vec(), 1);
+        (i.metadata, i.blocks[0].crc_flips) = (b"{oops}".to_vec(), 1);
     }),
 ];
 

@@ -1,6 +1,7 @@
 //! Records for the writer, sound and faulty, with metadata, counts and outputs of many kinds.
 
 use super::build::counts;
+use super::metadata::{accepted, refused};
 use super::{Claim, Corpus};
 use crate::maker::{encode, Plan};
 
@@ -78,11 +79,9 @@ fn add_metadata(corpus: &mut Corpus) {
     let name = "write-metadata";
     corpus.add_input(name, input(&["a", "b"]), 0);
     let longest = format!("{{{}}}", " ".repeat(253)).into_bytes();
-    for metadata in [&b"{\"a\": {}}"[..], b"{\0\xff}", &longest] {
-        corpus.write(name, metadata, counts(1, 2), 600);
-    }
-    for metadata in [&b""[..], b"{", b"}", b"}{", b"[]", b"{} ", b" {}"] {
-        corpus.write(name, metadata, counts(1, 2), 600);
+    corpus.write(name, &longest, counts(1, 2), 600);
+    for (_, metadata) in accepted().into_iter().chain(refused()) {
+        corpus.write(name, &metadata, counts(1, 2), 600);
     }
 }
 

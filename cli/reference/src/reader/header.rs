@@ -2,6 +2,7 @@
 
 use super::Refusal;
 use crate::checksums::crc64;
+use crate::json::is_object;
 
 const LONGEST_FILE: usize = 1 << 30;
 const GOOD_MAGIC: &[u8] = b"\xabZSfiLe\x01";
@@ -79,9 +80,9 @@ fn test_fields(file: &[u8], data: &[u8], metadata: &[u8]) -> Result<(), Refusal>
     Ok(())
 }
 
-/// Whether these bytes may be the metadata of a file: two or more, in braces.
+/// Whether these bytes may be the metadata of a file: UTF-8 (RFC 3629), and one JSON object with nothing around it.
 pub fn is_metadata(bytes: &[u8]) -> bool {
-    bytes.len() >= 2 && bytes.starts_with(b"{") && bytes.ends_with(b"}")
+    std::str::from_utf8(bytes).map_or(false, is_object)
 }
 
 /// The fields that are needed. None only where H is below 80.

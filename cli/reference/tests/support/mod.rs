@@ -1,8 +1,9 @@
 //! The rules of docs/FORMAT.md, each tested by itself and without an order.
 //!
-//! This shares nothing with the reader but the checksums. It answers which refusals
-//! apply to a file at all, so that tests can tell a single fault from several.
+//! This shares nothing with the reader but the checksums, and leaves JSON to another parser. It answers
+//! which refusals apply to a file at all, so that tests can tell a single fault from several.
 
+pub mod json;
 pub mod tree;
 
 use std::collections::BTreeSet;
@@ -91,9 +92,7 @@ fn note_header_fields(file: &[u8], h: usize, faults: &mut BTreeSet<u64>) {
         faults.insert(6);
         return;
     }
-    let text = &file[96..96 + m as usize];
-    let good = text.len() >= 2 && text[0] == b'{' && text[text.len() - 1] == b'}';
-    if !good {
+    if !json::is_metadata(&file[96..96 + m as usize]) {
         faults.insert(9);
     }
 }
