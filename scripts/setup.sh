@@ -30,7 +30,7 @@ need librust-indicatif-dev
 # The crates that the independent reader uses.
 need librust-crc-dev
 need librust-sha2-dev
-# The JSON parser that its recogniser of metadata is held to in a test.
+# The JSON parser that its recogniser of metadata is held to in a test and measured against.
 need librust-serde-json-dev
 
 # The libraries and programs that the library is measured against.

@@ -32,7 +32,9 @@ use archive::Archive;
 use chart::Panel;
 use others::Programs;
 use report::Report;
-use sections::{block_sizes, checking, checksums, growth, lookups, writing, Setting, FULL, QUICK};
+use sections::{
+    block_sizes, checking, checksums, growth, lookups, metadata, writing, Setting, FULL, QUICK,
+};
 use shapes::Shape;
 
 const FIRST_MARK: &str = "<!-- measured -->\n";
@@ -132,6 +134,7 @@ fn measure(programs: Programs, quick: bool, folder: &Path) -> (Report, [Panel; 2
     lookups::measure(&setting, &archive, &file, &mut report);
     checksums::measure(&setting, &archive.bytes, &mut report);
     drop(archive);
+    metadata::measure(&setting, &mut report);
     writing::measure(&setting, &mut report);
     block_sizes::measure(&setting, &mut report);
     let panels = growth::measure(&setting, &mut report);

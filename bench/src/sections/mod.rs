@@ -5,6 +5,7 @@ pub mod checking;
 pub mod checksums;
 pub mod growth;
 pub mod lookups;
+pub mod metadata;
 pub mod writing;
 
 use std::path::Path;
