@@ -31,6 +31,7 @@ need librust-indicatif-dev
 need librust-crc-dev
 need librust-sha2-dev
 # The JSON parser that its recogniser of metadata is held to in a test and measured against.
+need librust-serde-dev
 need librust-serde-json-dev
 
 # The libraries and programs that the library is measured against.
@@ -87,7 +88,7 @@ if [ "$found" != "$known" ]; then
 fi
 
 # Other releases of Debian bring other versions, which cli/ isn't written for.
-for crate in clap-4 clap_derive-4 console-0.15 libc-0.2 memmap2-0.5 indicatif-0.17 crc-1.8 sha2-0.10 serde_json-1; do
+for crate in clap-4 clap_derive-4 console-0.15 libc-0.2 memmap2-0.5 indicatif-0.17 crc-1.8 sha2-0.10 serde-1 serde_json-1; do
     set -- /usr/share/cargo/registry/"$crate"*
     if [ ! -d "$1" ]; then
         echo "setup: no $crate in /usr/share/cargo/registry; this needs Debian 12" >&2

@@ -22,7 +22,7 @@ const READERS: u64 = 10;
 const WRITERS: u64 = 2;
 /// Texts of one number.
 const TEXTS: usize = 100;
-/// How deep texts are nested: not at all mostly, and about the most.
+/// How deep texts are nested: little mostly, and about as deep as metadata may be.
 const DEPTHS: [usize; 14] = [1, 1, 1, 1, 2, 2, 2, 3, 3, 5, 20, 63, 64, 65];
 
 /// Bytes and the calls on them.

@@ -99,13 +99,12 @@ fn run(compiler: &str, language: &[&str], source: &str, words: &[PathBuf]) -> Ou
 /// What `interface.c` has to print: the calls, the version, two refusals by name, and every message.
 fn due_lines() -> String {
     let version = env!("CARGO_PKG_VERSION");
-    let mut due = format!("{CALLS}version {version}\nnames 1 1\nmessage 0 nothing is refused\n");
-    for row in TABLE {
-        due.push_str(&format!("message {} {}\n", row.number, row.sentence));
-    }
-    let unknown = GREATEST + 1;
-    due.push_str(&format!("message {unknown} no refusal has this number\n"));
-    due
+    let first = format!("{CALLS}version {version}\nnames 1 1\nmessage 0 nothing is refused\n");
+    let messages = TABLE
+        .iter()
+        .map(|row| format!("message {} {}\n", row.number, row.sentence));
+    let last = format!("message {} no refusal has this number\n", GREATEST + 1);
+    first + &messages.collect::<String>() + &last
 }
 
 /// The compiler `cc`, and others that are there.

@@ -1,8 +1,9 @@
 //! The recogniser of metadata against serde_json, which shares no code with it.
 //!
-//! serde_json reads a text in two ways, and differs from the metadata rule in other things in each:
+//! serde_json reads a text to ignore it (`IgnoredAny`), which is the grammar alone, or builds a `Value` of it. It differs from the
+//! metadata rule in other things in each:
 //!
-//! | a text with | the rule | read to be ignored | read as a `Value` |
+//! | a text with | the rule | `IgnoredAny` | `Value` |
 //! |---|---|---|---|
 //! | white space outside the braces | refused | taken | taken |
 //! | no object | refused | taken | taken |
@@ -21,11 +22,10 @@ use zs_reference::maker::texts::{change, grow};
 use zs_reference::reader::is_metadata;
 
 /// What serde_json says where a `Value` can't hold a text that may be metadata.
-const TOO_MUCH_FOR_A_VALUE: [&str; 4] = [
+const TOO_MUCH_FOR_A_VALUE: [&str; 3] = [
     "lone leading surrogate in hex escape",
     "unexpected end of hex escape",
     "number out of range",
-    "recursion limit exceeded",
 ];
 
 /// Whether a text agrees with both ways of reading it, beside the differences named above.

@@ -24,7 +24,7 @@ const UNITS: [u16; 9] = [
     0x0000, 0x001f, 0x0022, 0xd7ff, 0xd800, 0xdbff, 0xdc00, 0xdfff, 0xffff,
 ];
 
-/// An object in which objects and arrays are nested exactly `depth` deep, itself among them.
+/// An object in which objects and arrays are nested exactly `depth` deep, itself among them; so `depth` is at least 1.
 pub fn grow(random: &mut Random, depth: usize) -> Vec<u8> {
     let mut text = Vec::new();
     put_container(random, depth, b"{}", &mut text);
@@ -43,7 +43,9 @@ pub fn change(random: &mut Random, text: &mut Vec<u8>) {
     match random.below(3) {
         0 => text[at] = byte,
         1 => text.insert(at + random.below(2), byte),
-        _ => drop(text.remove(at)),
+        _ => {
+            text.remove(at);
+        }
     }
 }
 
