@@ -77,7 +77,7 @@ module _ {A : Type 0} (n : ℕ) (some : 1 ≤ n) where
   pub groups-one : (x : A) (xs : List A) → length (x ∷ xs) ≤ n → groups n (x ∷ xs) ≡ (x ∷ xs) ∷ []
   groups-one x xs h = rw (groups-cons x xs, take-all n (x ∷ xs) h, drop-of-length-le (x ∷ xs) h, groups-nil)
 
-  -- all groups but the last are full
+  -- there are at most as many groups as elements
   pub groups-count : (xs : List A) → (length (groups n xs) ≤ length xs)
   groups-count = by-groups (λ xs. length (groups n xs) ≤ length xs)
       (rw groups-nil (omega arith))

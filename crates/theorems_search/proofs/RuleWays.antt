@@ -18,7 +18,7 @@ use Rattle.search.specs.Search.{nextKey}
 use Rattle.tree.specs.Tree.{blockEntries}
 use Rattle.theorems_tree.specs.Preorder.{preorder}
 use Rattle.theorems_search.specs.OpeningRule.{Opens, the-root, by-entry, Opened}
-use Rattle.tree.proofs.TreeLaws.{Tree, entries-at, entry⇒index}
+use Rattle.tree.proofs.TreeLaws.{Tree, entries-at, tree-entry⇒index}
 use Rattle.tree.proofs.TreeWays.{Way, at-root, by-entry as turn, Turn, turnsOf, way-block, met-entries}
 use Rattle.theorems_tree.proofs.TreeUnique.{turns-unique}
 use Rattle.theorems_tree.proofs.TreeCuts.{upperBound, upperOf, lowerOf, lowerBound}
@@ -51,7 +51,7 @@ module _ (bs : List Block) (root : ℕ) (t : Tree bs root) (q : Query) where
       go zero w bound admits =
           let met = way-block bs root t zero (b .frame .start) w in
           let among = split-member (met .block .entries) front e back (met-entries bs root t zero (b .frame .start) met ∙ entries) in
-          let index = entry⇒index bs root t (met .block) (met .member) e among in
+          let index = tree-entry⇒index bs root t (met .block) (met .member) e among in
           let low = met .leveled in
           absurd (omega arith)
       go (suc level) w bound admits =

@@ -14,7 +14,7 @@ use Rattle.lists.proofs.CountLaws.{count-within, one-holder, one-place}
 use Rattle.payload.specs.Payload.{Entry}
 use Rattle.block.specs.Block.{Block}
 use Rattle.tree.specs.Tree.{blockEntries, namings}
-use Rattle.tree.proofs.TreeLaws.{Tree, root-no-child, entry⇒index}
+use Rattle.tree.proofs.TreeLaws.{Tree, root-no-child, tree-entry⇒index}
 use Rattle.tree.proofs.TreeWays.{Way, at-root, by-entry, Turn, turnsOf, way-block, met-entries}
 
 joined : (front : List Entry) (e : Entry) (back : List Entry) (front′ : List Entry) (e′ : Entry) (back′ : List Entry) (ts ts′ : List Turn) → front ≡ front′ → e ≡ e′ → back ≡ back′ → ts ≡ ts′
@@ -37,7 +37,7 @@ module _ (bs : List Block) (root : ℕ) (t : Tree bs root) where
       few : length (keep (λ x. eqb (x .offset) (e .offset)) (flatMap (λ d. d .entries) bs)) ≤ 1
       few =
           let child = t .named b m e among in
-          let ordinary = entry⇒index bs root t b m e among in
+          let ordinary = tree-entry⇒index bs root t b m e among in
           let lower = child .4 in
           let once = t .once (child .0) (child .1) (omega arith) (λ r. root-no-child bs root t b m e among (sym (child .2) ∙ r)) in
           let count = ap (λ (o : ℕ). length (keep (λ x. eqb (x .offset) o) (flatMap (λ d. d .entries) bs))) (sym (child .2)) ∙ once in

@@ -69,8 +69,8 @@ module _ (bs : List Block) (root : ℕ) (t : Tree bs root) where
   -- ---- up and down
 
   -- an entry belongs to an index block
-  pub entry⇒index : (b : Block) → List·Memᴰ b bs → (e : Entry) → List·Memᴰ e (b .entries) → (1 ≤ b .frame .level) × (b .frame .level ≤ 63)
-  entry⇒index b m e i = (go (b .frame .level) refl, few (leb (b .frame .level) 63) refl)
+  pub tree-entry⇒index : (b : Block) → List·Memᴰ b bs → (e : Entry) → List·Memᴰ e (b .entries) → (1 ≤ b .frame .level) × (b .frame .level ≤ 63)
+  tree-entry⇒index b m e i = (go (b .frame .level) refl, few (leb (b .frame .level) 63) refl)
     where
       none : b .entries ≡ [] → ⊥
       none empty = List·Memᴰ·not-nil (subst (List·Memᴰ e) empty i)
@@ -128,7 +128,7 @@ module _ (bs : List Block) (root : ℕ) (t : Tree bs root) where
           let n = t .named b i e j in
           let lower = n .4 in
           let same = ap (λ (d : Block). d .frame .level) (same-start (n .0) c (n .1) m (n .2 ∙ p)) in
-          record { block = b; entry = e; member = i; among = j; names = p; higher = omega arith; few = entry⇒index b i e j .1 }
+          record { block = b; entry = e; member = i; among = j; names = p; higher = omega arith; few = tree-entry⇒index b i e j .1 }
 
       found : (e : Entry) × List·Memᴰ e (keep (λ x. eqb (x .offset) (c .frame .start)) (flatMap (λ b. b .entries) bs)) → Parent c
       found p =
