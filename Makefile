@@ -1,5 +1,5 @@
 # test: everything that must hold, as the gate runs it.   demo: build and run the main job.
-# fuzz: compare both readers until stopped; ARGS="--seed 7 --cases 1000000" repeats a run.
+# fuzz: compare both implementations until stopped; ARGS="--seed 7 --cases 1000000" repeats a run.
 # bench: measure, and write docs/PERFORMANCE.md.   lint: look at scripts and Rust with shellcheck, rustfmt and clippy.
 .PHONY: test demo fuzz bench lint
 

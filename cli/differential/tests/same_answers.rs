@@ -1,4 +1,4 @@
-//! The proved library answers as the independent reader and writer do, over files and inputs drawn from a fixed seed.
+//! The proved library answers as the independent reader and writer do, over files, inputs and texts drawn from a fixed seed.
 //! The table of counts is printed; run with `--nocapture` to see it.
 
 use std::path::Path;

@@ -15,7 +15,7 @@ use Rattle.json.specs.declared.End.{End}
 use Rattle.json.specs.declared.End.the-variants.{At, Nowhere}
 use Rattle.json.specs.Answers.{first, endSaid}
 
--- nothing is left behind the end
+-- nothing is left past the end
 pub past : (s : List ℕ) (at : ℕ) → length s ≤ at → drop at s ≡ []
 past s at h = drop-of-length-le s h
 

@@ -30,7 +30,7 @@ stepSaid s Stray = none
 unfoldable pub noItems : List ℕ → Option (List ℕ)
 noItems s = none
 
--- where the next item begins, from which `items` go on, or where the last one ended
+-- where the next item begins, from which `items` go on, or where the object or array ends
 unfoldable pub nextSaid : List ℕ → (items : List ℕ → Option (List ℕ)) → Next → Option (List ℕ)
 nextSaid s items (Item p) = items (drop p s)
 nextSaid s items (ClosedAt p) = some (drop p s)

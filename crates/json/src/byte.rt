@@ -30,7 +30,7 @@ pub fn is_hex(b: u8) -> bool
     within(b'0', b'9', b) || (within(b'A', b'F', b) || within(b'a', b'f', b))
 }
 
-// The byte at a position; 0 behind the end.
+// The byte at a position; 0 past the end.
 pub fn byte_at(s: &[u8], at: usize) -> u8
     ensures { λ r. ⌜ r ≡ first (drop at (now (s .entry))) ⌝ }
 {

@@ -1,6 +1,6 @@
 // Recognising JSON (RFC 8259), in one pass over the bytes.
 //
-// An inner function takes the bytes and a position, and answers where the text ends that it is named after, if one stands there. Behind the
+// An inner function takes the bytes and a position, and answers where the text ends that it is named after, if one stands there. Past the
 // end of the bytes nothing stands.
 ghost use mathlib.Core.Path.{_≡_};
 ghost use Rattle.json_grammar.specs.Recogniser.{isObject};
@@ -21,7 +21,7 @@ enum End {
 }
 
 // How deep objects and arrays may be nested, the outermost being 1.
-pub const MAX_DEPTH: u8 = 64;
+const MAX_DEPTH: u8 = 64;
 
 // Whether the bytes are an object, with white space after it allowed.
 pub fn is_object(s: &[u8]) -> bool

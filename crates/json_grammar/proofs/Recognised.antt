@@ -1,4 +1,4 @@
--- A text is recognised as an object exactly when the grammar derives it.
+-- A text that begins with `{` is recognised as an object exactly when the grammar derives it.
 -- Assumes nothing.
 use Prim.Native.Nat.{ℕ}
 use mathlib.Core.Path.{_≡_, refl, sym, _∙_, subst}

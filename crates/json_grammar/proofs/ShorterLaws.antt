@@ -1,4 +1,4 @@
--- No value, member, object or array is empty, so what is left behind one is shorter.
+-- No value, member, object or array is empty, so what is left after one is shorter.
 -- Assumes nothing.
 use Prim.Native.Nat.{ℕ, _<_}
 use mathlib.Core.List.{List, _∷_, _++_}

@@ -8,7 +8,8 @@ use lib.Dec.{eqb}
 use Rattle.json_grammar.specs.Grammar.{Ws, BeginArray, BeginObject, NameSeparator, String, Derives, value, object, members, member, array, values}
 use Rattle.json_grammar.specs.Grammar.{object-value, array-value}
 use Rattle.json_grammar.specs.Grammar.{no-members, some-members, one-member, more-members, named, no-values, some-values, one-value, more-values, ws-none}
-use Rattle.json_grammar.specs.Recogniser.{skip, stringEnd, structuralEnd, nameEnd, memberOver, objectOver, arrayOver, valueOver, valueEnd, objectEnd, arrayEnd}
+use Rattle.json_grammar.specs.Recogniser.{skip, stringEnd, structuralEnd, nameEnd}
+use Rattle.json_grammar.specs.Recogniser.{memberOver, objectOver, arrayOver, valueOver, valueEnd, objectEnd, arrayEnd}
 use Rattle.json_grammar.proofs.BindLaws.{bind⁻¹, by-cond, none-not-some}
 use Rattle.json_grammar.proofs.FrontLaws.{Front, Both, both, Sound, front-none, front-both, front-as}
 use Rattle.json_grammar.proofs.SpaceLaws.{skip-sound, structural-sound, structural-spaced}

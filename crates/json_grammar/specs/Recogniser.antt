@@ -1,7 +1,7 @@
 -- Recognising JSON from the front: each function gives what is left after the text that it stands for, or nothing. After a value, and after
 -- each structural character, white space is passed over.
 use Prim.Native.Nat.{ℕ, zero, suc, _-_}
-use mathlib.Core.Bool.{Bool, true, false, _&&_, _||_, cond}
+use mathlib.Core.Bool.{Bool, true, false, _||_, cond}
 use mathlib.Core.List.{List, [], _∷_}
 use mathlib.Core.Option.{Option, none, some}
 use lib.Dec.{leb, eqb}
@@ -178,6 +178,6 @@ isDone none = false
 isDone (some []) = true
 isDone (some (b ∷ s)) = false
 
--- whether the text is an object, itself among the `depth`
+-- whether the text is an object from its brace on, itself among the `depth`; white space may follow
 unfoldable pub isObject : (depth : ℕ) → List ℕ → Bool
 isObject depth s = isDone (objectEnd depth s)

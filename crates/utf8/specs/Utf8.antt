@@ -11,7 +11,7 @@ use Rattle.utf8.specs.declared.Due.{Due}
 abbrev pub Tail : ℕ → Type 0
 Tail byte = In 0x80 0xbf byte
 
--- one character; the names are those of the RFC
+-- one character; the names are the RFC's, with the first byte where there are several forms
 pub data Character : List ℕ → Type 0 where
   UTF8-1 : {a : ℕ} → In 0x00 0x7f a → Character (a ∷ [])
   UTF8-2 : {a b : ℕ} → In 0xc2 0xdf a → Tail b → Character (a ∷ b ∷ [])

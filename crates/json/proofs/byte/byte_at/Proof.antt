@@ -1,4 +1,4 @@
--- `byte_at` meets its contract: before the end the byte that stands there, behind it 0. Assumes nothing.
+-- `byte_at` meets its contract: before the end the byte that stands there, past it 0. Assumes nothing.
 use Rattle.json.proofs.PositionLaws.{first-here, first-past}
 use borrow.Author.Needs.{needs}
 use Rattle.json.proofs.byte.byte_at.Statement.{statement}

@@ -1,10 +1,10 @@
-use native.Mathlib.Omega.{arith}
-use Rattle.json.proofs.ContainerPositionLaws.{unclosed}
 -- `closed` meets its contract: it answers an end, and nothing else. Assumes nothing.
 use mathlib.Core.Path.{sym, ap}
 use mathlib.Core.Logic.{⊎-elim}
+use native.Mathlib.Omega.{arith}
 use Rattle.json.specs.Answers.{endSaid, noItems, nextSaid}
 use borrow.Author.Needs.{needs}
+use Rattle.json.proofs.ContainerPositionLaws.{unclosed}
 use Rattle.json.proofs.items.closed.Statement.{statement}
 use Rattle.json.proofs.items.closed.Tie as tie
 
