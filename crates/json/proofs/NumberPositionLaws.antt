@@ -11,13 +11,9 @@ use borrow.Author.Tests.{ne-eqb}
 use Rattle.byte_range.proofs.RangeLaws.{within⇒in}
 use Rattle.json_grammar.specs.Recogniser.{_>>=_, oneOf, isDigit, skipDigits, digitsEnd, skipMinus, intEnd, fracEnd, skipSign, expEnd, numberEnd}
 use Rattle.json.specs.Answers.{first}
-use Rattle.json.proofs.PositionLaws.{begins, one-more, Passes}
+use Rattle.json.proofs.PositionLaws.{begins, one-more}
 
 -- ---- digits
-
-pub digits-pass : Passes isDigit skipDigits
-unfolding skipDigits
-digits-pass = record { none = refl; more = λ b s. refl }
 
 pub digit-some : (b : ℕ) → isDigit b ≡ true → 0 < b
 unfolding isDigit

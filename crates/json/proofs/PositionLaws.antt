@@ -2,7 +2,7 @@
 -- Assumes nothing.
 use Prim.Native.Nat.{ℕ, _+_, _<_, _≤_}
 use mathlib.Core.Path.{_≡_, refl, sym, ap, _∙_}
-use mathlib.Core.Bool.{Bool, true, false, cond}
+use mathlib.Core.Bool.{Bool, true, false}
 use mathlib.Core.List.{List, [], _∷_}
 use mathlib.Core.Option.{Option, none, some}
 use native.Mathlib.Numerals.{add-one}
@@ -11,6 +11,7 @@ use lib.Dec.{ltb}
 use borrow.Author.Tests.{ltb-true, ltb-false}
 use lib.ListN.{length, drop, getD, drop-of-length-le}
 use lib.Seq.{drop-cons, drop-drop}
+use Rattle.json_grammar.specs.Recogniser.{skipWhile}
 use Rattle.json.specs.declared.End.{End}
 use Rattle.json.specs.declared.End.the-variants.{At, Nowhere}
 use Rattle.json.specs.Answers.{first, endSaid}
@@ -58,17 +59,15 @@ ends-nowhere s r o e said = ap (endSaid s) (sym said) ∙ e
 
 -- ---- passing over the bytes that a test takes
 
-module _ (test : ℕ → Bool) (pass : List ℕ → List ℕ) where
-  -- from the front, while the test takes them
-  pub record Passes : Type 0 where
-    pub none : pass [] ≡ []
-    pub more : (b : ℕ) (s : List ℕ) → pass (b ∷ s) ≡ cond (test b) (pass s) (b ∷ s)
+module _ (test : ℕ → Bool) (s : List ℕ) (at : ℕ) where
+  pub skip-end : length s ≤ at → drop at s ≡ skipWhile test (drop at s)
+  unfolding skipWhile
+  skip-end h = rw (past s at h)
 
-  pub pass-end : Passes → (s : List ℕ) (at : ℕ) → length s ≤ at → drop at s ≡ pass (drop at s)
-  pass-end p s at h = rw (past s at h) (sym (p .none))
+  pub skip-stop : at < length s → test (getD s at 0) ≡ false → drop at s ≡ skipWhile test (drop at s)
+  unfolding skipWhile
+  skip-stop h e = rw (here s at h, e)
 
-  pub pass-stop : Passes → (s : List ℕ) (at : ℕ) → at < length s → test (getD s at 0) ≡ false → drop at s ≡ pass (drop at s)
-  pass-stop p s at h e = rw (here s at h, p .more (getD s at 0) (drop (at + 1) s), e)
-
-  pub pass-more : Passes → (s : List ℕ) (at : ℕ) → at < length s → test (getD s at 0) ≡ true → pass (drop (at + 1) s) ≡ pass (drop at s)
-  pass-more p s at h e = rw (here s at h, p .more (getD s at 0) (drop (at + 1) s), e)
+  pub skip-more : at < length s → test (getD s at 0) ≡ true → skipWhile test (drop (at + 1) s) ≡ skipWhile test (drop at s)
+  unfolding skipWhile
+  skip-more h e = rw (here s at h, e)

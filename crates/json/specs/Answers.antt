@@ -1,5 +1,6 @@
 -- What the answers of the code say, in the terms of the recogniser. A position stands for what is left from there on.
 use Prim.Native.Nat.{ℕ}
+use mathlib.Core.Bool.{Bool}
 use mathlib.Core.List.{List, [], _∷_}
 use mathlib.Core.Option.{Option, none, some}
 use lib.ListN.{drop}
@@ -9,12 +10,19 @@ use Rattle.json.specs.declared.string.Step.{Step}
 use Rattle.json.specs.declared.string.Step.the-variants.{Closed, Due, Stray}
 use Rattle.json.specs.declared.items.Next.{Next}
 use Rattle.json.specs.declared.items.Next.the-variants.{Item, Closed as ClosedAt, Neither}
-use Rattle.json_grammar.specs.Recogniser.{_>>=_, charsEnd, structuralEnd}
+use Rattle.json.specs.declared.space.Kind.{Kind}
+use Rattle.json.specs.declared.space.Kind.the-variants.{Space, Digit}
+use Rattle.json_grammar.specs.Recogniser.{isSpace, isDigit, _>>=_, charsEnd, structuralEnd}
 
 -- the first byte; 0 where there is none
 unfoldable pub first : List ℕ → ℕ
 first [] = 0
 first (b ∷ s) = b
+
+-- whether a byte is of a kind
+abbrev pub isOf : Kind → ℕ → Bool
+isOf Space = isSpace
+isOf Digit = isDigit
 
 -- where a text ends, or that there is none
 unfoldable pub endSaid : List ℕ → End → Option (List ℕ)

@@ -1,5 +1,5 @@
 // What stands around the items of an object or an array, which are members or values.
-ghost use Prim.Native.Nat.{ℕ, _<_};
+ghost use Prim.Native.Nat.{ℕ};
 ghost use mathlib.Core.Path.{_≡_};
 ghost use mathlib.Core.List.{List};
 ghost use mathlib.Core.Option.{Option};
@@ -22,7 +22,6 @@ pub enum Next {
 
 // What comes next at an opening character.
 pub fn first_item(s: &[u8], at: usize, opening: u8, close: u8) -> Next
-    requires { ⌜ (0 < opening) × (0 < close) ⌝ }
     ensures { λ r. ⌜ ((item : List ℕ → Option (List ℕ)) → nextSaid (now (s .entry)) (itemsEnd item close) r
         ≡ opened opening (containerEnd item close) (drop at (now (s .entry)))) ⌝ }
 {
@@ -37,7 +36,6 @@ pub fn first_item(s: &[u8], at: usize, opening: u8, close: u8) -> Next
 
 // What comes next after an item.
 pub fn after_item(s: &[u8], at: usize, close: u8) -> Next
-    requires { ⌜ 0 < close ⌝ }
     ensures { λ r. ⌜ ((items : List ℕ → Option (List ℕ)) → nextSaid (now (s .entry)) items r
         ≡ itemNext close items (drop at (now (s .entry)))) ⌝ }
 {

@@ -6,20 +6,7 @@ ghost use Rattle.json.specs.Answers.{endSaid};
 use crate::End;
 use crate::byte::byte_at;
 use crate::byte::is_digit;
-
-// Where digits end.
-fn skip_digits(s: &[u8], from: usize) -> usize
-    ensures { λ r. ⌜ drop r (now (s .entry)) ≡ recogniser.skipDigits (drop from (now (s .entry))) ⌝ }
-{
-    let mut at = from;
-    while at < s.len() {
-        if !is_digit(s[at]) {
-            return at;
-        }
-        at += 1;
-    }
-    at
-}
+use crate::space::skip_digits;
 
 // One digit or more.
 fn digits(s: &[u8], at: usize) -> End

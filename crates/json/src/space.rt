@@ -1,20 +1,34 @@
-// White space and structural characters.
-ghost use Prim.Native.Nat.{_<_};
+// White space, digits and structural characters.
 ghost use mathlib.Core.Path.{_≡_};
 ghost use lib.ListN.{drop};
-ghost use Rattle.json_grammar.specs.Recogniser.{skip, structuralEnd};
-ghost use Rattle.json.specs.Answers.{endSaid};
+ghost use Rattle.json_grammar.specs.Recogniser.{skipWhile, skip, skipDigits, structuralEnd};
+ghost use Rattle.json.specs.Answers.{endSaid, isOf};
 use crate::End;
-use crate::byte::byte_at;
+use crate::byte::is_digit;
 use crate::byte::is_space;
 
-// Where white space ends.
-pub fn skip(s: &[u8], from: usize) -> usize
-    ensures { λ r. ⌜ drop r (now (s .entry)) ≡ skip (drop from (now (s .entry))) ⌝ }
+// Bytes that are passed over.
+enum Kind {
+    Space,
+    Digit,
+}
+
+fn is_of(kind: Kind, b: u8) -> bool
+    ensures { λ r. ⌜ r ≡ isOf kind b ⌝ }
+{
+    match kind {
+        Kind::Space => is_space(b),
+        Kind::Digit => is_digit(b),
+    }
+}
+
+// Where bytes of a kind end.
+fn skip_while(s: &[u8], from: usize, kind: Kind) -> usize
+    ensures { λ r. ⌜ drop r (now (s .entry)) ≡ skipWhile (isOf kind) (drop from (now (s .entry))) ⌝ }
 {
     let mut at = from;
     while at < s.len() {
-        if !is_space(s[at]) {
+        if !is_of(kind, s[at]) {
             return at;
         }
         at += 1;
@@ -22,12 +36,28 @@ pub fn skip(s: &[u8], from: usize) -> usize
     at
 }
 
-// A structural character, and the white space after it. (0 is none: it stands for the end.)
+// Where white space ends.
+pub fn skip(s: &[u8], from: usize) -> usize
+    ensures { λ r. ⌜ drop r (now (s .entry)) ≡ skip (drop from (now (s .entry))) ⌝ }
+{
+    skip_while(s, from, Kind::Space)
+}
+
+// Where digits end.
+pub fn skip_digits(s: &[u8], from: usize) -> usize
+    ensures { λ r. ⌜ drop r (now (s .entry)) ≡ skipDigits (drop from (now (s .entry))) ⌝ }
+{
+    skip_while(s, from, Kind::Digit)
+}
+
+// A structural character, and the white space after it.
 pub fn structural(s: &[u8], at: usize, character: u8) -> End
-    requires { ⌜ 0 < character ⌝ }
     ensures { λ r. ⌜ endSaid (now (s .entry)) r ≡ structuralEnd character (drop at (now (s .entry))) ⌝ }
 {
-    if byte_at(s, at) == character {
+    if s.len() <= at {
+        return End::Nowhere;
+    }
+    if s[at] == character {
         End::At(skip(s, at + 1))
     } else {
         End::Nowhere

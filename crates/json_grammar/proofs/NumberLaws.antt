@@ -12,7 +12,7 @@ use Rattle.byte_range.specs.Range.{In}
 use Rattle.byte_range.proofs.RangeLaws.{within⇒in, in⇒within}
 use Rattle.json_grammar.specs.Grammar.{Digits, digit, digits, Int, int-zero, int-one, int-more, Minus, no-minus, minus, Frac, no-frac, frac}
 use Rattle.json_grammar.specs.Grammar.{Sign, no-sign, sign, Exp, no-exp, exp, Number, number}
-use Rattle.json_grammar.specs.Recogniser.{_>>=_, oneOf, isDigit, skipDigits, digitsEnd, skipMinus, intEnd, fracEnd, skipSign, expEnd, numberEnd}
+use Rattle.json_grammar.specs.Recogniser.{_>>=_, oneOf, isDigit, skipWhile, skipDigits, digitsEnd, skipMinus, intEnd, fracEnd, skipSign, expEnd, numberEnd}
 use Rattle.json_grammar.proofs.ByteLaws.{oneOf⇒member, member⇒oneOf, or-false⁻¹}
 use Rattle.json_grammar.proofs.BindLaws.{bind-some, bind⁻¹, by-cond, only⁻¹, none-not-some, some-injective}
 use Rattle.json_grammar.proofs.FrontLaws.{Front, Both, both, Sound, front-none, front-one, front-more, front-both, front-as}
@@ -28,7 +28,7 @@ in⇒isDigit b i = in⇒within 0x30 0x39 b i
 -- ---- what was passed over
 
 digits-from : (b : ℕ) (s : List ℕ) → In 0x30 0x39 b → Front Digits (b ∷ s) (skipDigits s)
-unfolding skipDigits
+unfolding skipWhile
 digits-from b [] i = front-one b [] (digit i)
 digits-from b (c ∷ s) i = go (isDigit c) refl (digits-from c s)
   where
@@ -53,7 +53,7 @@ minus-sound (b ∷ s) = go (eqb b 0x2d) refl
     go false e = front-none (b ∷ s) no-minus
 
 int-from : (b : ℕ) (s : List ℕ) → In 0x31 0x39 b → Front Int (b ∷ s) (skipDigits s)
-unfolding skipDigits
+unfolding skipWhile
 int-from b [] i = front-one b [] (int-one i)
 int-from b (c ∷ s) i = go (isDigit c) refl
   where
@@ -125,7 +125,7 @@ Apart [] = Unit {0}
 Apart (b ∷ s) = goesOn b ≡ false
 
 apart-digits : (r : List ℕ) → Apart r → skipDigits r ≡ r
-unfolding Apart goesOn skipDigits
+unfolding Apart goesOn skipWhile
 apart-digits [] h = refl
 apart-digits (b ∷ s) h = rw (or-false⁻¹ (isDigit b) _ h .0)
 
@@ -142,7 +142,7 @@ apart-exp (b ∷ s) h = rw (or-false⁻¹ (eqb b 0x2e) _ (or-false⁻¹ (isDigit
 -- ---- a number is passed over
 
 digits-skipped : (t r : List ℕ) → Digits t → skipDigits r ≡ r → skipDigits (t ++ r) ≡ r
-unfolding skipDigits
+unfolding skipWhile
 digits-skipped t r (digit {b} i) h = rw (in⇒isDigit b i) h
 digits-skipped t r (digits {b} {s} i more) h = rw (in⇒isDigit b i) (digits-skipped s r more h)
 
@@ -195,7 +195,7 @@ exp-complete t r (exp {e} {s} {t = d} m x y) h = rw (member⇒oneOf _ e m, appen
 
 -- what begins with an exponent, or has none, is apart from digits and from a fraction
 e-apart : (b : ℕ) (s : List ℕ) → List·Memᴰ b (0x65 ∷ 0x45 ∷ []) → (skipDigits (b ∷ s) ≡ b ∷ s) × (fracEnd (b ∷ s) ≡ some (b ∷ s))
-unfolding skipDigits fracEnd isDigit
+unfolding skipWhile fracEnd isDigit
 e-apart b s (List·Memᴰ·head e) = rw e (refl, refl)
 e-apart b s (List·Memᴰ·tail m) = rw (List·Memᴰ·eq-of-singleton m) (refl, refl)
 
@@ -204,7 +204,7 @@ exp-apart t r no-exp h = (apart-digits r h, apart-frac r h)
 exp-apart t r (exp {e} {s} {t = d} m x y) h = e-apart e ((s ++ d) ++ r) m
 
 frac-apart : (t r : List ℕ) → Frac t → skipDigits r ≡ r → skipDigits (t ++ r) ≡ t ++ r
-unfolding skipDigits isDigit
+unfolding skipWhile isDigit
 frac-apart t r no-frac h = h
 frac-apart t r (frac more) h = refl
 

@@ -8,7 +8,7 @@ use mathlib.Core.Option.{Option, none, some}
 use native.Mathlib.Omega.{arith}
 use lib.ListN.{getD}
 use Rattle.json_grammar.specs.Grammar.{Derives, object}
-use Rattle.json_grammar.specs.Recogniser.{oneOf, isSpace, skip, objectEnd, isDone, isObject}
+use Rattle.json_grammar.specs.Recogniser.{oneOf, isSpace, skipWhile, skip, objectEnd, isDone, isObject}
 use Rattle.json_grammar.proofs.SpaceLaws.{skip-kept}
 use Rattle.json_grammar.proofs.Soundness.{object-sound}
 use Rattle.json_grammar.proofs.Completeness.{object-complete}
@@ -25,7 +25,7 @@ opened [] e = absurd (omega arith)
 opened (b ∷ s) e = skip-kept b s (rw e)
 
 pub derived⇒recognised : (d : ℕ) (m : List ℕ) → getD m 0 0 ≡ 0x7b → Derives object d m → objectEnd d m ≡ some []
-unfolding skip
+unfolding skipWhile
 derived⇒recognised d m first x = rw (append-nil m, opened m first) at (object-complete d m [] x)
 
 -- ---- as a test

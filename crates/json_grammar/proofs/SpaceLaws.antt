@@ -10,7 +10,7 @@ use lib.Dec.{eqb}
 use lib.ListN.{length, length-append}
 use borrow.Author.Tests.{eqb-true, eq-eqb}
 use Rattle.json_grammar.specs.Grammar.{Ws, ws-none, ws-more, Structural, structural}
-use Rattle.json_grammar.specs.Recogniser.{isSpace, skip, structuralEnd}
+use Rattle.json_grammar.specs.Recogniser.{isSpace, skipWhile, skip, structuralEnd}
 use Rattle.json_grammar.proofs.ByteLaws.{oneOf⇒member, member⇒oneOf}
 use Rattle.json_grammar.proofs.BindLaws.{only⁻¹, none-not-some, some-injective}
 use Rattle.json_grammar.proofs.FrontLaws.{Front, Both, both, Sound, front-none, front-more}
@@ -19,12 +19,12 @@ use Rattle.json_grammar.proofs.FrontLaws.{Front, Both, both, Sound, fro
 
 -- a first byte that isn't white space stays
 pub skip-kept : (b : ℕ) (s : List ℕ) → isSpace b ≡ false → skip (b ∷ s) ≡ b ∷ s
-unfolding skip
+unfolding skipWhile
 skip-kept b s e = rw e
 
 -- what is passed over is white space
 pub skip-sound : (s : List ℕ) → Front Ws s (skip s)
-unfolding skip isSpace
+unfolding skipWhile isSpace
 skip-sound [] = front-none [] ws-none
 skip-sound (b ∷ s) = go (isSpace b) refl (skip-sound s)
   where
@@ -34,7 +34,7 @@ skip-sound (b ∷ s) = go (isSpace b) refl (skip-sound s)
 
 -- white space is passed over
 pub skip-complete : (w r : List ℕ) → Ws w → skip (w ++ r) ≡ skip r
-unfolding skip isSpace
+unfolding skipWhile isSpace
 skip-complete w r ws-none = refl
 skip-complete w r (ws-more {b} {s} m more) = rw (member⇒oneOf _ b m) (skip-complete s r more)
 

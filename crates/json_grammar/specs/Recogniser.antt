@@ -21,23 +21,26 @@ unfoldable pub oneOf : List ℕ → ℕ → Bool
 oneOf [] b = false
 oneOf (c ∷ cs) b = eqb b c || oneOf cs b
 
+-- what is left after the bytes at the front that pass a test
+unfoldable pub skipWhile : (test : ℕ → Bool) → List ℕ → List ℕ
+skipWhile test [] = []
+skipWhile test (b ∷ s) = cond (test b) (skipWhile test s) (b ∷ s)
+
 -- ---- white space
 
 unfoldable pub isSpace : ℕ → Bool
 isSpace = oneOf (0x20 ∷ 0x09 ∷ 0x0a ∷ 0x0d ∷ [])
 
-unfoldable pub skip : List ℕ → List ℕ
-skip [] = []
-skip (b ∷ s) = cond (isSpace b) (skip s) (b ∷ s)
+abbrev pub skip : List ℕ → List ℕ
+skip = skipWhile isSpace
 
 -- ---- numbers
 
 unfoldable pub isDigit : ℕ → Bool
 isDigit = within 0x30 0x39
 
-unfoldable pub skipDigits : List ℕ → List ℕ
-skipDigits [] = []
-skipDigits (b ∷ s) = cond (isDigit b) (skipDigits s) (b ∷ s)
+abbrev pub skipDigits : List ℕ → List ℕ
+skipDigits = skipWhile isDigit
 
 -- one digit or more
 unfoldable pub digitsEnd : List ℕ → Option (List ℕ)
