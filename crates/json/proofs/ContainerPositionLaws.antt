@@ -12,7 +12,8 @@ use borrow.Author.Tests.{leb-true, leb-false, ne-eqb}
 use Rattle.json.specs.declared.End.{End}
 use Rattle.json.specs.declared.items.Next.{Next}
 use Rattle.json.specs.declared.items.Next.the-variants.{Item, Closed as ClosedAt, Neither}
-use Rattle.json_grammar.specs.Recogniser.{_>>=_, skip, structuralEnd, scalarEnd, plainEnd, itemNext, itemsFrom, itemsEnd, containerEnd}
+use Rattle.json_grammar.specs.Recogniser.{_>>=_, skip, isDigit, digitsEnd, skipMinus, intEnd, numberEnd}
+use Rattle.json_grammar.specs.Recogniser.{structuralEnd, scalarEnd, plainEnd, itemNext, itemsFrom, itemsEnd, containerEnd}
 use Rattle.json_grammar.specs.Recogniser.{memberOver, objectOver, arrayOver, valueOver, valueEnd, objectEnd, arrayEnd, isDone, isObject}
 use Rattle.json.specs.Answers.{first, endSaid, noItems, nextSaid, opened}
 use Rattle.json_grammar.proofs.BindLaws.{by-cond, only⁻¹, none-not-some, some-injective, bind-some, bind-none}
@@ -110,6 +111,15 @@ items-ended s items Neither r whole no-item e inv = e ∙ inv
 
 -- ---- by depth
 
+-- nothing is left for an object or an array
+pub object-flat : (depth : ℕ) (s : List ℕ) → depth ≡ 0 → none ≡ objectEnd depth s
+unfolding objectEnd
+object-flat depth s e = rw e
+
+pub array-flat : (depth : ℕ) (s : List ℕ) → depth ≡ 0 → none ≡ arrayEnd depth s
+unfolding arrayEnd
+array-flat depth s e = rw e
+
 one-less : (d : ℕ) → suc d - 1 ≡ d
 one-less d = omega arith
 
@@ -125,21 +135,17 @@ array-deep (suc d) s h = rw (one-less d)
 
 -- ---- values, by their first byte
 
-pub value-flat : (depth : ℕ) (s : List ℕ) → depth ≡ 0 → plainEnd s ≡ valueEnd depth s
-unfolding valueEnd
-value-flat depth s e = rw e
+pub value-object : (depth : ℕ) (s : List ℕ) → first s ≡ 0x7b → objectEnd depth s ≡ valueEnd depth s
+unfolding valueEnd valueOver objectEnd first plainEnd scalarEnd numberEnd skipMinus intEnd digitsEnd isDigit _>>=_
+value-object depth [] e = absurd (omega arith)
+value-object zero (b ∷ s) e = rw e
+value-object (suc d) (b ∷ s) e = rw e
 
-pub value-object : (depth : ℕ) (s : List ℕ) → (depth ≡ 0 → ⊥) → first s ≡ 0x7b → objectEnd depth s ≡ valueEnd depth s
-unfolding valueEnd valueOver objectEnd first
-value-object zero s deep e = absurd (deep refl)
-value-object (suc d) [] deep e = absurd (omega arith)
-value-object (suc d) (b ∷ s) deep e = rw e
-
-pub value-array : (depth : ℕ) (s : List ℕ) → (depth ≡ 0 → ⊥) → first s ≡ 0x5b → arrayEnd depth s ≡ valueEnd depth s
-unfolding valueEnd valueOver arrayEnd first
-value-array zero s deep e = absurd (deep refl)
-value-array (suc d) [] deep e = absurd (omega arith)
-value-array (suc d) (b ∷ s) deep e = rw e
+pub value-array : (depth : ℕ) (s : List ℕ) → first s ≡ 0x5b → arrayEnd depth s ≡ valueEnd depth s
+unfolding valueEnd valueOver arrayEnd first plainEnd scalarEnd numberEnd skipMinus intEnd digitsEnd isDigit _>>=_
+value-array depth [] e = absurd (omega arith)
+value-array zero (b ∷ s) e = rw e
+value-array (suc d) (b ∷ s) e = rw e
 
 pub value-plain : (depth : ℕ) (s : List ℕ) → (first s ≡ 0x7b → ⊥) → (first s ≡ 0x5b → ⊥) → plainEnd s ≡ valueEnd depth s
 unfolding valueEnd valueOver plainEnd scalarEnd _>>=_ first

@@ -1,5 +1,4 @@
 // Values, objects and arrays, which hold each other.
-ghost use Prim.Native.Nat.{_<_};
 ghost use mathlib.Core.Path.{_≡_};
 ghost use lib.ListN.{drop};
 ghost use Rattle.json_grammar.specs.Recogniser.{valueEnd, objectEnd, arrayEnd};
@@ -13,13 +12,10 @@ use crate::items::first_item;
 use crate::items::name;
 use crate::scalar::plain;
 
-// A value with objects and arrays nested at most `depth` deep, and the white space after it. With none left, a scalar.
+// A value with objects and arrays nested at most `depth` deep, and the white space after it.
 fn value(s: &[u8], at: usize, depth: u8) -> End
     ensures { λ r. ⌜ endSaid (now (s .entry)) r ≡ valueEnd depth (drop at (now (s .entry))) ⌝ }
 {
-    if depth == 0 {
-        return plain(s, at);
-    }
     match byte_at(s, at) {
         b'{' => object(s, at, depth),
         b'[' => array(s, at, depth),
@@ -29,9 +25,11 @@ fn value(s: &[u8], at: usize, depth: u8) -> End
 
 // An object, itself among the `depth`, and the white space after it.
 pub fn object(s: &[u8], from: usize, depth: u8) -> End
-    requires { ⌜ 0 < depth ⌝ }
     ensures { λ r. ⌜ endSaid (now (s .entry)) r ≡ objectEnd depth (drop from (now (s .entry))) ⌝ }
 {
+    if depth == 0 {
+        return End::Nowhere;
+    }
     let mut next = first_item(s, from, b'{', b'}');
     while let Next::Item(at) = next {
         let End::At(inner) = name(s, at) else {
@@ -47,9 +45,11 @@ pub fn object(s: &[u8], from: usize, depth: u8) -> End
 
 // An array, likewise.
 fn array(s: &[u8], from: usize, depth: u8) -> End
-    requires { ⌜ 0 < depth ⌝ }
     ensures { λ r. ⌜ endSaid (now (s .entry)) r ≡ arrayEnd depth (drop from (now (s .entry))) ⌝ }
 {
+    if depth == 0 {
+        return End::Nowhere;
+    }
     let mut next = first_item(s, from, b'[', b']');
     while let Next::Item(at) = next {
         let End::At(end) = value(s, at, depth - 1) else {

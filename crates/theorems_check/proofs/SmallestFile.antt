@@ -51,10 +51,13 @@ smallestFile =
 
 -- it is accepted, with two blocks; by computation
 two-blocks : countOf length (acceptOf smallestFile) ≡ 2
-unfolding smallestFile countOf acceptOf checkWith head.headerOf head.sizeRule head.frontRules head.dataOf head.fieldsOf head.headerNumbers head.blocksFrom _>>=_ _>>_ must head.magic head.unfinishedMagic
+unfolding smallestFile countOf acceptOf checkWith head.headerOf head.sizeRule head.frontRules head.dataOf head.fieldsOf head.headerNumbers
+    head.blocksFrom _>>=_ _>>_ must head.magic head.unfinishedMagic
     head.codecNone head.fieldAt meta.isMetadata utf8.isUtf8 utf8.utf8From utf8.dueAfter json.isObject json.isDone json.objectEnd json.objectOver
-    json.structuralEnd json.containerEnd json.skip json.isSpace json.oneOf json._>>=_ head.H head.M head.holdsHeader head.headerCrcRight head.holdsMetadata part itemsFrom keep any all
-    order orElse isMore atMost begins fixed.littleEndian continuing sevens reading crc.crc64 crc.crcOf crc.registerStart crc.register crc.byteStep crc.bitSteps crc.bitStep
+    json.structuralEnd json.containerEnd json.skipWhile json.isSpace json.oneOf json._>>=_ head.H head.M head.holdsHeader head.headerCrcRight
+    head.holdsMetadata part itemsFrom keep any all
+    order orElse isMore atMost begins fixed.littleEndian continuing sevens reading crc.crc64 crc.crcOf crc.registerStart crc.register crc.byteStep
+    crc.bitSteps crc.bitStep
     crc.allOnes crc.polynomial crc.reversed frame.readAs frame.numberAt frame.framed frame.frameAt frame.crcRight frame.soundFrameAt payload.textAt
     payload.entrySized payload.entryAt payload.risingFrom payload.rising payload.payloadAt payload.recordsAt payload.entriesAt block.isData
     block.isOrdinary block.blockIn block.blockAt block.blockStep block.blocksAt survey.ordinary survey.recordsOf survey.isRoot stages.each

@@ -24,7 +24,8 @@ module _ {A : Type 0} (P : A → Type 0) where
   unfolding flatMap
   kept-flatMap f g [] h = no-more
   kept-flatMap {B} f g (e ∷ es) h =
-      kept-append (f e) (flatMap f es) (g e) (flatMap g es) (h e (List·Memᴰ·head refl)) (kept-flatMap f g es (λ (x : B) (m : List·Memᴰ x es). h x (List·Memᴰ·tail m)))
+      kept-append (f e) (flatMap f es) (g e) (flatMap g es) (h e (List·Memᴰ·head refl))
+      (kept-flatMap f g es (λ (x : B) (m : List·Memᴰ x es). h x (List·Memᴰ·tail m)))
 
   -- where the property holds of no element
   pub kept-none : (xs : List A) → ((x : A) → List·Memᴰ x xs → P x → ⊥) → Kept P xs []
@@ -32,7 +33,8 @@ module _ {A : Type 0} (P : A → Type 0) where
   kept-none (x ∷ xs) h = left-out (h x (List·Memᴰ·head refl)) (kept-none xs (λ (y : A) (m : List·Memᴰ y xs). h y (List·Memᴰ·tail m)))
 
   -- where a test decides the property
-  pub kept-decided : (test : A → Bool) (xs : List A) → ((x : A) → List·Memᴰ x xs → test x ≡ true → P x) → ((x : A) → List·Memᴰ x xs → test x ≡ false → P x → ⊥) → Kept P xs (keep test xs)
+  pub kept-decided : (test : A → Bool) (xs : List A) → ((x : A) → List·Memᴰ x xs → test x ≡ true → P x)
+      → ((x : A) → List·Memᴰ x xs → test x ≡ false → P x → ⊥) → Kept P xs (keep test xs)
   unfolding keep
   kept-decided test [] holds fails = no-more
   kept-decided test (x ∷ xs) holds fails =
@@ -102,7 +104,8 @@ module _ {A : Type 0} (P : A → Type 0) where
 pub kept-distinct : (P : ℕ → Type 0) (xs ys : List ℕ) → Kept P xs ys → Distinct xs → Distinct ys
 unfolding Distinct
 kept-distinct P xs ys no-more h = tt
-kept-distinct P xs ys (taken {x = x} {xs = more} {ys = more′} p k) h = (λ (m : List·Memᴰ x more′). h .0 (kept-member P more more′ k x m .0), kept-distinct P more more′ k (h .1))
+kept-distinct P xs ys (taken {x = x} {xs = more} {ys = more′} p k) h =
+    (λ (m : List·Memᴰ x more′). h .0 (kept-member P more more′ k x m .0), kept-distinct P more more′ k (h .1))
 kept-distinct P xs ys (left-out {xs = more} n k) h = kept-distinct P more ys k (h .1)
 
 pub Distinct⇒Once : (xs : List ℕ) → Distinct xs → Once xs

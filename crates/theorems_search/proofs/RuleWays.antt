@@ -39,7 +39,8 @@ module _ (bs : List Block) (root : ℕ) (t : Tree bs root) (q : Query) where
     pub admits : Admitted q (turnsOf bs root level at way)
 
   -- one entry further down
-  reached-by : (at : ℕ) (upper : Option (List ℕ)) (b : Block) (above : Option (List ℕ)) (front : List Entry) (e : Entry) (back : List Entry) → List·Memᴰ b bs → b .entries ≡ front ++ (e ∷ back)
+  reached-by : (at : ℕ) (upper : Option (List ℕ)) (b : Block) (above : Option (List ℕ)) (front : List Entry) (e : Entry) (back : List Entry)
+      → List·Memᴰ b bs → b .entries ≡ front ++ (e ∷ back)
       → CanMatch (e .key .bytes) (nextKey back above) q → at ≡ e .offset → upper ≡ nextKey back above → Reached (b .frame .start) above → Reached at upper
   unfolding upperOf upperBound turnsOf Admitted
   reached-by at upper b above front e back m p c o u r = go (r .level) (r .way) (r .bound) (r .admits)
@@ -47,7 +48,8 @@ module _ (bs : List Block) (root : ℕ) (t : Tree bs root) (q : Query) where
       entries : blockEntries bs (b .frame .start) ≡ front ++ (e ∷ back)
       entries = entries-at bs root t b m ∙ p
 
-      go : (level : ℕ) (w : Way bs root level (b .frame .start)) → above ≡ upperOf bs root level (b .frame .start) w → Admitted q (turnsOf bs root level (b .frame .start) w) → Reached at upper
+      go : (level : ℕ) (w : Way bs root level (b .frame .start)) → above ≡ upperOf bs root level (b .frame .start) w
+          → Admitted q (turnsOf bs root level (b .frame .start) w) → Reached at upper
       go zero w bound admits =
           let met = way-block bs root t zero (b .frame .start) w in
           let among = split-member (met .block .entries) front e back (met-entries bs root t zero (b .frame .start) met ∙ entries) in
@@ -100,17 +102,20 @@ module _ (bs : List Block) (root : ℕ) (t : Tree bs root) (q : Query) where
       r .bound ∙ ap upperBound (turns-unique bs root t (r .level) level at (r .way) w)
 
   -- an opened block other than the root admits a match between its bounds
-  pub opened-admits : (level at : ℕ) (w : Way bs root level at) → at ≢ root → Opened bs root q at → CanMatch (lowerOf bs root level at w) (upperOf bs root level at w) q
+  pub opened-admits : (level at : ℕ) (w : Way bs root level at) → at ≢ root → Opened bs root q at
+      → CanMatch (lowerOf bs root level at w) (upperOf bs root level at w) q
   unfolding lowerOf lowerBound upperOf upperBound turnsOf Admitted
   opened-admits level at w other o = go w (Opened⇒Admitted level at w o)
     where
-      go : (v : Way bs root level at) → Admitted q (turnsOf bs root level at v) → CanMatch (lowerBound (turnsOf bs root level at v)) (upperBound (turnsOf bs root level at v)) q
+      go : (v : Way bs root level at) → Admitted q (turnsOf bs root level at v)
+          → CanMatch (lowerBound (turnsOf bs root level at v)) (upperBound (turnsOf bs root level at v)) q
       go (at-root p same) a = absurd (other same)
       go (turn upper front e back v p same) a = a .0
 
   -- ---- down from an index block by an entry
 
-  module _ (level at : ℕ) (w : Way bs root (suc level) at) (front : List Entry) (e : Entry) (back : List Entry) (split : blockEntries bs at ≡ front ++ (e ∷ back)) where
+  module _ (level at : ℕ) (w : Way bs root (suc level) at) (front : List Entry) (e : Entry) (back : List Entry)
+      (split : blockEntries bs at ≡ front ++ (e ∷ back)) where
     -- the way on
     unfoldable pub way-down : Way bs root level (e .offset)
     way-down = turn at front e back w split refl
@@ -127,9 +132,11 @@ module _ (bs : List Block) (root : ℕ) (t : Tree bs root) (q : Query) where
   pub opened-above : (level at : ℕ) → Way bs root level at → (x : ℕ) → List·Memᴰ x (preorder bs level at) → Opened bs root q x → Opened bs root q at
   unfolding preorder
   opened-above zero at w x m o = subst (Opened bs root q) (List·Memᴰ·eq-of-singleton m) o
-  opened-above (suc level) at w x m o = go (List·Memᴰ·cases-cons m) (λ (y : ℕ) (v : Way bs root level y) (i : List·Memᴰ x (preorder bs level y)). opened-above level y v x i o)
+  opened-above (suc level) at w x m o =
+      go (List·Memᴰ·cases-cons m) (λ (y : ℕ) (v : Way bs root level y) (i : List·Memᴰ x (preorder bs level y)). opened-above level y v x i o)
     where
-      go : (x ≡ at) ⊎ List·Memᴰ x (flatMap (λ e. preorder bs level (e .offset)) (blockEntries bs at)) → ((y : ℕ) → Way bs root level y → List·Memᴰ x (preorder bs level y) → Opened bs root q y) → Opened bs root q at
+      go : (x ≡ at) ⊎ List·Memᴰ x (flatMap (λ e. preorder bs level (e .offset)) (blockEntries bs at))
+          → ((y : ℕ) → Way bs root level y → List·Memᴰ x (preorder bs level y) → Opened bs root q y) → Opened bs root q at
       go (inl same) ih = subst (Opened bs root q) same o
       go (inr inside) ih =
           let f = flatMap-member (λ e. preorder bs level (e .offset)) (blockEntries bs at) x inside in
@@ -137,8 +144,10 @@ module _ (bs : List Block) (root : ℕ) (t : Tree bs root) (q : Query) where
           opened-entry level at w (s .0) (f .0) (s .1) (s .2) (ih (f .0 .offset) (way-down level at w (s .0) (f .0) (s .1) (s .2)) (f .2)) .1
 
   -- where the test says no at an entry, neither the block that it names nor any block met under that is opened
-  pub unopened-below : (level at : ℕ) (w : Way bs root (suc level) at) (front : List Entry) (e : Entry) (back : List Entry) → blockEntries bs at ≡ front ++ (e ∷ back)
-      → mayMatch (e .key .bytes) (nextKey back (upperOf bs root (suc level) at w)) q ≡ false → (x : ℕ) → List·Memᴰ x (preorder bs level (e .offset)) → Opened bs root q x → ⊥
+  pub unopened-below : (level at : ℕ) (w : Way bs root (suc level) at) (front : List Entry) (e : Entry) (back : List Entry)
+      → blockEntries bs at ≡ front ++ (e ∷ back)
+      → mayMatch (e .key .bytes) (nextKey back (upperOf bs root (suc level) at w)) q ≡ false → (x : ℕ) → List·Memᴰ x (preorder bs level (e .offset))
+      → Opened bs root q x → ⊥
   unopened-below level at w front e back split closed x m o =
       let named = opened-above level (e .offset) (way-down level at w front e back split) x m o in
       let c = opened-entry level at w front e back split named .0 in

@@ -17,13 +17,15 @@ use Rattle.tree.specs.Tree.{blockEntries, namings}
 use Rattle.tree.proofs.TreeLaws.{Tree, root-no-child, tree-entry⇒index}
 use Rattle.tree.proofs.TreeWays.{Way, at-root, by-entry, Turn, turnsOf, way-block, met-entries}
 
-joined : (front : List Entry) (e : Entry) (back : List Entry) (front′ : List Entry) (e′ : Entry) (back′ : List Entry) (ts ts′ : List Turn) → front ≡ front′ → e ≡ e′ → back ≡ back′ → ts ≡ ts′
+joined : (front : List Entry) (e : Entry) (back : List Entry) (front′ : List Entry) (e′ : Entry) (back′ : List Entry) (ts ts′ : List Turn)
+    → front ≡ front′ → e ≡ e′ → back ≡ back′ → ts ≡ ts′
     → _≡_ {A = List Turn} (record { front = front; entry = e; back = back } ∷ ts) (record { front = front′; entry = e′; back = back′ } ∷ ts′)
 joined front e back front′ e′ back′ ts ts′ p q r s = cc
 
 module _ (bs : List Block) (root : ℕ) (t : Tree bs root) where
   -- two entries of the file that name the same offset stand in the same block, at the same place
-  pub one-entry : (b c : Block) → List·Memᴰ b bs → List·Memᴰ c bs → (front : List Entry) (e : Entry) (back : List Entry) (front′ : List Entry) (e′ : Entry) (back′ : List Entry)
+  pub one-entry : (b c : Block) → List·Memᴰ b bs → List·Memᴰ c bs
+      → (front : List Entry) (e : Entry) (back : List Entry) (front′ : List Entry) (e′ : Entry) (back′ : List Entry)
       → b .entries ≡ front ++ (e ∷ back) → c .entries ≡ front′ ++ (e′ ∷ back′) → e .offset ≡ e′ .offset → (b ≡ c) × (front ≡ front′) × (e ≡ e′) × (back ≡ back′)
   unfolding namings
   one-entry b c m n front e back front′ e′ back′ p q same = (block, place .0, place .1, place .2)
@@ -62,22 +64,26 @@ module _ (bs : List Block) (root : ℕ) (t : Tree bs root) where
           first second
 
   -- no turn leads to the root
-  below : (level upper : ℕ) (front : List Entry) (e : Entry) (back : List Entry) → Way bs root (suc level) upper → blockEntries bs upper ≡ front ++ (e ∷ back) → e .offset ≡ root → ⊥
+  below : (level upper : ℕ) (front : List Entry) (e : Entry) (back : List Entry) → Way bs root (suc level) upper
+      → blockEntries bs upper ≡ front ++ (e ∷ back) → e .offset ≡ root → ⊥
   below level upper front e back w p same =
       let m = way-block bs root t (suc level) upper w in
       root-no-child bs root t (m .block) (m .member) e (split-member (m .block .entries) front e back (met-entries bs root t (suc level) upper m ∙ p)) same
 
   -- ways that end at the same offset have the same turns
-  turns-same : (level level′ at at′ : ℕ) → at ≡ at′ → (v : Way bs root level at) (w : Way bs root level′ at′) → turnsOf bs root level at v ≡ turnsOf bs root level′ at′ w
+  turns-same : (level level′ at at′ : ℕ) → at ≡ at′ → (v : Way bs root level at) (w : Way bs root level′ at′)
+      → turnsOf bs root level at v ≡ turnsOf bs root level′ at′ w
   unfolding turnsOf
   turns-same level level′ at at′ same (at-root p q) (at-root p′ q′) = refl
-  turns-same level level′ at at′ same (at-root p q) (by-entry upper front e back w p′ q′) = absurd (below level′ upper front e back w p′ (sym q′ ∙ sym same ∙ q))
+  turns-same level level′ at at′ same (at-root p q) (by-entry upper front e back w p′ q′) =
+      absurd (below level′ upper front e back w p′ (sym q′ ∙ sym same ∙ q))
   turns-same level level′ at at′ same (by-entry upper front e back v p q) (at-root p′ q′) = absurd (below level upper front e back v p (sym q ∙ same ∙ q′))
   turns-same level level′ at at′ same (by-entry upper front e back v p q) (by-entry upper′ front′ e′ back′ w p′ q′) =
       let m = way-block bs root t (suc level) upper v in
       let n = way-block bs root t (suc level′) upper′ w in
       let one =
-      one-entry (m .block) (n .block) (m .member) (n .member) front e back front′ e′ back′ (met-entries bs root t (suc level) upper m ∙ p) (met-entries bs root t (suc level′) upper′ n ∙ p′)
+      one-entry (m .block) (n .block) (m .member) (n .member) front e back front′ e′ back′ (met-entries bs root t (suc level) upper m ∙ p)
+      (met-entries bs root t (suc level′) upper′ n ∙ p′)
       (sym q ∙ same ∙ q′) in
       let above = sym (m .starts) ∙ ap (λ (b : Block). b .frame .start) (one .0) ∙ n .starts in
       joined front e back front′ e′ back′ (turnsOf bs root (suc level) upper v) (turnsOf bs root (suc level′) upper′ w) (one .1) (one .2) (one .3)

@@ -43,7 +43,8 @@ level-in (c ∷ bs) h b m = go (List·Memᴰ·cases-cons m) (λ (i : List·Mem�
   where
     go : (b ≡ c) ⊎ List·Memᴰ b bs → (List·Memᴰ b bs → blockLevel bs (b .frame .start) ≡ b .frame .level)
         → cond (eqb (c .frame .start) (b .frame .start)) (c .frame .level) (blockLevel bs (b .frame .start)) ≡ b .frame .level
-    go (inl same) rest = rw (eq-eqb (c .frame .start) (b .frame .start) (ap (λ (d : Block). d .frame .start) (sym same))) (ap (λ (d : Block). d .frame .level) (sym same))
+    go (inl same) rest =
+        rw (eq-eqb (c .frame .start) (b .frame .start) (ap (λ (d : Block). d .frame .start) (sym same))) (ap (λ (d : Block). d .frame .level) (sym same))
     go (inr inside) rest =
         let later = below-member (λ (d : Block). d .frame .start) (c .frame .start) bs (h .0) b inside in
         rw (ne-eqb (c .frame .start) (b .frame .start) (λ e. omega arith)) (rest inside)
@@ -121,7 +122,8 @@ module _ (bs : List Block) (root : ℕ) (t : Tree bs root) where
   -- every ordinary block but the root has them
   pub parent : (c : Block) → List·Memᴰ c bs → c .frame .level ≤ 63 → c .frame .start ≢ root → Parent c
   unfolding namings
-  parent c m few other = found (some-member (keep (λ x. eqb (x .offset) (c .frame .start)) (flatMap (λ b. b .entries) bs)) (let one = t .once c m few other in omega arith))
+  parent c m few other =
+      found (some-member (keep (λ x. eqb (x .offset) (c .frame .start)) (flatMap (λ b. b .entries) bs)) (let one = t .once c m few other in omega arith))
     where
       from : (b : Block) (e : Entry) → List·Memᴰ b bs → List·Memᴰ e (b .entries) → e .offset ≡ c .frame .start → Parent c
       from b e i j p =
@@ -157,4 +159,8 @@ module _ (bs : List Block) (root : ℕ) (t : Tree bs root) where
       let i = subst (List·Memᴰ (s .0)) (sym (entries-at b m)) (s .1) in
       let c = child b m level p (s .0) i in
       let below = leaves-some level (c .block) (c .member) (c .leveled) (omega arith) in
-      (below .0, member-flatMap (λ e. leaves bs level (e .offset)) (blockEntries bs (b .frame .start)) (s .0) (below .0) i (subst (λ (n : ℕ). List·Memᴰ (below .0) (leaves bs level n)) (c .starts) (below .1)))
+      let among = blockEntries bs (b .frame .start) in (
+        below .0,
+        member-flatMap (λ e. leaves bs level (e .offset)) among (s .0) (below .0) i
+            (subst (λ (n : ℕ). List·Memᴰ (below .0) (leaves bs level n)) (c .starts) (below .1)),
+      )

@@ -51,7 +51,8 @@ module _ (metadata : List ℕ) (blocks : List (List (List ℕ))) (perIndex room 
 
   -- the data blocks stand after room for the header
   pub data-stands : (output : List ℕ) → blocksStart metadata + length (flatMap dataBytes blocks) ≤ room
-      → output ≡ stored (zeros room) (blocksStart metadata) (flatMap dataBytes blocks) → output ≡ padded room (zeros (blocksStart metadata) ++ flatMap dataBytes blocks)
+      → output ≡ stored (zeros room) (blocksStart metadata) (flatMap dataBytes blocks)
+      → output ≡ padded room (zeros (blocksStart metadata) ++ flatMap dataBytes blocks)
   data-stands output h e =
       e ∙ ap (λ o. stored o from D) (sym (padded-zeros room from (omega arith)))
       ∙ ap (λ (n : ℕ). stored (padded room (zeros from)) n D) (sym (length-zeros from))
@@ -72,7 +73,8 @@ module _ (metadata : List ℕ) (blocks : List (List (List ℕ))) (perIndex room 
       ∙ stored-padded room (zeros from ++ D) I (rw long-data (omega arith)) ∙ ap (padded room) (append-assoc (zeros from) D I)
 
   -- the header stands in front of them
-  pub header-stands : (output then header : List ℕ) → length header ≡ blocksStart metadata → length header + length (blocksPart perIndex (blocksStart metadata) blocks) ≤ room
+  pub header-stands : (output then header : List ℕ) → length header ≡ blocksStart metadata
+      → length header + length (blocksPart perIndex (blocksStart metadata) blocks) ≤ room
       → output ≡ padded room (zeros (blocksStart metadata) ++ blocksPart perIndex (blocksStart metadata) blocks) → then ≡ stored output 0 header
       → then ≡ padded room (header ++ blocksPart perIndex (blocksStart metadata) blocks)
   header-stands output then header long h e f =
@@ -89,7 +91,8 @@ module _ (metadata : List ℕ) (blocks : List (List (List ℕ))) (perIndex room 
       → then ≡ padded room (fileOf metadata blocks perIndex)
   unfolding fileOf blocksStart
   file-stands output then total hash t sum h e f =
-      header-stands output then (header (from + length B) (sha256 (flatMap recordsBytes blocks))) long (omega (arith, long, file-long, length-file metadata blocks perIndex)) e
+      header-stands output then (header (from + length B) (sha256 (flatMap recordsBytes blocks))) long
+      (omega (arith, long, file-long, length-file metadata blocks perIndex)) e
       (f ∙ ap (λ (n : ℕ). stored output 0 (header n hash)) total-is ∙ ap (λ z. stored output 0 (header (from + length B) z)) sum)
     where
       B : List ℕ
@@ -105,11 +108,13 @@ module _ (metadata : List ℕ) (blocks : List (List (List ℕ))) (perIndex room 
       long = header-long metadata _ _ _ (sha256 (flatMap recordsBytes blocks)) (sha256-length (flatMap recordsBytes blocks))
 
 -- the hash of an input that is taken whole
-pub hash-whole : (input : List ℕ) {state : State} {hash : List ℕ} → length input < 2 ^ 61 → state ≡ absorbed begun input → hash ≡ finished state → hash ≡ sha256 input
+pub hash-whole : (input : List ℕ) {state : State} {hash : List ℕ} → length input < 2 ^ 61 → state ≡ absorbed begun input → hash ≡ finished state
+    → hash ≡ sha256 input
 hash-whole input short e f = f ∙ ap finished e ∙ Holds⇒sha256 input (absorbed begun input) (more none input) short
 
 -- the file is put, or doesn't fit
-pub put-whole : (room : ℕ) (file : List ℕ) (end : ℕ) (output : List ℕ) → end ≡ length file → end ≤ room → end ≤ 2 ^ 30 → output ≡ padded room file → FilePut room file end output
+pub put-whole : (room : ℕ) (file : List ℕ) (end : ℕ) (output : List ℕ) → end ≡ length file → end ≤ room → end ≤ 2 ^ 30 → output ≡ padded room file
+    → FilePut room file end output
 put-whole room file end output e h k o =
     record { ends = e ∙ zero-first (length file) ∙ fitting room 0 file (omega arith) (omega arith); stands = λ some. o }
   where

@@ -12,8 +12,8 @@ use Rattle.json.specs.Answers.{endSaid, nextSaid}
 use Rattle.json.proofs.PositionLaws.{ends, ends-nowhere}
 use Rattle.json.proofs.ItemPositionLaws.{member-unnamed, member-named}
 use Rattle.json_grammar.proofs.ShorterLaws.{value-shorter, member-shorter}
-use Rattle.json.proofs.ContainerPositionLaws.{left, item-fails, item-passed, left-falls, items-ended, object-deep, array-deep}
-use Rattle.json.proofs.ContainerPositionLaws.{value-flat, value-object, value-array, value-plain}
+use Rattle.json.proofs.ContainerPositionLaws.{left, item-fails, item-passed, left-falls, items-ended}
+use Rattle.json.proofs.ContainerPositionLaws.{object-flat, array-flat, object-deep, array-deep, value-object, value-array, value-plain}
 use Prim.Native.Nat.{ℕ, _<_}
 use borrow.Fn.Kinds.{In}
 use borrow.Fn.PlainCycle.{Measures, is, falls, and}
@@ -91,14 +91,14 @@ object-calls t = (
 
 abbrev value-calls : ℕ → value-lts.Claims
 value-calls t = (
-  plain-reads.Asked,
-  plain-reads.Learnt,
   byte-at-reads.Asked,
   byte-at-reads.Learnt,
   object-below t,
   object.Post,
   array-below t,
   array.Post,
+  plain-reads.Asked,
+  plain-reads.Learnt,
 )
 
 abbrev array-Inv-loop : array-lts.InvT-loop
@@ -107,27 +107,31 @@ array-Inv-loop s from depth next₀ next = nextSaid s (itemsEnd (valueEnd (depth
 abbrev array-μ-loop : array-lts.MeasureT-loop
 array-μ-loop s from depth next₀ next = left s next
 
+array-returns : (t : ℕ) → array-lts.Need-returns (array-calls t) (array-at t) array.Post array-Inv-loop array-μ-loop
+unfolding endSaid
+array-returns t c = array-flat _ _ (c .if1 .taken)
+
 array-first-item-requires : (t : ℕ) → array-lts.Need-first-item-requires (array-calls t) (array-at t) array.Post array-Inv-loop array-μ-loop
 array-first-item-requires t c κs = search needs
 
 array-loop-holds : (t : ℕ) → array-lts.Need-loop-holds (array-calls t) (array-at t) array.Post array-Inv-loop array-μ-loop
 array-loop-holds t c =
-    let args = c .before .before .args in
-    let pre = c .before .before .pre in
-    c .first-item .ensures (valueEnd (args .depth - 1)) ∙ array-deep _ _ (pre .1)
+    let args = c .before .before .before .args in
+    c .first-item .ensures (valueEnd (args .depth - 1)) ∙ array-deep _ _ (let deep = c .before .if1 .left in omega arith)
 
 array-enum-known-next : (t : ℕ) → array-lts.Need-enum-known-next (array-calls t) (array-at t) array.Post array-Inv-loop array-μ-loop
 array-enum-known-next t c = search needs
 
 array-sub-value : (t : ℕ) → array-lts.Need-sub-value (array-calls t) (array-at t) array.Post array-Inv-loop array-μ-loop
 array-sub-value t c =
-    let pre = c .before .before .before .before .before .before .pre in
-    let deep = pre .1 in omega arith
+    let if1 = c .before .before .before .before .before .if1 in
+    let deep = if1 .left in omega arith
 
 array-value-requires : (t : ℕ) → array-lts.Need-value-requires (array-calls t) (array-at t) array.Post array-Inv-loop array-μ-loop
 array-value-requires t c κs =
-    let pre = c .before .before .before .before .before .before .pre in
-    let me = pre .0 in let deep = pre .1 in (omega arith, tt)
+    let pre = c .before .before .before .before .before .before .before .pre in
+    let if1 = c .before .before .before .before .before .if1 in
+    let me = pre .0 in let deep = if1 .left in (omega arith, tt)
 
 array-enum-known-end : (t : ℕ) → array-lts.Need-enum-known-end (array-calls t) (array-at t) array.Post array-Inv-loop array-μ-loop
 array-enum-known-end t c = search needs
@@ -135,10 +139,10 @@ array-enum-known-end t c = search needs
 array-enum-told : (t : ℕ) → array-lts.Need-enum-told (array-calls t) (array-at t) array.Post array-Inv-loop array-μ-loop
 array-enum-told t c = search needs
 
-array-returns : (t : ℕ) → array-lts.Need-returns (array-calls t) (array-at t) array.Post array-Inv-loop array-μ-loop
+array-returns-2 : (t : ℕ) → array-lts.Need-returns-2 (array-calls t) (array-at t) array.Post array-Inv-loop array-μ-loop
 unfolding endSaid
-array-returns t c =
-    let args = c .before .before .before .before .before .before .before .before .before .args in
+array-returns-2 t c =
+    let args = c .before .before .before .before .before .before .before .before .before .before .args in
     let next = c .before .before .before .before .next in
     let loop = c .before .before .before .before .before .before .loop in
     let value = c .before .before .value in
@@ -150,7 +154,7 @@ array-after-item-requires t c κs = search needs
 
 array-loop-less : (t : ℕ) → array-lts.Need-loop-less (array-calls t) (array-at t) array.Post array-Inv-loop array-μ-loop
 array-loop-less t c =
-    let args = c .before .before .before .before .before .before .before .before .before .before .before .args in
+    let args = c .before .before .before .before .before .before .before .before .before .before .before .before .args in
     let next = c .before .before .before .before .before .before .next in
     let end = c .before .before .end in
     let value = c .before .before .before .before .value in
@@ -159,7 +163,7 @@ array-loop-less t c =
 
 array-loop-again : (t : ℕ) → array-lts.Need-loop-again (array-calls t) (array-at t) array.Post array-Inv-loop array-μ-loop
 array-loop-again t c =
-    let args = c .before .before .before .before .before .before .before .before .before .before .before .args in
+    let args = c .before .before .before .before .before .before .before .before .before .before .before .before .args in
     let next = c .before .before .before .before .before .before .next in
     let end = c .before .before .end in
     let value = c .before .before .before .before .value in
@@ -170,9 +174,9 @@ array-loop-again t c =
 array-closed-requires : (t : ℕ) → array-lts.Need-closed-requires (array-calls t) (array-at t) array.Post array-Inv-loop array-μ-loop
 array-closed-requires t c κs = search needs
 
-array-returns-2 : (t : ℕ) → array-lts.Need-returns-2 (array-calls t) (array-at t) array.Post array-Inv-loop array-μ-loop
-array-returns-2 t c =
-    let args = c .before .before .before .before .before .args in
+array-returns-3 : (t : ℕ) → array-lts.Need-returns-3 (array-calls t) (array-at t) array.Post array-Inv-loop array-μ-loop
+array-returns-3 t c =
+    let args = c .before .before .before .before .before .before .args in
     let loop = c .before .before .loop in
     items-ended (now (args .s)) _ _ _ _ (λ p e. ⊎-elim (λ k. absurd (omega arith)) (λ k. absurd (omega arith)) (rw e at
     (c .before .match .keys2))) (c .closed .ensures (now (args .s))) (loop .inv)
@@ -183,14 +187,17 @@ object-Inv-loop s from depth next₀ next = nextSaid s (itemsEnd (memberOver (va
 abbrev object-μ-loop : object-lts.MeasureT-loop
 object-μ-loop s from depth next₀ next = left s next
 
+object-returns : (t : ℕ) → object-lts.Need-returns (object-calls t) (object-at t) object.Post object-Inv-loop object-μ-loop
+unfolding endSaid
+object-returns t c = object-flat _ _ (c .if1 .taken)
+
 object-first-item-requires : (t : ℕ) → object-lts.Need-first-item-requires (object-calls t) (object-at t) object.Post object-Inv-loop object-μ-loop
 object-first-item-requires t c κs = search needs
 
 object-loop-holds : (t : ℕ) → object-lts.Need-loop-holds (object-calls t) (object-at t) object.Post object-Inv-loop object-μ-loop
 object-loop-holds t c =
-    let args = c .before .before .args in
-    let pre = c .before .before .pre in
-    c .first-item .ensures (memberOver (valueEnd (args .depth - 1))) ∙ object-deep _ _ (pre .1)
+    let args = c .before .before .before .args in
+    c .first-item .ensures (memberOver (valueEnd (args .depth - 1))) ∙ object-deep _ _ (let deep = c .before .if1 .left in omega arith)
 
 object-enum-known-next : (t : ℕ) → object-lts.Need-enum-known-next (object-calls t) (object-at t) object.Post object-Inv-loop object-μ-loop
 object-enum-known-next t c = search needs
@@ -204,10 +211,10 @@ object-enum-known-inner t c = search needs
 object-enum-told : (t : ℕ) → object-lts.Need-enum-told (object-calls t) (object-at t) object.Post object-Inv-loop object-μ-loop
 object-enum-told t c = search needs
 
-object-returns : (t : ℕ) → object-lts.Need-returns (object-calls t) (object-at t) object.Post object-Inv-loop object-μ-loop
+object-returns-2 : (t : ℕ) → object-lts.Need-returns-2 (object-calls t) (object-at t) object.Post object-Inv-loop object-μ-loop
 unfolding endSaid
-object-returns t c =
-    let args = c .before .before .before .before .before .before .before .before .before .args in
+object-returns-2 t c =
+    let args = c .before .before .before .before .before .before .before .before .before .before .args in
     let next = c .before .before .before .before .next in
     let loop = c .before .before .before .before .before .before .loop in
     let name = c .before .before .name in
@@ -216,13 +223,14 @@ object-returns t c =
 
 object-sub-value : (t : ℕ) → object-lts.Need-sub-value (object-calls t) (object-at t) object.Post object-Inv-loop object-μ-loop
 object-sub-value t c =
-    let pre = c .before .before .before .before .before .before .before .before .before .before .pre in
-    let deep = pre .1 in omega arith
+    let if1 = c .before .before .before .before .before .before .before .before .before .if1 in
+    let deep = if1 .left in omega arith
 
 object-value-requires : (t : ℕ) → object-lts.Need-value-requires (object-calls t) (object-at t) object.Post object-Inv-loop object-μ-loop
 object-value-requires t c κs =
-    let pre = c .before .before .before .before .before .before .before .before .before .before .pre in
-    let me = pre .0 in let deep = pre .1 in (omega arith, tt)
+    let pre = c .before .before .before .before .before .before .before .before .before .before .before .pre in
+    let if1 = c .before .before .before .before .before .before .before .before .before .if1 in
+    let me = pre .0 in let deep = if1 .left in (omega arith, tt)
 
 object-enum-known-end : (t : ℕ) → object-lts.Need-enum-known-end (object-calls t) (object-at t) object.Post object-Inv-loop object-μ-loop
 object-enum-known-end t c = search needs
@@ -230,10 +238,10 @@ object-enum-known-end t c = search needs
 object-enum-told-2 : (t : ℕ) → object-lts.Need-enum-told-2 (object-calls t) (object-at t) object.Post object-Inv-loop object-μ-loop
 object-enum-told-2 t c = search needs
 
-object-returns-2 : (t : ℕ) → object-lts.Need-returns-2 (object-calls t) (object-at t) object.Post object-Inv-loop object-μ-loop
+object-returns-3 : (t : ℕ) → object-lts.Need-returns-3 (object-calls t) (object-at t) object.Post object-Inv-loop object-μ-loop
 unfolding endSaid
-object-returns-2 t c =
-    let args = c .before .before .before .before .before .before .before .before .before .before .before .before .before .args in
+object-returns-3 t c =
+    let args = c .before .before .before .before .before .before .before .before .before .before .before .before .before .before .args in
     let next = c .before .before .before .before .before .before .before .before .next in
     let loop = c .before .before .before .before .before .before .before .before .before .before .loop in
     let value = c .before .before .value in
@@ -247,7 +255,7 @@ object-after-item-requires t c κs = search needs
 
 object-loop-less : (t : ℕ) → object-lts.Need-loop-less (object-calls t) (object-at t) object.Post object-Inv-loop object-μ-loop
 object-loop-less t c =
-    let args = c .before .before .before .before .before .before .before .before .before .before .before .before .before .before .before .args in
+    let args = c .before .before .before .before .before .before .before .before .before .before .before .before .before .before .before .before .args in
     let next = c .before .before .before .before .before .before .before .before .before .before .next in
     let end = c .before .before .end in
     let value = c .before .before .before .before .value in
@@ -258,7 +266,7 @@ object-loop-less t c =
 
 object-loop-again : (t : ℕ) → object-lts.Need-loop-again (object-calls t) (object-at t) object.Post object-Inv-loop object-μ-loop
 object-loop-again t c =
-    let args = c .before .before .before .before .before .before .before .before .before .before .before .before .before .before .before .args in
+    let args = c .before .before .before .before .before .before .before .before .before .before .before .before .before .before .before .before .args in
     let next = c .before .before .before .before .before .before .before .before .before .before .next in
     let end = c .before .before .end in
     let value = c .before .before .before .before .value in
@@ -272,53 +280,43 @@ object-loop-again t c =
 object-closed-requires : (t : ℕ) → object-lts.Need-closed-requires (object-calls t) (object-at t) object.Post object-Inv-loop object-μ-loop
 object-closed-requires t c κs = search needs
 
-object-returns-3 : (t : ℕ) → object-lts.Need-returns-3 (object-calls t) (object-at t) object.Post object-Inv-loop object-μ-loop
-object-returns-3 t c =
-    let args = c .before .before .before .before .before .args in
+object-returns-4 : (t : ℕ) → object-lts.Need-returns-4 (object-calls t) (object-at t) object.Post object-Inv-loop object-μ-loop
+object-returns-4 t c =
+    let args = c .before .before .before .before .before .before .args in
     let loop = c .before .before .loop in
     items-ended (now (args .s)) _ _ _ _ (λ p e. ⊎-elim (λ k. absurd (omega arith)) (λ k. absurd (omega arith)) (rw e at
     (c .before .match .keys2))) (c .closed .ensures (now (args .s))) (loop .inv)
-
-value-plain-requires : (t : ℕ) → value-lts.Need-plain-requires (value-calls t) (value-at t) value.Post
-value-plain-requires t c κs = search needs
-
-value-returns : (t : ℕ) → value-lts.Need-returns (value-calls t) (value-at t) value.Post
-value-returns t c = c .plain .ensures ∙ value-flat _ _ (c .before .if1 .taken)
 
 value-byte-at-requires : (t : ℕ) → value-lts.Need-byte-at-requires (value-calls t) (value-at t) value.Post
 value-byte-at-requires t c κs = search needs
 
 value-object-requires : (t : ℕ) → value-lts.Need-object-requires (value-calls t) (value-at t) value.Post
 value-object-requires t c κs =
-    let pre = c .before .before .before .before .pre in
-    let if1 = c .before .before .if1 in
-    let me = pre .0 in let deep = if1 .left in (omega arith, omega arith)
+    let pre = c .before .before .before .pre in
+    let me = pre .0 in (omega arith, tt)
 
 value-array-requires : (t : ℕ) → value-lts.Need-array-requires (value-calls t) (value-at t) value.Post
 value-array-requires t c κs =
-    let pre = c .before .before .before .before .pre in
-    let if1 = c .before .before .if1 in
-    let me = pre .0 in let deep = if1 .left in (omega arith, omega arith)
+    let pre = c .before .before .before .pre in
+    let me = pre .0 in (omega arith, tt)
 
-value-plain-requires-2 : (t : ℕ) → value-lts.Need-plain-requires-2 (value-calls t) (value-at t) value.Post
-value-plain-requires-2 t c κs = search needs
+value-plain-requires : (t : ℕ) → value-lts.Need-plain-requires (value-calls t) (value-at t) value.Post
+value-plain-requires t c κs = search needs
+
+value-returns : (t : ℕ) → value-lts.Need-returns (value-calls t) (value-at t) value.Post
+value-returns t c =
+    let byte-at = c .before .before .byte-at in
+    c .object .ensures ∙ value-object _ _ (sym (byte-at .ensures) ∙ c .before .match .keys1)
 
 value-returns-2 : (t : ℕ) → value-lts.Need-returns-2 (value-calls t) (value-at t) value.Post
 value-returns-2 t c =
-    let if1 = c .before .before .before .if1 in
     let byte-at = c .before .before .byte-at in
-    c .object .ensures ∙ value-object _ _ (if1 .left) (sym (byte-at .ensures) ∙ c .before .match .keys1)
+    c .array .ensures ∙ value-array _ _ (sym (byte-at .ensures) ∙ c .before .match .keys2)
 
 value-returns-3 : (t : ℕ) → value-lts.Need-returns-3 (value-calls t) (value-at t) value.Post
 value-returns-3 t c =
-    let if1 = c .before .before .before .if1 in
     let byte-at = c .before .before .byte-at in
-    c .array .ensures ∙ value-array _ _ (if1 .left) (sym (byte-at .ensures) ∙ c .before .match .keys2)
-
-value-returns-4 : (t : ℕ) → value-lts.Need-returns-4 (value-calls t) (value-at t) value.Post
-value-returns-4 t c =
-    let byte-at = c .before .before .byte-at in
-    c .plain2 .ensures ∙ value-plain _ _ (λ e. c .before .match .rest .0 .1 (byte-at .ensures ∙ e)) (λ e. c .before .match .rest .1
+    c .plain .ensures ∙ value-plain _ _ (λ e. c .before .match .rest .0 .1 (byte-at .ensures ∙ e)) (λ e. c .before .match .rest .1
     (byte-at .ensures ∙ e))
 
 pub +array+object+value-spec : {M : Type 1} → statement M
@@ -327,6 +325,7 @@ pub +array+object+value-spec : {M : Type 1} → statement M
     array.Post
     array-Inv-loop
     array-μ-loop
+    (array-returns t)
     (array-first-item-requires t)
     (array-loop-holds t)
     (array-enum-known-next t)
@@ -334,43 +333,42 @@ pub +array+object+value-spec : {M : Type 1} → statement M
     (array-value-requires t)
     (array-enum-known-end t)
     (array-enum-told t)
-    (array-returns t)
+    (array-returns-2 t)
     (array-after-item-requires t)
     (array-loop-less t)
     (array-loop-again t)
     (array-closed-requires t)
-    (array-returns-2 t))
+    (array-returns-3 t))
     (λ t. object-lts.spec (object-calls t)
     (object-at t)
     object.Post
     object-Inv-loop
     object-μ-loop
+    (object-returns t)
     (object-first-item-requires t)
     (object-loop-holds t)
     (object-enum-known-next t)
     (object-name-requires t)
     (object-enum-known-inner t)
     (object-enum-told t)
-    (object-returns t)
+    (object-returns-2 t)
     (object-sub-value t)
     (object-value-requires t)
     (object-enum-known-end t)
     (object-enum-told-2 t)
-    (object-returns-2 t)
+    (object-returns-3 t)
     (object-after-item-requires t)
     (object-loop-less t)
     (object-loop-again t)
     (object-closed-requires t)
-    (object-returns-3 t))
+    (object-returns-4 t))
     λ t. value-lts.spec (value-calls t)
     (value-at t)
     value.Post
-    (value-plain-requires t)
-    (value-returns t)
     (value-byte-at-requires t)
     (value-object-requires t)
     (value-array-requires t)
-    (value-plain-requires-2 t)
+    (value-plain-requires t)
+    (value-returns t)
     (value-returns-2 t)
     (value-returns-3 t)
-    (value-returns-4 t)
