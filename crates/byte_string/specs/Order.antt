@@ -2,8 +2,10 @@
 use Prim.Native.Nat.{ℕ, suc, _<_, compare, Ordering, Ordering·lt, Ordering·eq, Ordering·gt}
 use mathlib.Core.Bool.{Bool, true, false, not, _&&_, cond}
 use mathlib.Core.List.{List, [], _∷_}
-use lib.Dec.{eqb}
+use lib.Dec.{eqb, leb}
 use lib.IntN.{ℤ, pos, negsuc}
+use lib.Signed.{ltZ, leZ}
+use Rattle.byte_string.specs.declared.Comparison.{Comparison}
 
 -- every element is a byte
 unfoldable pub AreBytes : List ℕ → Type 0
@@ -58,3 +60,25 @@ unfoldable pub agreeing : List ℕ → List ℕ → ℕ
 agreeing [] y = 0
 agreeing (x ∷ xs) [] = 0
 agreeing (x ∷ xs) (y ∷ ys) = cond (eqb x y) (suc (agreeing xs ys)) 0
+
+-- x compared with y: the sign, and how many leading bytes agree
+unfoldable pub comparison : List ℕ → List ℕ → Comparison
+comparison x y = record { sign = signed (order x y); agreeing = agreeing x y }
+
+-- What a comparison of x with y says.
+
+-- x comes before y
+unfoldable pub saysLess : Comparison → Bool
+saysLess c = ltZ (c .sign) (pos 0)
+
+-- x comes before y or is y
+unfoldable pub saysAtMost : Comparison → Bool
+saysAtMost c = leZ (c .sign) (pos 0)
+
+-- x is y
+unfoldable pub saysEqual : Comparison → Bool
+saysEqual c = saysAtMost c && not (saysLess c)
+
+-- y begins with x, where this is the length of x; x begins with y, where it is that of y
+unfoldable pub saysBegins : (length : ℕ) → Comparison → Bool
+saysBegins length c = leb length (c .agreeing)

@@ -1,9 +1,46 @@
 // The order of byte strings: unsigned bytes, a proper beginning first.
 //
-// `compare` gives the three-way answer; `less` and `at_most` read theirs off it, so every comparison goes through `compare`.
-// `compare` and `begins_with` rest on one loop, which finds where two byte strings part.
+// `compare` is the one comparison: it answers the sign and how many leading bytes agree, and every yes or no is taken of that answer.
 ghost use mathlib.Core.Path.{_≡_};
-ghost use Rattle.byte_string.specs.Order.{order, signed, less, atMost, begins, agreeing};
+ghost use Rattle.byte_string.specs.Order.{agreeing, comparison, saysLess, saysAtMost, saysEqual, saysBegins};
+
+// A byte string x compared with another, y.
+pub struct Comparison {
+    // Minus one where x comes before y, zero where they are equal, plus one where x comes after y.
+    pub sign: i8,
+    // How many leading bytes agree.
+    pub agreeing: usize,
+}
+
+impl Comparison {
+    // Whether x comes before y.
+    pub fn less(self) -> bool
+        ensures { λ r. ⌜ r ≡ saysLess self ⌝ }
+    {
+        self.sign < 0
+    }
+
+    // Whether x comes before y or equals it.
+    pub fn at_most(self) -> bool
+        ensures { λ r. ⌜ r ≡ saysAtMost self ⌝ }
+    {
+        self.sign <= 0
+    }
+
+    // Whether x equals y.
+    pub fn equal(self) -> bool
+        ensures { λ r. ⌜ r ≡ saysEqual self ⌝ }
+    {
+        self.sign == 0
+    }
+
+    // Whether y begins with x, given the length of x. Given that of y, whether x begins with y.
+    pub fn begins(self, length: usize) -> bool
+        ensures { λ r. ⌜ r ≡ saysBegins length self ⌝ }
+    {
+        length <= self.agreeing
+    }
+}
 
 // How many leading bytes agree.
 fn agreement(x: &[u8], y: &[u8]) -> usize
@@ -22,43 +59,22 @@ fn agreement(x: &[u8], y: &[u8]) -> usize
     n
 }
 
-// Minus one where x comes before y, zero where they are equal, plus one where x comes after y.
-pub fn compare(x: &[u8], y: &[u8]) -> i8
-    ensures { λ r. ⌜ r ≡ signed (order (now (x .entry)) (now (y .entry))) ⌝ }
+// Compares x with y.
+pub fn compare(x: &[u8], y: &[u8]) -> Comparison
+    ensures { λ r. ⌜ r ≡ comparison (now (x .entry)) (now (y .entry)) ⌝ }
 {
-    let n = agreement(x, y);
-    if x.len() <= n {
-        if y.len() <= n {
-            return 0;
+    let agreeing = agreement(x, y);
+    if x.len() <= agreeing {
+        if y.len() <= agreeing {
+            return Comparison { sign: 0, agreeing };
         }
-        return -1;
+        return Comparison { sign: -1, agreeing };
     }
-    if y.len() <= n {
-        return 1;
+    if y.len() <= agreeing {
+        return Comparison { sign: 1, agreeing };
     }
-    if x[n] < y[n] {
-        return -1;
+    if x[agreeing] < y[agreeing] {
+        return Comparison { sign: -1, agreeing };
     }
-    1
-}
-
-// Whether x comes before y.
-pub fn less(x: &[u8], y: &[u8]) -> bool
-    ensures { λ r. ⌜ r ≡ less (now (x .entry)) (now (y .entry)) ⌝ }
-{
-    compare(x, y) < 0
-}
-
-// Whether x comes before y or equals it.
-pub fn at_most(x: &[u8], y: &[u8]) -> bool
-    ensures { λ r. ⌜ r ≡ atMost (now (x .entry)) (now (y .entry)) ⌝ }
-{
-    compare(x, y) <= 0
-}
-
-// Whether x begins with p.
-pub fn begins_with(p: &[u8], x: &[u8]) -> bool
-    ensures { λ r. ⌜ r ≡ begins (now (p .entry)) (now (x .entry)) ⌝ }
-{
-    p.len() <= agreement(p, x)
+    Comparison { sign: 1, agreeing }
 }

@@ -1,14 +1,16 @@
 -- Laws of the hash over the payloads of the data blocks.
 -- Assumes nothing.
-use mathlib.Core.Path.{_≡_, refl, sym, ap, _∙_, subst}
+use mathlib.Core.Path.{_≡_, refl, sym, ap, ap₂, _∙_, subst}
 use mathlib.Core.Bool.{Bool, true, false, cond}
 use mathlib.Core.List.{List, [], _∷_, _++_, flatMap, append-nil}
 use Prim.Native.Nat.{ℕ, zero, suc, _+_, _-_, _^_, _≤_, _<_}
 use native.Mathlib.Omega.{arith}
 use lib.Dec.{leb}
-use lib.ListN.{length, drop, length-append, length-drop}
+use lib.ListN.{length, take, drop, length-append, length-drop}
 use borrow.Author.Tests.{le-leb, lt-leb, leb-true, leb-false}
-use Rattle.byte_string.specs.Order.{begins}
+use Rattle.byte_string.specs.declared.Comparison.{Comparison}
+use Rattle.byte_string.specs.Order.{begins, comparison, saysBegins}
+use Rattle.byte_string.proofs.ComparisonLaws.{compared-begins}
 use Rattle.byte_string.proofs.PrefixLaws.{length-begins}
 use Rattle.sha256.specs.declared.State.{State}
 use Rattle.sha256.specs.Sha256.{sha256}
@@ -17,7 +19,7 @@ use Rattle.sha256.proofs.StateLaws.{Holds⇒sha256, sha256-length}
 use Rattle.outcome.specs.Outcome.{Outcome, answer, refused, must}
 use Rattle.outcome.proofs.OutcomeLaws.{kept, broken}
 use Rattle.part.specs.Part.{part}
-use Rattle.part.proofs.PartLaws.{length-part}
+use Rattle.part.proofs.PartLaws.{length-part, lent-drop}
 use Rattle.items.specs.Items.{soundFrom}
 use Rattle.items.proofs.ItemsLaws.{sound-end, sound-step, sound-refused}
 use Rattle.items.proofs.GoingLaws.{SoundProgress, sound-progress-start, sound-progress-end, sound-progress-refused, sound-progress-more}
@@ -166,6 +168,13 @@ hash-missing file m h = go (begins (sha256 m) (drop 40 file)) refl
         let digest = sha256-length m in
         let left = length-drop 40 file in
         absurd (omega arith)
+
+-- else the digest is compared with what stands there
+pub hash-compared : (file m digest : List ℕ) (c : Comparison) → digest ≡ sha256 m → c ≡ comparison digest (take (length file - 40) (drop 40 file))
+    → saysBegins 32 c ≡ begins (sha256 m) (drop 40 file)
+hash-compared file m digest c e k =
+    ap (λ (n : ℕ). saysBegins n c) (sym (sha256-length m))
+    ∙ compared-begins (sha256 m) (drop 40 file) c (k ∙ ap₂ comparison e (lent-drop file 40))
 
 module _ (file : List ℕ) (from : ℕ) where
   pub hash-long : 2 ^ 30 < length file → hashOf file from ≡ refused 1 0

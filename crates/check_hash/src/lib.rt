@@ -50,7 +50,7 @@ fn hash_right(file: &[u8], from: usize) -> bool
     }
     let state = hashed(file, from);
     let digest = sha256::finish(state);
-    byte_string::begins_with(&digest, &file[Header::HASH_AT..])
+    byte_string::compare(&digest, &file[Header::HASH_AT..]).begins(digest.len())
 }
 
 // The state after all blocks from an offset on, up to the first place where no frame can be read.

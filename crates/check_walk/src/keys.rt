@@ -6,7 +6,6 @@ ghost use Rattle.byte_string.specs.Order.{atMost};
 ghost use Rattle.check_walk.specs.Lookup.{bytesIn, recordsIn};
 ghost use Rattle.check_walk.specs.Keys as defs;
 use crate::lookup::payload_at;
-use byte_string::at_most;
 use part::Part;
 use payload::EntryOutcome;
 use payload::TextOutcome;
@@ -81,7 +80,7 @@ fn part_at_most(file: &[u8], x: Part, y: Part) -> bool
     let b = a + x.length;
     let c = y.offset;
     let d = c + y.length;
-    at_most(&file[a..b], &file[c..d])
+    byte_string::compare(&file[a..b], &file[c..d]).at_most()
 }
 
 // A data block: it is out of order where its first record is below the last one before.

@@ -59,10 +59,12 @@ impl Header {
         if Header::MAX_FILE < file.len() {
             return HeaderOutcome::Refused(1);
         }
-        if byte_string::begins_with(b"\xabZStoBe\x01", file) {
+        let unfinished = b"\xabZStoBe\x01";
+        if byte_string::compare(unfinished, file).begins(unfinished.len()) {
             return HeaderOutcome::Refused(2);
         }
-        if !byte_string::begins_with(b"\xabZSfiLe\x01", file) {
+        let magic = b"\xabZSfiLe\x01";
+        if !byte_string::compare(magic, file).begins(magic.len()) {
             return HeaderOutcome::Refused(3);
         }
         if !holds_header(file) {
@@ -140,7 +142,8 @@ fn fields(file: &[u8]) -> HeaderOutcome
     requires { ⌜ (header.holdsHeader (now file) ≡ true) × (header.holdsMetadata (now file) ≡ true) ⌝ }
     ensures { λ r. ⌜ header.headerSaid r ≡ header.fieldsOf (now (file .entry)) ⌝ }
 {
-    if !byte_string::begins_with(b"none\0\0\0\0\0\0\0\0\0\0\0\0", &file[Header::CODEC_AT..]) {
+    let codec = b"none\0\0\0\0\0\0\0\0\0\0\0\0";
+    if !byte_string::compare(codec, &file[Header::CODEC_AT..]).begins(codec.len()) {
         return HeaderOutcome::Refused(7);
     }
     if endian::le64_at(file, Header::TOTAL_AT) != file.len() as u64 {

@@ -101,7 +101,7 @@ fn still_rising(s: &[u8], rising: bool, last: Part, next: Part) -> bool
     let c = next.offset;
     let d = c + next.length;
     if rising {
-        return byte_string::at_most(&s[a..b], &s[c..d]);
+        return byte_string::compare(&s[a..b], &s[c..d]).at_most();
     }
     false
 }

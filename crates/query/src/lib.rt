@@ -10,7 +10,7 @@ fn before_stop(x: &[u8], stop_given: bool, stop: &[u8]) -> bool
     ensures { λ r. ⌜ r ≡ before (now (x .entry)) (given «stop_given» (now (stop .entry))) ⌝ }
 {
     if stop_given {
-        return byte_string::less(x, stop);
+        return byte_string::compare(x, stop).less();
     }
     true
 }
@@ -19,13 +19,13 @@ fn before_stop(x: &[u8], stop_given: bool, stop: &[u8]) -> bool
 pub fn matches(x: &[u8], start: &[u8], stop_given: bool, stop: &[u8], prefix: &[u8]) -> bool
     ensures { λ r. ⌜ r ≡ matches (queryOf (now (start .entry)) «stop_given» (now (stop .entry)) (now (prefix .entry))) (now (x .entry)) ⌝ }
 {
-    if !byte_string::at_most(start, x) {
+    if !byte_string::compare(start, x).at_most() {
         return false;
     }
     if !before_stop(x, stop_given, stop) {
         return false;
     }
-    byte_string::begins_with(prefix, x)
+    byte_string::compare(prefix, x).begins(prefix.len())
 }
 
 // Whether x is neither past the upper bound nor at or past the stop.
@@ -33,7 +33,7 @@ fn reaches(x: &[u8], upper_given: bool, upper: &[u8], stop_given: bool, stop: &[
     ensures { λ r. ⌜ r ≡ reaches (now (x .entry)) (given «upper_given» (now (upper .entry))) (given «stop_given» (now (stop .entry))) ⌝ }
 {
     if upper_given {
-        if !byte_string::at_most(x, upper) {
+        if !byte_string::compare(x, upper).at_most() {
             return false;
         }
     }
@@ -44,10 +44,11 @@ fn reaches(x: &[u8], upper_given: bool, upper: &[u8], stop_given: bool, stop: &[
 fn admits_prefix(from: &[u8], prefix: &[u8]) -> bool
     ensures { λ r. ⌜ r ≡ admitsPrefix (now (from .entry)) (now (prefix .entry)) ⌝ }
 {
-    if byte_string::at_most(from, prefix) {
+    let compared = byte_string::compare(from, prefix);
+    if compared.at_most() {
         return true;
     }
-    byte_string::begins_with(prefix, from)
+    compared.begins(prefix.len())
 }
 
 // The opening test: whether any byte string from `lower` to `upper`, both included, matches.

@@ -4,9 +4,10 @@ use mathlib.Core.List.{List, [], _∷_, map}
 use mathlib.Core.Path.{_≡_}
 use mathlib.Core.Bool.{Bool, true, false}
 use mathlib.Core.Option.{Option, none, some}
-use lib.IntN.{ℤ, pos, negsuc}
+use lib.IntN.{pos, negsuc}
 use Rattle.uleb128.specs.Number.{Reading, number, refused, reading}
-use Rattle.byte_string.specs.Order.{order, signed}
+use Rattle.byte_string.specs.declared.Comparison.{Comparison}
+use Rattle.byte_string.specs.Order.{comparison}
 use Rattle.query.specs.Query.{Query}
 use Rattle.query.specs.Opening.{mayMatch}
 
@@ -20,13 +21,13 @@ pub data Question : Type 0 where
 
 pub data Answer : Type 0 where
   isNumber : Reading → Answer
-  isComparison : ℤ → Answer
+  isComparison : Comparison → Answer
   isOpened : Bool → Answer
 
 -- what the definitions answer
 unfoldable pub answered : Question → Answer
 answered (numberOf s) = isNumber (reading s)
-answered (comparisonOf x y) = isComparison (signed (order x y))
+answered (comparisonOf x y) = isComparison (comparison x y)
 answered (openingOf lower upper q) = isOpened (mayMatch lower upper q)
 
 pub record Example : Type 0 where
@@ -47,10 +48,10 @@ table =
     ∷ (numberOf (0xff ∷ 0xff ∷ 0xff ∷ 0xff ∷ 0xff ∷ 0xff ∷ 0xff ∷ 0xff ∷ 0x7f ∷ []) gives isNumber (number (2 ^ 63 - 1) 9))
     ∷ (numberOf (0x80 ∷ 0x00 ∷ []) gives isNumber (refused 12))
     ∷ (numberOf (0xff ∷ 0xff ∷ 0xff ∷ 0xff ∷ 0xff ∷ 0xff ∷ 0xff ∷ 0xff ∷ 0xff ∷ []) gives isNumber (refused 11))
-    -- P8 to P10: comparison
-    ∷ (comparisonOf [] (0x00 ∷ []) gives isComparison (negsuc 0))
-    ∷ (comparisonOf (0x61 ∷ []) (0x61 ∷ 0x00 ∷ []) gives isComparison (negsuc 0))
-    ∷ (comparisonOf (0x80 ∷ []) (0x7f ∷ []) gives isComparison (pos 1))
+    -- P8 to P10: comparison, the sign and how many leading bytes agree
+    ∷ (comparisonOf [] (0x00 ∷ []) gives isComparison (record { sign = negsuc 0; agreeing = 0 }))
+    ∷ (comparisonOf (0x61 ∷ []) (0x61 ∷ 0x00 ∷ []) gives isComparison (record { sign = negsuc 0; agreeing = 1 }))
+    ∷ (comparisonOf (0x80 ∷ []) (0x7f ∷ []) gives isComparison (record { sign = pos 1; agreeing = 0 }))
     -- P11 to P14: opening
     ∷ (openingOf (0x61 ∷ []) (some (0x62 ∷ [])) (record { start = 0x62 ∷ []; stop = none; prefix = [] }) gives isOpened true)
     ∷ (openingOf (0x63 ∷ []) none (record { start = []; stop = some (0x63 ∷ []); prefix = [] }) gives isOpened false)

@@ -9,6 +9,7 @@ use lib.ListN.{length, drop}
 use borrow.Author.Needs.{needs}
 use borrow.Author.Tests.{not-true, not-false}
 use Rattle.byte_string.specs.Order.{begins}
+use Rattle.byte_string.proofs.ComparisonLaws.{compared-begins}
 use Rattle.part.specs.Part.{part}
 use Rattle.header.specs.Metadata.{isMetadata}
 use Rattle.header.specs.Header.{H, M, codecNone, fieldAt, headerNumbers, headerSaid}
@@ -20,27 +21,27 @@ use Rattle.header.proofs.fields.Tie as tie
 within : (c : tie.Start) → let file = c .args .file .now in 104 + M file ≤ length file
 within c = metadata-within _ (c .pre .0) (c .pre .1)
 
-slice-aggregate-begins-with : tie.Need-slice-aggregate-begins-with
-slice-aggregate-begins-with c = search needs
+sub-compare : tie.Need-sub-compare
+sub-compare c = omega (arith, within (c .before .before .before))
 
-sub-begins-with : tie.Need-sub-begins-with
-sub-begins-with c = omega (arith, within (c .before .before))
+part-compare-start : tie.Need-part-compare-start
+part-compare-start c = omega (arith, within (c .before .before .before))
 
-part-begins-with-start : tie.Need-part-begins-with-start
-part-begins-with-start c = omega (arith, within (c .before .before))
+part-compare-end : tie.Need-part-compare-end
+part-compare-end c = search needs
 
-part-begins-with-end : tie.Need-part-begins-with-end
-part-begins-with-end c = search needs
+compare-requires : tie.Need-compare-requires
+compare-requires c κs = search needs
 
-begins-with-requires : tie.Need-begins-with-requires
-begins-with-requires c κs = search needs
+begins-requires : tie.Need-begins-requires
+begins-requires c κs = search needs
 
 -- the test of the codec, over the rest that is lent
-codec : (c : tie.After-begins-with) → c .begins-with .result ≡ begins codecNone (drop 72 (c .before .before .before .before .args .file .now))
+codec : (c : tie.After-begins) → c .begins .result ≡ begins codecNone (drop 72 (c .before .before .before .before .before .before .args .file .now))
 unfolding codecNone
 codec c =
-    let args = c .before .before .before .before .args in
-    c .begins-with .ensures ∙ codec-lent (args .file .now)
+    let args = c .before .before .before .before .before .before .args in
+    c .begins .ensures ∙ compared-begins _ _ _ (c .before .compare .ensures) ∙ codec-lent (args .file .now)
 
 returns : tie.Need-returns
 unfolding headerSaid
@@ -50,7 +51,7 @@ le64-at-requires : tie.Need-le64-at-requires
 le64-at-requires c κs = search needs
 
 -- the codec is `none`
-codec-none : (c : tie.Else1) → begins codecNone (drop 72 (c .before .before .before .before .before .args .file .now)) ≡ true
+codec-none : (c : tie.Else1) → begins codecNone (drop 72 (c .before .before .before .before .before .before .before .args .file .now)) ≡ true
 codec-none c = sym (codec (c .before)) ∙ not-false _ (c .if1 .left)
 
 returns-2 : tie.Need-returns-2
@@ -63,7 +64,7 @@ le64-at-requires-2 c κs = search needs
 add-end : tie.Need-add-end
 unfolding H M fieldAt part
 add-end c =
-    let before = c .before .before .before .before .before .before .before .before in
+    let before = c .before .before .before .before .before .before .before .before .before .before in
     omega (arith, within (before))
 
 sub-is-metadata : tie.Need-sub-is-metadata
@@ -75,24 +76,26 @@ part-is-metadata-start c = search needs
 part-is-metadata-end : tie.Need-part-is-metadata-end
 unfolding H M fieldAt part
 part-is-metadata-end c =
-    let before = c .before .before .before .before .before .before .before .before in
+    let before = c .before .before .before .before .before .before .before .before .before .before in
     omega (arith, within (before))
 
 is-metadata-requires : tie.Need-is-metadata-requires
 is-metadata-requires c κs = search needs
 
 -- the total length is the file's
-total : (c : tie.Else2) → let file = c .before .before .before .before .before .before .before .args .file .now in fieldAt file 32 ≡ length file
+total : (c : tie.Else2)
+    → let file = c .before .before .before .before .before .before .before .before .before .args .file .now in
+    fieldAt file 32 ≡ length file
 unfolding fieldAt part
 total c = sym (c .before .le64-at .ensures) ∙ c .if2 .left
 
 -- the test of the metadata, over the part that is lent
 metadata : (c : tie.After-is-metadata)
-    → let file = c .before .before .before .before .before .before .before .before .before .before .args .file .now in
+    → let file = c .before .before .before .before .before .before .before .before .before .before .before .before .args .file .now in
     c .is-metadata .result ≡ isMetadata (part file 96 (M file))
 unfolding M fieldAt part
 metadata c =
-    let args = c .before .before .before .before .before .before .before .before .before .before .args in
+    let args = c .before .before .before .before .before .before .before .before .before .before .before .before .args in
     let le64-at2 = c .before .before .le64-at2 in
     c .is-metadata .ensures ∙ metadata-lent (args .file .now) _ (le64-at2 .ensures)
 
@@ -109,7 +112,7 @@ le64-at-requires-3 c κs = search needs
 add-blocks : tie.Need-add-blocks
 unfolding H fieldAt part
 add-blocks c =
-    let start = c .before .before .before .before .before .before .before .before .before .before .before .before in
+    let start = c .before .before .before .before .before .before .before .before .before .before .before .before .before .before in
     let held = holdsHeader⁻¹ _ (start .pre .0) in
     omega arith
 
@@ -132,11 +135,11 @@ pub fields-spec : {M : Type 1} → statement M
 fields-spec =
     tie.close
     (tie.spec
-    slice-aggregate-begins-with
-    sub-begins-with
-    part-begins-with-start
-    part-begins-with-end
-    begins-with-requires
+    sub-compare
+    part-compare-start
+    part-compare-end
+    compare-requires
+    begins-requires
     returns
     le64-at-requires
     returns-2

@@ -4,6 +4,8 @@ use mathlib.Core.Path.{_≡_, sym, _∙_}
 use mathlib.Core.Bool.{true}
 use borrow.Author.Needs.{needs}
 use borrow.Author.Tests.{not-true, not-false}
+use Rattle.byte_string.specs.Order.{begins}
+use Rattle.byte_string.proofs.ComparisonLaws.{compared-begins}
 use Rattle.header.specs.Header.{magic, unfinishedMagic, holdsHeader, headerSaid}
 use Rattle.header.proofs.RuleLaws.{header-long, header-unfinished, header-magic, Opened, header-cut, header-data}
 use Rattle.header.proofs.Header.read.Statement.{statement}
@@ -13,41 +15,52 @@ returns : tie.Need-returns
 unfolding headerSaid
 returns c = sym (header-long _ (c .if1 .taken))
 
-slice-aggregate-begins-with : tie.Need-slice-aggregate-begins-with
-slice-aggregate-begins-with c = search needs
+compare-requires : tie.Need-compare-requires
+compare-requires c κs = search needs
 
-begins-with-requires : tie.Need-begins-with-requires
-begins-with-requires c κs = search needs
+begins-requires : tie.Need-begins-requires
+begins-requires c κs = search needs
+
+-- the test of the magic of an unfinished file
+unfinished : (c : tie.After-begins) → c .begins .result ≡ begins unfinishedMagic (c .before .before .before .before .before .before .args .file .now)
+unfolding unfinishedMagic
+unfinished c = c .begins .ensures ∙ compared-begins _ _ _ (c .before .compare .ensures)
 
 returns-2 : tie.Need-returns-2
-unfolding headerSaid unfinishedMagic
+unfolding headerSaid
 returns-2 c =
-    let if1 = c .before .before .before .if1 in
-    sym (header-unfinished _ (if1 .left) (sym (c .before .begins-with .ensures) ∙ c .if2 .taken))
+    let if1 = c .before .before .before .before .before .if1 in
+    sym (header-unfinished _ (if1 .left) (sym (unfinished (c .before)) ∙ c .if2 .taken))
 
-slice-aggregate-begins-with-2 : tie.Need-slice-aggregate-begins-with-2
-slice-aggregate-begins-with-2 c = search needs
+compare-requires-2 : tie.Need-compare-requires-2
+compare-requires-2 c κs = search needs
 
-begins-with-requires-2 : tie.Need-begins-with-requires-2
-begins-with-requires-2 c κs = search needs
+begins-requires-2 : tie.Need-begins-requires-2
+begins-requires-2 c κs = search needs
+
+-- the test of the magic
+magic-stands : (c : tie.After-begins2)
+    → let file = c .before .before .before .before .before .before .before .before .before .before .before .args .file .now in
+    c .begins2 .result ≡ begins magic file
+unfolding magic
+magic-stands c = c .begins2 .ensures ∙ compared-begins _ _ _ (c .before .compare2 .ensures)
 
 returns-3 : tie.Need-returns-3
-unfolding headerSaid unfinishedMagic magic
+unfolding headerSaid
 returns-3 c =
-    let b = c .before .before .before in
+    let b = c .before .before .before .before .before in
     sym
-    (header-magic _ (b .before .before .before .if1 .left) (sym (b .before .begins-with .ensures) ∙ b .if2 .left)
-    (sym (c .before .begins-with2 .ensures) ∙ not-true _ (c .if3 .taken)))
+    (header-magic _ (b .before .before .before .before .before .if1 .left) (sym (unfinished (b .before)) ∙ b .if2 .left)
+    (sym (magic-stands (c .before)) ∙ not-true _ (c .if3 .taken)))
 
 -- the refusals 1 to 3 are past
-opened : (c : tie.Else3) → Opened (c .before .before .before .before .before .before .before .before .args .file .now)
-unfolding unfinishedMagic magic
+opened : (c : tie.Else3) → Opened (c .before .before .before .before .before .before .before .before .before .before .before .before .args .file .now)
 opened c =
-    let b = c .before .before .before in
+    let b = c .before .before .before .before .before in
     record {
-      small = b .before .before .before .if1 .left;
-      finished = sym (b .before .begins-with .ensures) ∙ b .if2 .left;
-      opens = sym (c .before .begins-with2 .ensures) ∙ not-false _ (c .if3 .left);
+      small = b .before .before .before .before .before .if1 .left;
+      finished = sym (unfinished (b .before)) ∙ b .if2 .left;
+      opens = sym (magic-stands (c .before)) ∙ not-false _ (c .if3 .left);
     }
 
 holds-header-requires : tie.Need-holds-header-requires
@@ -58,7 +71,9 @@ unfolding headerSaid
 returns-4 c = sym (header-cut _ (opened (c .before .before)) (sym (c .before .holds-header .ensures) ∙ not-true _ (c .if4 .taken)))
 
 -- the header data lie within the file
-held : (c : tie.Else4) → holdsHeader (c .before .before .before .before .before .before .before .before .before .before .args .file .now) ≡ true
+held : (c : tie.Else4)
+    → let file = c .before .before .before .before .before .before .before .before .before .before .before .before .before .before .args .file .now in
+    holdsHeader file ≡ true
 held c = sym (c .before .holds-header .ensures) ∙ not-false _ (c .if4 .left)
 
 data-requires : tie.Need-data-requires
@@ -74,11 +89,11 @@ read-spec =
     tie.close
     (tie.spec
     returns
-    slice-aggregate-begins-with
-    begins-with-requires
+    compare-requires
+    begins-requires
     returns-2
-    slice-aggregate-begins-with-2
-    begins-with-requires-2
+    compare-requires-2
+    begins-requires-2
     returns-3
     holds-header-requires
     returns-4
