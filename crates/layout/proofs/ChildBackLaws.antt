@@ -48,14 +48,6 @@ module _ (s : List ℕ) (at level : ℕ) (payload key rest : List ℕ) (begins :
       text-back place _ _ key (omega arith)
       (lies-front _ _ (textBytes key) rest (subst (Lies _ _) begins (payload-lies s at level payload l)))
 
-  -- reading the frame and then the first text
-  pub child-back : {R : Type 0} (place : ℕ) (next : Frame → Step Text → Outcome R)
-      → (frameAt s at >>= λ f. textAt place (take (f .end) s) (f .body + 1) >>= next f)
-      ≡ next (placedFrame level at (length payload)) (firstText level at (length payload) key)
-  child-back place next =
-      bind-answer (frameAt s at) _ (placedFrame level at (length payload)) (frame-back s at level payload l small)
-      ∙ bind-answer _ (next (placedFrame level at (length payload))) (firstText level at (length payload) key) (first-back place)
-
 -- a data block begins with its first record, and an index block with its first key
 pub records-begin : (rs : List (List ℕ)) → 0 < length rs → (rest : List ℕ) × (recordsBytes rs ≡ textBytes (firstOr [] rs) ++ rest)
 unfolding recordsBytes flatMap firstOr
@@ -66,21 +58,3 @@ pub entries-begin : (es : List IndexEntry) → 0 < length es → (rest : List �
 unfolding flatMap entryBytes firstKey
 entries-begin [] h = absurd (omega arith)
 entries-begin (e ∷ es) h = ((encoding (e .offset) ++ encoding (e .size)) ++ flatMap entryBytes es, append-assoc (textBytes (e .key)) _ _)
-
-module _ {R : Type 0} (s : List ℕ) (at place : ℕ) (next : Frame → Step Text → Outcome R) where
-  pub data-child-back : (rs : List (List ℕ)) → 0 < length rs → length (recordsBytes rs) + 1 < 2 ^ 63 → Lies s at (dataBytes rs)
-      → (frameAt s at >>= λ f. textAt place (take (f .end) s) (f .body + 1) >>= next f)
-      ≡ next (placedFrame 0 at (length (recordsBytes rs))) (firstText 0 at (length (recordsBytes rs)) (firstOr [] rs))
-  unfolding dataBytes
-  data-child-back rs some small l =
-      let first = records-begin rs some in
-      child-back s at 0 (recordsBytes rs) (firstOr [] rs) (first .0) (first .1) small l place next
-
-  pub index-child-back : (b : IndexBlock) → 0 < length (b .entries) → length (flatMap entryBytes (b .entries)) + 1 < 2 ^ 63 → Lies s at (indexBytes b)
-      → (frameAt s at >>= λ f. textAt place (take (f .end) s) (f .body + 1) >>= next f)
-      ≡ next (placedFrame (b .level) at (length (flatMap entryBytes (b .entries))))
-      (firstText (b .level) at (length (flatMap entryBytes (b .entries))) (firstKey (b .entries)))
-  unfolding indexBytes
-  index-child-back b some small l =
-      let first = entries-begin (b .entries) some in
-      child-back s at (b .level) (flatMap entryBytes (b .entries)) (firstKey (b .entries)) (first .0) (first .1) small l place next

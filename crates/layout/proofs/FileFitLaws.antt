@@ -18,7 +18,8 @@ use Rattle.layout.specs.File.{keyFor, dataEntries, dataPart, indexBlocks
 use Rattle.layout.proofs.ReadBackLaws.{length-block}
 use Rattle.layout.proofs.PayloadBackLaws.{flatMap-length, key-length}
 use Rattle.layout.proofs.BlockBackLaws.{DataFit, IndexFit, data-some}
-use Rattle.layout.proofs.KeyLaws.{Filled, key-bytes, data-keys-rise, rising-group}
+use Rattle.layout.proofs.KeyForLaws.{key-bytes}
+use Rattle.layout.proofs.KeyLaws.{Filled, data-keys-rise, rising-group}
 use Rattle.layout.proofs.IndexFitLaws.{EntriesFit, BlockFits, levels-fit, levels-low}
 use Rattle.layout.proofs.LaidBytesLaws.{flatMap-bytes, member-bytes, first-record-bytes, entry-bytes}
 

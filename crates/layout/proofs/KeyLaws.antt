@@ -2,7 +2,7 @@
 -- Assumes nothing.
 use mathlib.Core.Path.{_≡_, refl}
 use mathlib.Core.Bool.{Bool, true, _&&_}
-use mathlib.Core.Option.{Option, none, some}
+use mathlib.Core.Option.{none, some}
 use mathlib.Core.List.{List, [], _∷_, _++_, flatMap, map, List·Memᴰ, List·Memᴰ·head, List·Memᴰ·tail}
 use Prim.Native.Nat.{ℕ, _<_}
 use native.Mathlib.Omega.{arith}
@@ -10,28 +10,12 @@ use lib.ListN.{length}
 use Rattle.lists.specs.Groups.{firstOr, lastOr}
 use Rattle.lists.proofs.ListsLaws.{both⁻¹}
 use Rattle.lists.proofs.RisingLaws.{member-split, flatMap-split}
-use Rattle.byte_string.specs.Order.{AreBytes, atMost}
+use Rattle.byte_string.specs.Order.{atMost}
 use Rattle.byte_string.proofs.OrderLaws.{atMost-refl, atMost-trans}
 use Rattle.payload.specs.Payload.{rising, risingFrom}
 use Rattle.layout.specs.Index.{IndexEntry}
 use Rattle.layout.specs.File.{keyFor, dataEntries}
-
--- ---- what is needed of the key of an entry over a data block
-
--- it is at most the block's first record
-pub key-atMost-first : (before : Option (List ℕ)) (first : List ℕ) → atMost (keyFor before first) first ≡ true
-unfolding keyFor
-key-atMost-first before first = atMost-refl first
-
--- the record before is at most the key
-pub before-atMost-key : (before first : List ℕ) → atMost before first ≡ true → atMost before (keyFor (some before) first) ≡ true
-unfolding keyFor
-before-atMost-key before first h = h
-
--- and its bytes are bytes
-pub key-bytes : (before : Option (List ℕ)) (first : List ℕ) → AreBytes first → AreBytes (keyFor before first)
-unfolding keyFor
-key-bytes before first h = h
+use Rattle.layout.proofs.KeyForLaws.{key-atMost-first, before-atMost-key}
 
 -- ---- byte strings that rise
 

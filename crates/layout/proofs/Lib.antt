@@ -9,9 +9,9 @@ pub mod PayloadBackLaws
 pub mod InputBackLaws
 pub mod BlockBackLaws
 pub mod HeaderBackLaws
+pub mod KeyForLaws
 pub mod KeyLaws
 pub mod IndexFitLaws
 pub mod LaidBytesLaws
 pub mod FileFitLaws
 pub mod FileBackLaws
-pub mod ChildrenBackLaws

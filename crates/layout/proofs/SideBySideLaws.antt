@@ -71,22 +71,3 @@ levels-side-by-side (suc fuel) perIndex level at es =
 pub index-side-by-side : (perIndex at : ℕ) (es : List IndexEntry) → SideBySide at (indexOver perIndex at es)
 unfolding indexOver
 index-side-by-side perIndex at es = levels-side-by-side (length es) perIndex 1 at es
-
--- ---- the entries that name blocks side by side
-
--- a data block at an offset, and an index block
-unfoldable pub dataEntry : (at : ℕ) → List (List ℕ) → IndexEntry
-dataEntry at rs = record { key = firstOr [] rs; offset = at; size = length (dataBytes rs) }
-
-unfoldable pub indexEntry : (at : ℕ) → IndexBlock → IndexEntry
-indexEntry at b = record { key = firstKey (b .entries); offset = at; size = length (indexBytes b) }
-
-pub data-entries : (before : Option (List ℕ)) (at : ℕ) (blocks : List (List (List ℕ))) → dataEntries before at blocks ≡ placedBy dataBytes dataEntry at blocks
-unfolding dataEntries keyFor placedBy dataEntry
-data-entries before at [] = refl
-data-entries before at (rs ∷ more) = ap (λ (l : List IndexEntry). dataEntry at rs ∷ l) (data-entries _ _ more)
-
-pub index-entries : (at : ℕ) (bs : List IndexBlock) → SideBySide at bs → map entryFor bs ≡ placedBy indexBytes indexEntry at bs
-unfolding entryFor placedBy indexEntry SideBySide
-index-entries at [] h = refl
-index-entries at (b ∷ bs) h = ap₂ (λ (n : ℕ) (l : List IndexEntry). indexEntry n b ∷ l) (h .0) (index-entries _ bs (h .1))

@@ -1,11 +1,12 @@
 -- A file that the writer makes: the header, the data blocks, the index blocks, and nothing between them.
 use Prim.Native.Nat.{ℕ, _+_, _^_}
-use mathlib.Core.Bool.{Bool, _&&_}
+use mathlib.Core.Bool.{Bool, _&&_, cond}
 use mathlib.Core.List.{List, [], _∷_, _++_, flatMap}
 use mathlib.Core.Option.{Option, none, some}
-use lib.Dec.{leb}
-use lib.ListN.{length}
+use lib.Dec.{leb, eqb}
+use lib.ListN.{length, take}
 use Rattle.lists.specs.Groups.{firstOr, lastOr}
+use Rattle.byte_string.specs.Order.{agreeing}
 use Rattle.endian.specs.FixedWidth.{littleBytes}
 use Rattle.crc64.specs.Crc64.{crc64}
 use Rattle.sha256.specs.Sha256.{sha256}
@@ -30,9 +31,14 @@ blocksStart metadata = 104 + length metadata
 
 -- ---- the blocks
 
+-- how many bytes of `first` make it at least `before`: as many as agree where those are all of `before`, otherwise one more
+unfoldable pub keyLength : (before first : List ℕ) → ℕ
+keyLength before first = let c = agreeing before first in cond (eqb c (length before)) c (c + 1)
+
 -- The key of an entry: `first` is the first record that the entry's block leads to, `before` the record just before it in the file, if any.
 unfoldable pub keyFor : (before : Option (List ℕ)) (first : List ℕ) → List ℕ
-keyFor before first = first
+keyFor none first = []
+keyFor (some before) first = take (keyLength before first) first
 
 -- the entries that name data blocks, which stand side by side from an offset on
 unfoldable pub dataEntries : (before : Option (List ℕ)) (at : ℕ) → List (List (List ℕ)) → List IndexEntry

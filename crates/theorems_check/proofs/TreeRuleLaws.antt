@@ -38,11 +38,14 @@ Keyed bs key rs = (first : Text) (rest : List Text) → rs ≡ first ∷ rest
     → (atMost key (first .bytes) ≡ true) × ((r : Text) → List·Memᴰ r (recordsOf bs) → r .at < first .at → atMost (r .bytes) key ≡ true)
 
 module _ (bs : List Block) (key : List ℕ) where
-  keyFits⁻¹ : (rs : List Text) → keyFits bs key rs ≡ true → Keyed bs key rs
+  pub keyFits⁻¹ : (rs : List Text) → keyFits bs key rs ≡ true → Keyed bs key rs
   unfolding keyFits recordsBefore
   keyFits⁻¹ rs h first rest e =
-      let p = both⁻¹ (atMost key (first .bytes)) _ (sym (ap (keyFits bs key) e) ∙ h) in
-      (p .0, λ r m before. all-member (λ q. atMost (q .bytes) key) (recordsBefore bs (first .at)) (p .1) r (member-keep (λ q. ltb (q .at) (first .at)) (recordsOf bs) r m (lt-ltb _ _ before)))
+      let p = both⁻¹ (atMost key (first .bytes)) _ (sym (ap (keyFits bs key) e) ∙ h) in (
+        p .0,
+        λ r m before. all-member (λ q. atMost (q .bytes) key) (recordsBefore bs (first .at)) (p .1) r
+            (member-keep (λ q. ltb (q .at) (first .at)) (recordsOf bs) r m (lt-ltb _ _ before)),
+      )
 
   keyFits-of : (rs : List Text) → Keyed bs key rs → keyFits bs key rs ≡ true
   unfolding keyFits recordsBefore
@@ -61,13 +64,15 @@ module _ (file : List ℕ) (from : ℕ) (bs : List Block) (tiled : Fill (Stands 
   entry-ordinary b m e n = entry-level file (b .frame .start) b (tiled-block file from bs tiled b m .0) e n .1
 
   -- 19
-  pub fit⇒named : each (entriesFit bs) 19 (ordinary bs) ≡ answer tt → (b : Block) → List·Memᴰ b bs → (e : Entry) → List·Memᴰ e (b .entries) → Named bs (b .frame .level) e
+  pub fit⇒named : each (entriesFit bs) 19 (ordinary bs) ≡ answer tt
+      → (b : Block) → List·Memᴰ b bs → (e : Entry) → List·Memᴰ e (b .entries) → Named bs (b .frame .level) e
   fit⇒named h b m e n = fit⁻¹ bs h b m (entry-ordinary b m e n) e n
 
   named⇒names : (level : ℕ) (e : Entry) → level ≤ 63 → Named bs level e → names bs level e ≡ true
   named⇒names level e few n = let lower = n .4 in names-true bs level e (n .0) (member-ordinary bs (n .0) (n .1) (omega arith)) (n .2) (n .3) lower
 
-  pub named⇒fit : ((b : Block) → List·Memᴰ b bs → (e : Entry) → List·Memᴰ e (b .entries) → Named bs (b .frame .level) e) → each (entriesFit bs) 19 (ordinary bs) ≡ answer tt
+  pub named⇒fit : ((b : Block) → List·Memᴰ b bs → (e : Entry) → List·Memᴰ e (b .entries) → Named bs (b .frame .level) e)
+      → each (entriesFit bs) 19 (ordinary bs) ≡ answer tt
   unfolding entriesFit
   named⇒fit h =
       member-each (entriesFit bs) 19 (ordinary bs)
@@ -80,9 +85,11 @@ module _ (file : List ℕ) (from : ℕ) (bs : List Block) (tiled : Fill (Stands 
   unfolding keysFit
   fit⇒keyed h b m e n =
       keyFits⁻¹ bs (e .key .bytes) (under bs (b .frame .level - 1) (e .offset))
-      (all-member (λ x. keyFits bs (x .key .bytes) (under bs (b .frame .level - 1) (x .offset))) (b .entries) (each-member (keysFit bs) 24 (ordinary bs) h b (member-ordinary bs b m (entry-ordinary b m e n))) e n)
+      (all-member (λ x. keyFits bs (x .key .bytes) (under bs (b .frame .level - 1) (x .offset))) (b .entries)
+      (each-member (keysFit bs) 24 (ordinary bs) h b (member-ordinary bs b m (entry-ordinary b m e n))) e n)
 
-  pub keyed⇒fit : ((b : Block) → List·Memᴰ b bs → (e : Entry) → List·Memᴰ e (b .entries) → Keyed bs (e .key .bytes) (under bs (b .frame .level - 1) (e .offset)))
+  pub keyed⇒fit : ((b : Block) → List·Memᴰ b bs → (e : Entry) → List·Memᴰ e (b .entries)
+      → Keyed bs (e .key .bytes) (under bs (b .frame .level - 1) (e .offset)))
       → each (keysFit bs) 24 (ordinary bs) ≡ answer tt
   unfolding keysFit
   keyed⇒fit h =

@@ -10,7 +10,7 @@ pub mod SortedParts
 pub mod WrittenRecords
 pub mod WrittenKeys
 pub mod DataKeys
-pub mod FirstKeys
+pub mod ShortKeys
 pub mod FullLevels
 pub mod LevelCounts
 pub mod WrittenTree

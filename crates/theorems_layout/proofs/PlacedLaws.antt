@@ -4,16 +4,17 @@ use mathlib.Core.Path.{_≡_, refl, sym, ap, _∙_, subst}
 use mathlib.Core.Logic.{_≢_, _⊎_, inl, inr}
 use mathlib.Core.Option.{Option, some}
 use mathlib.Core.List.{List, [], _∷_, _++_, flatMap, map, map-append, map-map, List·Memᴰ, List·Memᴰ·head, List·Memᴰ·tail, List·Memᴰ·not-nil}
-use mathlib.Core.List.{List·Memᴰ·cases-cons}
+use mathlib.Core.List.{List·Memᴰ·cases-cons, head-eq-of-cons-eq}
 use Prim.Native.Nat.{ℕ, _+_, _≤_, _<_}
 use native.Mathlib.Omega.{arith}
 use lib.ListN.{length, length-append}
 use Rattle.lists.specs.Groups.{firstOr, lastOr}
 use Rattle.lists.proofs.ListsLaws.{AscendingIn, ascending-wider, flatMap-append}
+use Rattle.uleb128.specs.Encoding.{encoding}
 use Rattle.payload.specs.Payload.{Text, Entry}
 use Rattle.block.specs.Block.{Block}
-use Rattle.layout.specs.Blocks.{textBytes, dataBytes}
-use Rattle.layout.specs.Index.{IndexEntry, IndexBlock, entryBytes, indexBytes, entryFor}
+use Rattle.layout.specs.Blocks.{textBytes, recordsBytes, dataBytes}
+use Rattle.layout.specs.Index.{IndexEntry, IndexBlock, entryBytes, indexBytes, firstKey, entryFor}
 use Rattle.layout.specs.File.{keyFor, dataEntries}
 use Rattle.layout.specs.Placed.{placedText, placedRecords, placedEntries, placedFrame, placedData, placedDatas, placedIndex}
 use Rattle.layout.proofs.PayloadBackLaws.{placed-records-bytes}
@@ -34,6 +35,21 @@ placed-after at (s ∷ rs) r m = go (List·Memᴰ·cases-cons m) (λ i. placed-a
         → (List·Memᴰ r (placedRecords (at + length (textBytes s)) rs) → at + length (textBytes s) ≤ r .at) → at ≤ r .at
     go (inl same) rest = let place = ap (λ (t : Text). t .at) same in omega arith
     go (inr later) rest = let r = rest later in omega arith
+
+pub placed-before : (at : ℕ) (rs : List (List ℕ)) (r : Text) → List·Memᴰ r (placedRecords at rs) → r .at ≤ at + length (recordsBytes rs)
+unfolding placedRecords placedText textBytes recordsBytes flatMap
+placed-before at [] r m = absurd (List·Memᴰ·not-nil m)
+placed-before at (s ∷ rs) r m = go (List·Memᴰ·cases-cons m) (λ i. placed-before (at + length (textBytes s)) rs r i)
+  where
+    go : (r ≡ placedText at s) ⊎ List·Memᴰ r (placedRecords (at + length (textBytes s)) rs)
+        → (List·Memᴰ r (placedRecords (at + length (textBytes s)) rs) → r .at ≤ at + length (textBytes s) + length (recordsBytes rs))
+        → r .at ≤ at + length (textBytes s ++ recordsBytes rs)
+    go (inl same) rest =
+        let place = ap (λ (t : Text). t .at) same in
+        let text = length-append (encoding (length s)) s in
+        let sum = length-append (textBytes s) (recordsBytes rs) in
+        omega arith
+    go (inr later) rest = let r = rest later in let sum = length-append (textBytes s) (recordsBytes rs) in omega arith
 
 -- ---- entries
 
@@ -60,6 +76,12 @@ placed-entry at (w ∷ es) e m = go (List·Memᴰ·cases-cons m) (λ i. placed-e
       record { key-is = ap (λ (f : Entry). f .key .bytes) same; offset-is = ap (λ (f : Entry). f .offset) same; size-is = ap (λ (f : Entry). f .size) same },
     )
     go (inr later) rest = let r = rest later in (r .0, List·Memᴰ·tail (r .1), r .2)
+
+-- the first one's key
+pub placed-first : (at : ℕ) (ws : List IndexEntry) (e : Entry) (es : List Entry) → placedEntries at ws ≡ e ∷ es → e .key .bytes ≡ firstKey ws
+unfolding placedEntries placedText firstKey
+placed-first at [] e es p = absurd (let z = ap length p in omega arith)
+placed-first at (w ∷ ws) e es p = sym (ap (λ (f : Entry). f .key .bytes) (head-eq-of-cons-eq p))
 
 -- what depends on their offsets only
 pub placed-offsets : {B : Type 0} (f : ℕ → List B) (at : ℕ) (es : List IndexEntry)

@@ -29,7 +29,7 @@ use Rattle.theorems_layout.proofs.WritableLaws.{file-writable}
 use Rattle.theorems_layout.proofs.WrittenTree.{written-rules}
 use Rattle.theorems_layout.proofs.FullLevels.{written-followed, written-data-first, written-no-fuller}
 use Rattle.theorems_layout.proofs.LevelCounts.{written-ends}
-use Rattle.theorems_layout.proofs.FirstKeys.{written-keys}
+use Rattle.theorems_layout.proofs.ShortKeys.{written-first-key, written-cut, written-shortest}
 
 module _ (metadata : List ℕ) (blocks : List (List (List ℕ))) (perIndex : ℕ) (fits : FileFits metadata blocks perIndex) (some : blocks ≢ []) where
   abbrev file : List ℕ
@@ -91,5 +91,7 @@ file-layout metadata rs perBlock perIndex one fits some =
       no-fuller = written-no-fuller perBlock perIndex from rs one good;
       top = ends .0;
       ends = subst (λ (root : ℕ). EndsOn (placedBlocks perIndex from blocks) root (ends .0)) (is .is-root) (ends .1);
-      keys = written-keys perIndex from blocks good;
+      first-key = λ b m foremost. written-first-key perIndex from blocks good b m (λ c i alike. omega (arith, foremost c i alike));
+      cut = written-cut perIndex from blocks good;
+      shortest = λ b m e n key rule. omega (arith, written-shortest perIndex from blocks good b m e n key rule);
     }

@@ -22,6 +22,10 @@ use Rattle.theorems_layout.proofs.PlacedLaws.{Reads, placed-entry, inde
 use Rattle.theorems_layout.proofs.WrittenNames.{Kinds, block-kinds, levels-few, written-levels}
 use Rattle.theorems_layout.proofs.WrittenWalk.{leaves-index}
 
+-- an entry that was read, as it was to be written
+abbrev pub asWritten : Entry → IndexEntry
+asWritten e = record { key = e .key .bytes; offset = e .offset; size = e .size }
+
 module _ (perIndex from : ℕ) (blocks : List (List (List ℕ))) (good : Writable perIndex blocks) (Holds : (key : List ℕ) (first : Text) → Type 0) where
   abbrev bs : List Block
   bs = placedBlocks perIndex from blocks
@@ -90,9 +94,8 @@ module _ (perIndex from : ℕ) (blocks : List (List (List ℕ))) (good : Writabl
 
   -- every entry of the file, where this holds of those over the data blocks
   module _ (lowest : (e : IndexEntry) → List·Memᴰ e (dataEntries none from blocks) → Leads 0 e) where
-    keyed-index : (w : IndexBlock) → List·Memᴰ w index → (e : Entry) → List·Memᴰ e (placedIndex w .entries)
-        → (first : Text) (rest : List Text) → under bs (w .level - 1) (e .offset) ≡ first ∷ rest → Holds (e .key .bytes) first
-    keyed-index w m e n first rest leads =
+    leads-index : (w : IndexBlock) → List·Memᴰ w index → (e : Entry) → List·Memᴰ e (placedIndex w .entries) → Leads (w .level - 1) (asWritten e)
+    leads-index w m e n =
         let es = index-entries w in
         let v = placed-entry (es .0) (w .entries) e (subst (List·Memᴰ e) (es .1) n) in
         let low = levels-few perIndex from blocks good w m .0 in
@@ -101,18 +104,28 @@ module _ (perIndex from : ℕ) (blocks : List (List (List ℕ))) (good : Writabl
         (leads-up 1 _ (dataEntries none from blocks) index (written-levels perIndex from blocks good) 0 refl (λ u i. i) lowest w m (v .0) (v .1)
         (w .level - 1) level)
       where
-        go : (v : IndexEntry) → Reads e v → Leads (w .level - 1) v → Holds (e .key .bytes) first
+        go : (v : IndexEntry) → Reads e v → Leads (w .level - 1) v → Leads (w .level - 1) (asWritten e)
         go v reads l =
-            let same = head-eq-of-cons-eq (sym (l .under-is) ∙ ap (under bs (w .level - 1)) (sym (reads .offset-is)) ∙ leads) in
-            subst (Holds (e .key .bytes)) same (subst (λ (key : List ℕ). Holds key (l .first)) (sym (reads .key-is)) (l .holds))
+            record {
+              first = l .first;
+              rest = l .rest;
+              under-is = ap (under bs (w .level - 1)) (reads .offset-is) ∙ l .under-is;
+              holds = subst (λ (key : List ℕ). Holds key (l .first)) (sym (reads .key-is)) (l .holds);
+            }
+
+    pub leads-entry : (b : Block) → List·Memᴰ b (placedBlocks perIndex from blocks) → (e : Entry) → List·Memᴰ e (b .entries)
+        → Leads (b .frame .level - 1) (asWritten e)
+    leads-entry b m e n = go (block-kinds perIndex from blocks b m)
+      where
+        go : Kinds perIndex from blocks b → Leads (b .frame .level - 1) (asWritten e)
+        go (inl d) = absurd (List·Memᴰ·not-nil (subst (List·Memᴰ e) (datas-member from blocks b d .2 .no-entries) n))
+        go (inr i) =
+            subst (λ (l : ℕ). Leads (l - 1) (asWritten e)) (sym (index-level (i .0)) ∙ ap (λ (c : Block). c .frame .level) (i .2))
+            (leads-index (i .0) (i .1) e (subst (λ (c : Block). List·Memᴰ e (c .entries)) (sym (i .2)) n))
 
     pub keyed-by : (b : Block) → List·Memᴰ b (placedBlocks perIndex from blocks) → (e : Entry) → List·Memᴰ e (b .entries)
         → (first : Text) (rest : List Text) → under (placedBlocks perIndex from blocks) (b .frame .level - 1) (e .offset) ≡ first ∷ rest
         → Holds (e .key .bytes) first
-    keyed-by b m e n first rest leads = go (block-kinds perIndex from blocks b m)
-      where
-        go : Kinds perIndex from blocks b → Holds (e .key .bytes) first
-        go (inl d) = absurd (List·Memᴰ·not-nil (subst (List·Memᴰ e) (datas-member from blocks b d .2 .no-entries) n))
-        go (inr i) =
-            keyed-index (i .0) (i .1) e (subst (λ (c : Block). List·Memᴰ e (c .entries)) (sym (i .2)) n) first rest
-            (ap (λ (l : ℕ). under bs (l - 1) (e .offset)) (sym (index-level (i .0)) ∙ ap (λ (c : Block). c .frame .level) (i .2)) ∙ leads)
+    keyed-by b m e n first rest leads =
+        let l = leads-entry b m e n in
+        subst (Holds (e .key .bytes)) (head-eq-of-cons-eq (sym (l .under-is) ∙ leads)) (l .holds)

@@ -23,7 +23,7 @@ use Rattle.layout.proofs.ReadBackLaws.{length-text}
 use Rattle.theorems_check.specs.Rules.{Sorted}
 use Rattle.theorems_layout.specs.WrittenTree.{joined, Writable}
 use Rattle.theorems_layout.proofs.WrittenSizes.{length-data, blockSize-parts}
-use Rattle.theorems_layout.proofs.PlacedLaws.{placed-after, indexes-records, datas-bytes}
+use Rattle.theorems_layout.proofs.PlacedLaws.{placed-after, placed-before, indexes-records, datas-bytes}
 use Rattle.theorems_layout.proofs.WrittenNames.{blocks-few}
 use Rattle.theorems_layout.proofs.SortedParts.{sorted-right, sorted-apart}
 
@@ -32,6 +32,15 @@ use Rattle.theorems_layout.proofs.SortedParts.{sorted-right, sorted-apa
 data-after : (at : ℕ) (rs : List (List ℕ)) (r : Text) → List·Memᴰ r (placedData at rs .records) → at ≤ r .at
 unfolding placedData
 data-after at rs r m = let after = placed-after (at + length (encoding (length (recordsBytes rs) + 1)) + 1) rs r m in omega arith
+
+-- a record of a block stands before the next block
+pub data-before : (at : ℕ) (rs : List (List ℕ)) (r : Text) → List·Memᴰ r (placedData at rs .records) → r .at < at + length (dataBytes rs)
+unfolding placedData
+data-before at rs r m =
+    let before = placed-before (at + length (encoding (length (recordsBytes rs) + 1)) + 1) rs r m in
+    let size = length-data rs in
+    let parts = blockSize-parts (length (recordsBytes rs)) in
+    omega arith
 
 -- no record of these blocks stands before them
 pub datas-after : (at : ℕ) (blocks : List (List (List ℕ))) (r : Text) → List·Memᴰ r (flatMap (λ b. b .records) (placedDatas at blocks)) → at ≤ r .at
@@ -52,6 +61,7 @@ pub record First (at : ℕ) (s : List ℕ) (rs : List (List ℕ)) (more : List (
   pub rest : List Text
   pub bytes-are : first .bytes ≡ s
   pub records-are : placedData at (s ∷ rs) .records ≡ first ∷ rest
+  pub after : at ≤ first .at
   pub least : (r : Text) → List·Memᴰ r (flatMap (λ b. b .records) (placedDatas at ((s ∷ rs) ∷ more))) → first .at ≤ r .at
 
 pub data-first : (at : ℕ) (s : List ℕ) (rs : List (List ℕ)) (more : List (List (List ℕ))) → First at s rs more
@@ -62,6 +72,7 @@ data-first at s rs more =
       rest = placedRecords (body + length (textBytes s)) rs;
       bytes-are = refl;
       records-are = refl;
+      after = omega arith;
       least = λ r m. go r (List·Memᴰ·append-cases (placedText body s ∷ placedRecords (body + length (textBytes s)) rs) m);
     }
   where

@@ -39,8 +39,8 @@ module _ (perIndex from : ℕ) (blocks : List (List (List ℕ))) (good : Writabl
       → (first : Text) (rest : List Text) → under bs (b .frame .level - 1) (e .offset) ≡ first ∷ rest
       → (atMost (e .key .bytes) (first .bytes) ≡ true)
       × ((r : Text) → List·Memᴰ r (recordsOf bs) → r .at < first .at → atMost (r .bytes) (e .key .bytes) ≡ true)
-  unfolding KeyHolds
-  written-keyed = keyed-by perIndex from blocks good (KeyHolds perIndex from blocks good) (leads-lowest perIndex from blocks good)
+  written-keyed b m e n first rest leads =
+      keyed-by perIndex from blocks good (KeyHolds perIndex from blocks good) (leads-lowest perIndex from blocks good) b m e n first rest leads .fits
 
   -- ---- all rules
 

@@ -2,15 +2,16 @@
 use Prim.Native.Nat.{ℕ, _+_, _-_, _≤_, _<_}
 use mathlib.Core.Path.{_≡_}
 use mathlib.Core.Logic.{_⊎_}
-use mathlib.Core.Bool.{cond}
+use mathlib.Core.Bool.{true, cond}
 use mathlib.Core.List.{List, [], _∷_, List·Memᴰ}
 use lib.Dec.{eqb}
 use lib.ListN.{length}
 use Rattle.lists.specs.Lists.{keep}
+use Rattle.byte_string.specs.Order.{begins}
 use Rattle.header.specs.Header.{H, M, fieldAt}
 use Rattle.payload.specs.Payload.{Text, Entry}
 use Rattle.block.specs.Block.{Block, isData}
-use Rattle.tree.specs.Tree.{under}
+use Rattle.tree.specs.Tree.{under, keyFits}
 
 -- each is so related to the next
 pub data Chain {A : Type 0} (Next : A → A → Type 0) : List A → Type 0 where
@@ -54,6 +55,14 @@ module _ (perBlock perIndex : ℕ) where
     -- until one stands alone, on level 1 at least
     pub top : ℕ
     pub ends : EndsOn bs (fieldAt file 16) top
-    -- keys are first records
-    pub keys : (b : Block) → List·Memᴰ b bs → (e : Entry) → List·Memᴰ e (b .entries)
-        → (first : Text) (rest : List Text) → under bs (b .frame .level - 1) (e .offset) ≡ first ∷ rest → e .key .bytes ≡ first .bytes
+    -- the first key on each level is empty: that of the index block that no block of its level stands before
+    pub first-key : (b : Block) → List·Memᴰ b bs
+        → ((c : Block) → List·Memᴰ c bs → c .frame .level ≡ b .frame .level → b .frame .start ≤ c .frame .start)
+        → (e : Entry) (es : List Entry) → b .entries ≡ e ∷ es → e .key .bytes ≡ []
+    -- a key is a beginning of the first record that the block named by its entry leads to
+    pub cut : (b : Block) → List·Memᴰ b bs → (e : Entry) → List·Memᴰ e (b .entries)
+        → (first : Text) (rest : List Text) → under bs (b .frame .level - 1) (e .offset) ≡ first ∷ rest
+        → begins (e .key .bytes) (first .bytes) ≡ true
+    -- and no byte string that keeps the key rule there is shorter
+    pub shortest : (b : Block) → List·Memᴰ b bs → (e : Entry) → List·Memᴰ e (b .entries)
+        → (key : List ℕ) → keyFits bs key (under bs (b .frame .level - 1) (e .offset)) ≡ true → length (e .key .bytes) ≤ length key
