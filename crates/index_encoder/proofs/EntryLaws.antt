@@ -18,9 +18,10 @@ use Rattle.output_bytes.proofs.OutputBytesLaws.{length-stored, take-stored, cop
 use Rattle.layout.specs.Blocks.{textBytes}
 use Rattle.layout.specs.Index.{IndexEntry, entryBytes}
 use Rattle.layout.proofs.ReadBackLaws.{length-text, length-entry}
-use Rattle.index_encoder.specs.declared.child.EntryForOutcome.{EntryForOutcome}
-use Rattle.index_encoder.specs.declared.child.EntryForOutcome.the-variants.{Answer as AChild, Refused as NoChild}
-use Rattle.index_encoder.specs.Children.{entryIn, childAt, childrenFrom, childSaid, ChildWithin}
+use Rattle.index_encoder.specs.declared.child.Place.{Place}
+use Rattle.index_encoder.specs.declared.child.ChildOutcome.{ChildOutcome}
+use Rattle.index_encoder.specs.declared.child.ChildOutcome.the-variants.{Answer as AChild, Refused as NoChild}
+use Rattle.index_encoder.specs.Children.{bytesOf, Within, entryIn, childAt, childrenFrom, childSaid, ChildWithin}
 use Rattle.index_encoder.specs.Level.{Measured, entriesFor}
 use Rattle.index_encoder.proofs.StoredLaws.{flatMap-snoc, stored-nil, stored-whole, stored-after}
 use Rattle.index_encoder.proofs.ChildLaws.{children-refused, children-more}
@@ -33,7 +34,7 @@ number-few n h = encoding-length 4 n (omega arith)
 module _ (s : List ℕ) (key : Part) (offset size : ℕ) (within : key .offset + key .length ≤ length s) where
   pub length-entryIn :
       length (entryBytes (entryIn s key offset size)) ≡ length (encoding (key .length)) + key .length + length (encoding offset) + length (encoding size)
-  unfolding entryIn
+  unfolding entryIn bytesOf
   length-entryIn =
       let k = part s (key .offset) (key .length) in
       length-entry (record { key = k; offset = offset; size = size })
@@ -51,34 +52,33 @@ module _ (s : List ℕ) (key : Part) (offset size : ℕ) (within : key .offset +
 -- ---- measuring a group of blocks
 
 -- an answer of `child_at` that is known
-module _ (s : List ℕ) (at : ℕ) {here : ℕ} (place : here ≡ at) (r : EntryForOutcome) (said : childSaid s here r ≡ childAt s here) where
-  pub child-known : (key : Part) (size : ℕ) → r ≡ AChild key size → ChildWithin s here r
-      → (childSaid s at (AChild key size) ≡ childAt s at) × ChildWithin s at (AChild key size)
-  child-known key size told within =
-      subst (λ n. (childSaid s n (AChild key size) ≡ childAt s n) × ChildWithin s n (AChild key size)) place
-      (subst (λ o. childSaid s here o ≡ childAt s here) told said, subst (ChildWithin s here) told within)
+module _ (s : List ℕ) (p : Place) (r : ChildOutcome) (said : childSaid s p r ≡ childAt s p) where
+  pub child-known : (key last : Part) (size : ℕ) → r ≡ AChild key last size → ChildWithin s p r
+      → (childSaid s p (AChild key last size) ≡ childAt s p) × ChildWithin s p (AChild key last size)
+  child-known key last size told within = (subst (λ o. childSaid s p o ≡ childAt s p) told said, subst (ChildWithin s p) told within)
 
-  pub child-none : (n : ℕ) → r ≡ NoChild n → childAt s at ≡ refused n at
+  pub child-none : (n : ℕ) → r ≡ NoChild n → childAt s p ≡ refused n (p .offset)
   unfolding childSaid
-  child-none n told = subst (λ m. childAt s m ≡ refused n m) place (sym said ∙ ap (childSaid s here) told)
+  child-none n told = sym said ∙ ap (childSaid s p) told
 
-module _ (s : List ℕ) (from most : ℕ) where
+module _ (s : List ℕ) (from : Place) (most : ℕ) where
   -- the blocks up to `at` are seen, and so many bytes counted
-  pub record Measuring (at count total : ℕ) : Type 0 where
+  pub record Measuring (at : Place) (count total : ℕ) : Type 0 where
     pub seen : List IndexEntry
     pub split : childrenFrom s from ≡ seen ++ childrenFrom s at
     pub counted : count ≡ length seen
     pub few : count ≤ most
     pub sized : total ≡ length (flatMap entryBytes seen)
-    pub onward : from ≤ at
-    pub bounded : total ≤ 16 * (at - from)
+    pub onward : from .offset ≤ at .offset
+    pub bounded : total ≤ 16 * (at .offset - from .offset)
+    pub within : Within s (at .before)
 
-  pub measuring-none : Measuring from 0 0
+  pub measuring-none : Within s (from .before) → Measuring from 0 0
   unfolding flatMap
-  measuring-none =
-      record { seen = []; split = refl; counted = refl; few = omega arith; sized = refl; onward = omega arith; bounded = omega arith }
+  measuring-none h =
+      record { seen = []; split = refl; counted = refl; few = omega arith; sized = refl; onward = omega arith; bounded = omega arith; within = h }
 
-  module _ (at count total : ℕ) (m : Measuring at count total) where
+  module _ (at : Place) (count total : ℕ) (m : Measuring at count total) where
     measured : (rest : List IndexEntry) → childrenFrom s at ≡ rest → take most (m .seen ++ rest) ≡ m .seen → drop most (m .seen ++ rest) ≡ rest
         → Measured s from most (record { count = count; next = at; length = total })
     measured rest e t d =
@@ -88,6 +88,7 @@ module _ (s : List ℕ) (from most : ℕ) where
           counted = m .counted ∙ ap length (sym first);
           sized = m .sized ∙ ap (λ l. length (flatMap entryBytes l)) (sym first);
           onward = e ∙ sym (ap (drop most) whole ∙ d);
+          within = m .within;
         }
 
     -- no block is left
@@ -106,32 +107,36 @@ module _ (s : List ℕ) (from most : ℕ) where
         (ap (λ n. drop n (m .seen ++ childrenFrom s at)) all ∙ drop-append-seam (m .seen) (childrenFrom s at))
 
     -- one more
-    module _ (key : Part) (size : ℕ) (told : childSaid s at (AChild key size) ≡ childAt s at) (within : ChildWithin s at (AChild key size))
-        (short : length s ≤ 2 ^ 30) where
-      pub measuring-bound : length (entryBytes (entryIn s key at size)) ≤ 16 * size
+    module _ (key last : Part) (size : ℕ) (told : childSaid s at (AChild key last size) ≡ childAt s at)
+        (within : ChildWithin s at (AChild key last size)) (short : length s ≤ 2 ^ 30) where
+      pub measuring-bound : length (entryBytes (entryIn s key (at .offset) size)) ≤ 16 * size
       unfolding ChildWithin
       measuring-bound =
           let a = within .0 in
           let b = within .1 in
-          let d = within .2 in
-          entry-few s key at size (omega arith) (omega arith) (omega arith) (omega arith)
+          let d = within .3 in
+          entry-few s key (at .offset) size (omega arith) (omega arith) (omega arith) (omega arith)
 
-      pub measuring-more : count < most → Measuring (at + size) (count + 1) (total + length (entryBytes (entryIn s key at size)))
-      unfolding childSaid
+      pub measuring-more : count < most
+          → Measuring (record { offset = at .offset + size; before = last }) (count + 1) (total + length (entryBytes (entryIn s key (at .offset) size)))
+      unfolding childSaid entryIn ChildWithin Within
       measuring-more h =
+          let it = entryIn s key (at .offset) size in
+          let next : Place = record { offset = at .offset + size; before = last } in
           record {
-            seen = m .seen ++ (entryIn s key at size ∷ []);
+            seen = m .seen ++ (it ∷ []);
             split =
                 m .split
-                ∙ ap (λ l. m .seen ++ l) (children-more s at _ (sym told))
-                ∙ sym (append-snoc (m .seen) (entryIn s key at size) (childrenFrom s (at + size)));
-            counted = rw (length-append (m .seen) (entryIn s key at size ∷ [])) (let a = m .counted in omega arith);
+                ∙ ap (λ l. m .seen ++ l) (children-more s at _ (sym told) next refl refl)
+                ∙ sym (append-snoc (m .seen) it (childrenFrom s next));
+            counted = rw (length-append (m .seen) (it ∷ [])) (let a = m .counted in omega arith);
             few = omega arith;
-            sized = rw (flatMap-snoc entryBytes (m .seen) (entryIn s key at size))
-                (rw (length-append (flatMap entryBytes (m .seen)) (entryBytes (entryIn s key at size)))
+            sized = rw (flatMap-snoc entryBytes (m .seen) it)
+                (rw (length-append (flatMap entryBytes (m .seen)) (entryBytes it))
                 (let a = m .sized in omega arith));
             onward = (let a = m .onward in omega arith);
             bounded = (let a = m .onward in let b = m .bounded in let d = measuring-bound in omega arith);
+            within = (let a = within .2 in let b = within .3 in omega arith);
           }
 
 -- ---- putting an entry
@@ -188,7 +193,7 @@ module _ (o : List ℕ) (place : ℕ) (key : Part) (offset size : ℕ) (before :
           pub entry-stored : (place + a + key .length + b + c ≡ place + length (entryBytes (entryIn o key offset size)))
               × (o4 ≡ stored o place (entryBytes (entryIn o key offset size)))
               × (place + a + key .length + b + c ≤ length o)
-          unfolding entryBytes textBytes entryIn
+          unfolding entryBytes textBytes entryIn bytesOf
           entry-stored =
               let sum = entry-sum in
               let number = entry-number .0 in
@@ -211,19 +216,20 @@ module _ (o : List ℕ) (place : ℕ) (key : Part) (offset size : ℕ) (before :
 
 -- ---- putting the entries of a block
 
-module _ (old : List ℕ) (to from count place : ℕ) where
+module _ (old : List ℕ) (to : ℕ) (from : Place) (count place : ℕ) where
   -- the entries for the blocks up to `at` are put
-  pub record Entering (output : List ℕ) (at end left : ℕ) : Type 0 where
+  pub record Entering (output : List ℕ) (at : Place) (end left : ℕ) : Type 0 where
     pub seen : List IndexEntry
     pub split : entriesFor old to from count ≡ seen ++ take left (childrenFrom (take to old) at)
     pub ends : end ≡ place + length (flatMap entryBytes seen)
     pub holds : output ≡ stored old place (flatMap entryBytes seen)
+    pub within : Within (take to old) (at .before)
 
-  pub entering-none : Entering old from place count
+  pub entering-none : Within (take to old) (from .before) → Entering old from place count
   unfolding entriesFor flatMap
-  entering-none = record { seen = []; split = refl; ends = omega arith; holds = sym (stored-nil old place) }
+  entering-none h = record { seen = []; split = refl; ends = omega arith; holds = sym (stored-nil old place); within = h }
 
-  module _ (output : List ℕ) (at end left : ℕ) (e : Entering output at end left) where
+  module _ (output : List ℕ) (at : Place) (end left : ℕ) (e : Entering output at end left) where
     -- the run of blocks is as it was
     pub entering-same : to ≤ place → take to output ≡ take to old
     entering-same h = ap (take to) (e .holds) ∙ take-stored old place (flatMap entryBytes (e .seen)) to h
@@ -248,6 +254,9 @@ module _ (old : List ℕ) (to from count place : ℕ) where
     entering-all h = let none : left ≡ 0 = omega arith in finished (ap (λ n. take n (childrenFrom (take to old) at)) none)
 
     module _ (h : to ≤ place) where
+      pub entering-within : Within (take to output) (at .before)
+      entering-within = subst (λ l. Within l (at .before)) (sym (entering-same h)) (e .within)
+
       -- no block is left
       pub entering-refused : (number p : ℕ) → childAt (take to output) at ≡ refused number p
           → AllPut
@@ -255,31 +264,34 @@ module _ (old : List ℕ) (to from count place : ℕ) where
           let none = children-refused (take to old) at number p (ap (λ l. childAt l at) (sym (entering-same h)) ∙ r) in
           finished (ap (take left) none ∙ take-nil left)
 
-      module _ (key : Part) (size : ℕ) (told : childSaid (take to output) at (AChild key size) ≡ childAt (take to output) at)
-          (within : ChildWithin (take to output) at (AChild key size)) (some : 0 < left)
+      module _ (key last : Part) (size : ℕ) (told : childSaid (take to output) at (AChild key last size) ≡ childAt (take to output) at)
+          (within : ChildWithin (take to output) at (AChild key last size)) (some : 0 < left)
           (enough : place + length (flatMap entryBytes (entriesFor old to from count)) ≤ length old) where
         abbrev it : IndexEntry
-        it = entryIn output key at size
+        it = entryIn output key (at .offset) size
+
+        abbrev onward : Place
+        onward = record { offset = at .offset + size; before = last }
 
         short : length (take to output) ≤ to
         short = let long = length-take to output in omega arith
 
         abbrev rest : List IndexEntry
-        rest = take (left - 1) (childrenFrom (take to old) (at + size))
+        rest = take (left - 1) (childrenFrom (take to old) onward)
 
         next : take left (childrenFrom (take to old) at) ≡ it ∷ rest
-        unfolding childSaid ChildWithin entryIn
+        unfolding childSaid ChildWithin entryIn bytesOf
         next =
             let a = within .1 in
-            let b = within .2 in
+            let b = within .3 in
             let c = short in
-            let one : childrenFrom (take to old) at ≡ it ∷ childrenFrom (take to old) (at + size) =
+            let one : childrenFrom (take to old) at ≡ it ∷ childrenFrom (take to old) onward =
             ap (λ l. childrenFrom l at) (sym (entering-same h))
-            ∙ children-more (take to output) at _ (sym told)
-            ∙ ap (λ k. record { key = k; offset = at; size = size } ∷ childrenFrom (take to output) (at + size))
+            ∙ children-more (take to output) at _ (sym told) onward refl refl
+            ∙ ap (λ k. record { key = k; offset = at .offset; size = size } ∷ childrenFrom (take to output) onward)
             (part-take output to (key .offset) (key .length) (omega arith))
-            ∙ ap (λ l. it ∷ childrenFrom l (at + size)) (entering-same h) in
-            ap (take left) one ∙ ap (λ n. take n (it ∷ childrenFrom (take to old) (at + size))) left-is
+            ∙ ap (λ l. it ∷ childrenFrom l onward) (entering-same h) in
+            ap (take left) one ∙ ap (λ n. take n (it ∷ childrenFrom (take to old) onward)) left-is
           where
             left-is : left ≡ suc (left - 1)
             left-is = omega arith
@@ -288,12 +300,12 @@ module _ (old : List ℕ) (to from count place : ℕ) where
         split = e .split ∙ ap (λ l. e .seen ++ l) next ∙ sym (append-snoc (e .seen) it rest)
 
         -- the next one fits
-        pub entering-fits : (key .offset + key .length ≤ end) × (end + length (entryBytes (entryIn output key at size)) ≤ length output)
-            × (at + size ≤ to)
+        pub entering-fits : (key .offset + key .length ≤ end) × (end + length (entryBytes (entryIn output key (at .offset) size)) ≤ length output)
+            × (at .offset + size ≤ to)
         unfolding ChildWithin
         entering-fits =
             let a = within .1 in
-            let b = within .2 in
+            let b = within .3 in
             let c = short in
             let ends = e .ends in
             let long = entering-long in
@@ -306,12 +318,17 @@ module _ (old : List ℕ) (to from count place : ℕ) where
             ∙ ap (λ n. n + length (flatMap entryBytes rest)) (length-append (flatMap entryBytes (e .seen)) (entryBytes it)) in
             (omega arith, omega arith, omega arith)
 
-        pub entering-more : {new : List ℕ} {ended : ℕ} → ended ≡ end + length (entryBytes (entryIn output key at size))
-            → new ≡ stored output end (entryBytes (entryIn output key at size)) → Entering new (at + size) ended (left - 1)
+        pub entering-more : {new : List ℕ} {ended : ℕ} → ended ≡ end + length (entryBytes (entryIn output key (at .offset) size))
+            → new ≡ stored output end (entryBytes (entryIn output key (at .offset) size))
+            → Entering new (record { offset = at .offset + size; before = last }) ended (left - 1)
+        unfolding ChildWithin Within
         entering-more {new} ended-is holds =
             let fits = entering-fits .1 in
             let long = entering-long in
             let ends = e .ends in
+            let a = within .2 in
+            let b = within .3 in
+            let same = ap length (entering-same h) in
             record {
               seen = e .seen ++ (it ∷ []);
               split = split;
@@ -319,4 +336,5 @@ module _ (old : List ℕ) (to from count place : ℕ) where
               holds =
                   stored-after old place (flatMap entryBytes (e .seen)) (entryBytes it) (omega arith) (e .holds) ends holds
                   ∙ ap (stored old place) (sym (flatMap-snoc entryBytes (e .seen) it));
+              within = omega arith;
             }

@@ -22,14 +22,16 @@ use Rattle.layout.proofs.BlockBackLaws.{index-some}
 use Rattle.encoder.proofs.PutLaws.{blockSize-some, size-0, size-within, block-number, block-stored}
 use Rattle.index_encoder.specs.declared.entries.Group.{Group}
 use Rattle.index_encoder.specs.declared.level.LevelOutcome.the-variants.{Answer as ALevel, Refused as NoLevel}
-use Rattle.index_encoder.specs.Children.{childrenFrom}
+use Rattle.index_encoder.specs.declared.child.Place.{Place}
+use Rattle.index_encoder.specs.Children.{Within, childrenFrom, startAt}
 use Rattle.index_encoder.specs.Level.{Measured, entriesFor, blockFor, levelFor, LevelPut}
 use Rattle.index_encoder.proofs.StoredLaws.{flatMap-snoc, take-counted, stored-nil, stored-after, part-stored}
 
 -- ---- one index block
 
 -- the block at `place` over the first `count` blocks from `from` to `to`, whose entries take n bytes
-module _ (o : List ℕ) (level to from count place n : ℕ) (low : to ≤ place) (long : n ≡ length (flatMap entryBytes (entriesFor o to from count))) where
+module _ (o : List ℕ) (level to : ℕ) (from : Place) (count place n : ℕ) (low : to ≤ place) (held : Within (take to o) (from .before))
+    (long : n ≡ length (flatMap entryBytes (entriesFor o to from count))) where
   abbrev payload : List ℕ
   payload = flatMap entryBytes (entriesFor o to from count)
 
@@ -65,21 +67,24 @@ module _ (o : List ℕ) (level to from count place n : ℕ) (low : to ≤ place)
             (first, ap length e2 ∙ length-stored o1 (place + a) (level ∷ []) ∙ first)
 
         -- the run of blocks is as it was
-        same : entriesFor o2 to from count ≡ entriesFor o to from count
-        unfolding entriesFor
-        same =
-            ap (λ l. take count (childrenFrom l from))
-            (ap (take to) e2
+        front : take to o2 ≡ take to o
+        front =
+            ap (take to) e2
             ∙ take-stored o1 (place + a) (level ∷ []) to (omega arith)
             ∙ ap (take to) e1
-            ∙ take-stored o place (encoding (n + 1)) to low)
+            ∙ take-stored o place (encoding (n + 1)) to low
+
+        same : entriesFor o2 to from count ≡ entriesFor o to from count
+        unfolding entriesFor
+        same = ap (λ l. take count (childrenFrom l from)) front
 
         -- the entries fit
-        pub index-fits : (to ≤ place + a + 1) × (place + a + 1 + length (flatMap entryBytes (entriesFor o2 to from count)) ≤ length o2)
+        pub index-fits : (to ≤ place + a + 1) × Within (take to o2) (from .before)
+            × (place + a + 1 + length (flatMap entryBytes (entriesFor o2 to from count)) ≤ length o2)
         index-fits =
             let number = index-number .1 in
             let two = lengths .1 in
-            (omega arith, rw same (omega arith))
+            (omega arith, subst (λ l. Within l (from .before)) (sym front) held, rw same (omega arith))
 
         module _ {o3 : List ℕ} {end : ℕ} (ee : end ≡ place + a + 1 + length (flatMap entryBytes (entriesFor o2 to from count)))
             (e3 : o3 ≡ stored o2 (place + a + 1) (flatMap entryBytes (entriesFor o2 to from count))) where
@@ -123,11 +128,11 @@ module _ (o : List ℕ) (level to from count place n : ℕ) (low : to ≤ place)
 -- ---- the index blocks of a level
 
 module _ (old : List ℕ) (perIndex level from to : ℕ) where
-  abbrev childrenOf : ℕ → List IndexEntry
+  abbrev childrenOf : Place → List IndexEntry
   childrenOf at = childrenFrom (take to old) at
 
   -- the index blocks of the groups up to `at` are put
-  pub record Leveling (output : List ℕ) (at end blocks : ℕ) : Type 0 where
+  pub record Leveling (output : List ℕ) (at : Place) (end blocks : ℕ) : Type 0 where
     pub done : List IndexBlock
     pub split : levelFor perIndex level old from to ≡ done ++ levelFrom level end (groups perIndex (childrenOf at))
     pub ends : end ≡ to + length (flatMap indexBytes done)
@@ -135,19 +140,33 @@ module _ (old : List ℕ) (perIndex level from to : ℕ) where
     pub few : blocks ≤ end
     pub within : end ≤ length old
     pub holds : output ≡ stored old to (flatMap indexBytes done)
+    pub held : Within (take to old) (at .before)
 
-  pub leveling-none : to ≤ length old → Leveling old from to 0
-  unfolding levelFor flatMap
+  pub leveling-none : to ≤ length old → Leveling old (startAt from) to 0
+  unfolding levelFor flatMap startAt Within
   leveling-none h =
-      record { done = []; split = refl; ends = omega arith; counted = refl; few = omega arith; within = h; holds = sym (stored-nil old to) }
+      record {
+        done = [];
+        split = refl;
+        ends = omega arith;
+        counted = refl;
+        few = omega arith;
+        within = h;
+        holds = sym (stored-nil old to);
+        held = omega arith;
+      }
 
-  module _ (output : List ℕ) (at end blocks : ℕ) (v : Leveling output at end blocks) where
+  module _ (output : List ℕ) (at : Place) (end blocks : ℕ) (v : Leveling output at end blocks) where
     pub leveling-long : length output ≡ length old
     leveling-long = ap length (v .holds) ∙ length-stored old to (flatMap indexBytes (v .done))
 
     -- the run of blocks is as it was
     pub leveling-same : take to output ≡ take to old
     leveling-same = ap (take to) (v .holds) ∙ take-stored old to (flatMap indexBytes (v .done)) to (omega arith)
+
+    -- the record before the next block lies there
+    pub leveling-held : Within (take to output) (at .before)
+    leveling-held = subst (λ l. Within l (at .before)) (sym leveling-same) (v .held)
 
     module _ (some : 1 ≤ perIndex) (g : Group) (measured : Measured (take to output) at perIndex g) where
       first : g .count ≡ length (take perIndex (childrenOf at))
@@ -172,11 +191,13 @@ module _ (old : List ℕ) (perIndex level from to : ℕ) where
               let long = length-take perIndex (x ∷ xs) in omega arith)
 
       -- the entries of the next block
-      pub level-requires : (to ≤ end) × (g .length ≡ length (flatMap entryBytes (entriesFor output to at (g .count))))
+      pub level-requires : (to ≤ end) × Within (take to output) (at .before)
+          × (g .length ≡ length (flatMap entryBytes (entriesFor output to at (g .count))))
       unfolding entriesFor
       level-requires =
           let ends = v .ends in (
             omega arith,
+            leveling-held,
             measured .sized
                 ∙ ap (λ l. length (flatMap entryBytes l)) (sym (take-counted perIndex (childrenFrom (take to output) at)))
                 ∙ ap (λ k. length (flatMap entryBytes (take k (childrenFrom (take to output) at)))) (sym (measured .counted)),
@@ -284,4 +305,5 @@ module _ (old : List ℕ) (perIndex level from to : ℕ) where
                 holds =
                     stored-after old to (flatMap indexBytes (v .done)) (indexBytes block) (omega arith) (v .holds) ends e2
                     ∙ ap (stored old to) (sym (flatMap-snoc indexBytes (v .done) block));
+                held = subst (λ l. Within l (g .next .before)) leveling-same (measured .within);
               }

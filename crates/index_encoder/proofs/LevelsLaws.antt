@@ -1,7 +1,7 @@
 -- Laws of putting level after level.
 -- Assumes nothing.
 use mathlib.Core.Path.{_≡_, refl, sym, ap, _∙_}
-use mathlib.Core.Bool.{cond}
+use mathlib.Core.Bool.{false, cond}
 use mathlib.Core.Logic.{_⊎_, inl, inr}
 use mathlib.Core.List.{List, [], _∷_, _++_, flatMap, map, append-nil, append-assoc}
 use Prim.Native.Nat.{ℕ, zero, suc, _+_, _-_, _^_, _≤_, _<_}
@@ -10,24 +10,25 @@ use native.Mathlib.Omega.{arith}
 use lib.Dec.{leb}
 use lib.ListN.{length, take, drop, length-append, length-take, length-map}
 use lib.Seq.{take-take, take-at, length-take-le}
-use borrow.Author.Tests.{le-leb, lt-leb}
+use borrow.Author.Tests.{le-leb, lt-leb, ne-eqb}
 use Rattle.lists.specs.Groups.{groups, lastOr}
 use Rattle.lists.proofs.ListsLaws.{flatMap-append}
 use Rattle.lists.proofs.GroupsLaws.{groups-nil, groups-some, groups-half}
 use Rattle.output_bytes.specs.OutputBytes.{stored}
 use Rattle.output_bytes.proofs.OutputBytesLaws.{stored-some, length-stored, take-stored}
+use Rattle.block.specs.Block.{isData}
 use Rattle.layout.specs.Index.{IndexEntry, IndexBlock, indexBytes, entryFor, levelFrom, levelsFrom, indexOver, rootOf}
 use Rattle.layout.proofs.LiesLaws.{lies-last}
 use Rattle.layout.proofs.SideBySideLaws.{level-side-by-side}
-use Rattle.layout.proofs.IndexFitLaws.{length-level, level-some}
-use Rattle.layout.proofs.ChildrenBackLaws.{index-children-back}
+use Rattle.layout.proofs.IndexFitLaws.{length-level, level-member, level-some}
 use Rattle.index_encoder.specs.declared.RaiseOutcome.the-variants.{Answer as ARoot, Refused as NoRoot}
 use Rattle.index_encoder.specs.declared.level.LevelOutcome.the-variants.{Answer as ALevel, Refused as NoLevel}
-use Rattle.index_encoder.specs.Children.{childAt, childrenFrom}
+use Rattle.index_encoder.specs.Children.{childrenFrom, startAt}
 use Rattle.index_encoder.specs.Level.{levelFor, LevelPut}
 use Rattle.index_encoder.specs.Raise.{indexFor, raisedFrom, LevelsPut}
 use Rattle.index_encoder.proofs.StoredLaws.{stored-nil, stored-after}
 use Rattle.index_encoder.proofs.ChildLaws.{children-few}
+use Rattle.index_encoder.proofs.ChildrenBackLaws.{index-children-back}
 
 -- ---- the levels
 
@@ -45,21 +46,29 @@ root-last (x ∷ bs) b = ap entryFor (last x bs)
     last y [] = refl
     last y (z ∷ ys) = last z ys
 
+-- from level 1 on there is no data block
+index-level : (level : ℕ) → 1 ≤ level → {n : ℕ} → n ≡ level → isData n ≡ false
+unfolding isData
+index-level level h {n} e = ne-eqb n 0 (λ z. omega arith)
+
 -- a level that is put is read back as the entries that name its blocks
-pub level-back : (o : List ℕ) (perIndex level a b : ℕ) → 1 ≤ perIndex → length o ≤ 2 ^ 30
+pub level-back : (o : List ℕ) (perIndex level a b : ℕ) → 1 ≤ level → 1 ≤ perIndex → length o ≤ 2 ^ 30
     → b + length (flatMap indexBytes (levelFor perIndex level o a b)) ≤ length o → {new : List ℕ} {end : ℕ}
     → new ≡ stored o b (flatMap indexBytes (levelFor perIndex level o a b)) → end ≡ b + length (flatMap indexBytes (levelFor perIndex level o a b))
-    → childrenFrom (take end new) b ≡ map entryFor (levelFor perIndex level o a b)
-unfolding levelFor childrenFrom childAt
-level-back o perIndex level a b some short enough {new} {end} holds ends =
-    index-children-back s (let long = reach in omega arith) (childAt s) (λ at. refl) b bs
-    (λ x m. level-some perIndex some level b (childrenFrom (take b o) a) x m)
-    (level-side-by-side level b (groups perIndex (childrenFrom (take b o) a)))
+    → childrenFrom (take end new) (startAt b) ≡ map entryFor (levelFor perIndex level o a b)
+unfolding levelFor
+level-back o perIndex level a b low some short enough {new} {end} holds ends =
+    index-children-back s (let long = reach in omega arith) b bs
+    (λ x m. (level-some perIndex some level b es x m, index-level level low (level-member level b (groups perIndex es) x m .0)))
+    (level-side-by-side level b (groups perIndex es))
     (lies-last s (take b o) (flatMap indexBytes bs) b whole (sym front))
     (sym reach)
   where
+    es : List IndexEntry
+    es = childrenFrom (take b o) (startAt a)
+
     bs : List IndexBlock
-    bs = levelFrom level b (groups perIndex (childrenFrom (take b o) a))
+    bs = levelFrom level b (groups perIndex es)
 
     s : List ℕ
     s = take end new
@@ -86,26 +95,27 @@ module _ (old : List ℕ) (perIndex from to : ℕ) where
   pub record Raising (output : List ℕ) (level a b : ℕ) : Type 0 where
     pub done : List IndexBlock
     pub fuel : ℕ
-    pub enough : length (childrenFrom (take b output) a) ≤ fuel
-    pub split : indexFor perIndex old from to ≡ done ++ levelsFrom fuel perIndex level b (childrenFrom (take b output) a)
+    pub enough : length (childrenFrom (take b output) (startAt a)) ≤ fuel
+    pub split : indexFor perIndex old from to ≡ done ++ levelsFrom fuel perIndex level b (childrenFrom (take b output) (startAt a))
     pub ends : b ≡ to + length (flatMap indexBytes done)
     pub holds : output ≡ stored old to (flatMap indexBytes done)
     pub within : b ≤ length old
-    pub first : (done ≡ []) ⊎ (0 < length (childrenFrom (take b output) a))
+    pub first : (done ≡ []) ⊎ (0 < length (childrenFrom (take b output) (startAt a)))
     -- how many levels can follow
     pub above : ℕ
-    pub few : length (childrenFrom (take b output) a) ≤ 2 ^ above + 1
+    pub few : length (childrenFrom (take b output) (startAt a)) ≤ 2 ^ above + 1
     pub low : level + above ≤ 31
+    pub high : 1 ≤ level
 
   module _ (two : 2 ≤ perIndex) (short : length old ≤ 2 ^ 30) where
     pub raising-none : to ≤ length old → Raising old 1 from to
     unfolding indexFor indexOver flatMap
     raising-none h =
-        let few = children-few (take to old) from in
+        let few = children-few (take to old) (startAt from) in
         let long = length-take to old in
         record {
           done = [];
-          fuel = length (childrenFrom (take to old) from);
+          fuel = length (childrenFrom (take to old) (startAt from));
           enough = omega arith;
           split = refl;
           ends = omega arith;
@@ -115,6 +125,7 @@ module _ (old : List ℕ) (perIndex from to : ℕ) where
           above = 30;
           few = omega arith;
           low = omega arith;
+          high = omega arith;
         }
 
     module _ (output : List ℕ) (level a b : ℕ) (v : Raising output level a b) where
@@ -126,7 +137,7 @@ module _ (old : List ℕ) (perIndex from to : ℕ) where
       raising-requires = let long = raising-long in let within = v .within in (omega arith, omega arith, omega arith)
 
       abbrev es : List IndexEntry
-      es = childrenFrom (take b output) a
+      es = childrenFrom (take b output) (startAt a)
 
       abbrev here : List IndexBlock
       here = levelFor perIndex level output a b
@@ -314,11 +325,11 @@ module _ (old : List ℕ) (perIndex from to : ℕ) where
         unfolding upper
         raising-more many = by-entries (λ e. absurd (let counted = put .2 in let none = ap length (none-here e) in omega arith)) more
           where
-            back : childrenFrom (take end new) b ≡ map entryFor here
+            back : childrenFrom (take end new) (startAt b) ≡ map entryFor here
             back = let ends = put .0 in let within = put .1 in let r = raising-requires in
-                level-back output perIndex level a b (r .0) (r .2) (omega arith) (put .3) (put .0)
+                level-back output perIndex level a b (v .high) (r .0) (r .2) (omega arith) (put .3) (put .0)
 
-            counted-back : length (childrenFrom (take end new) b) ≡ length here
+            counted-back : length (childrenFrom (take end new) (startAt b)) ≡ length here
             counted-back = ap length back ∙ length-map here entryFor
 
             fewer : (above : ℕ) → length es ≤ 2 ^ above + 1 → level + above ≤ 31 → (next : ℕ) × (length here ≤ 2 ^ next + 1) × (level + 1 + next ≤ 31)
@@ -341,7 +352,7 @@ module _ (old : List ℕ) (perIndex from to : ℕ) where
                 let within = put .1 in
                 let next = fewer (v .above) (v .few) (v .low) in
                 let cb = counted-back in
-                let others : upper (on .fuel) ≡ levelsFrom (on .fuel) perIndex (level + 1) end (childrenFrom (take end new) b) =
+                let others : upper (on .fuel) ≡ levelsFrom (on .fuel) perIndex (level + 1) end (childrenFrom (take end new) (startAt b)) =
                 rw (lt-leb (length here) 1 (omega arith)) (ap (λ n. levelsFrom (on .fuel) perIndex (level + 1) n (map entryFor here)) (sym (put .0))
                 ∙ ap (levelsFrom (on .fuel) perIndex (level + 1) end) (sym back)) in
                 record {
@@ -356,4 +367,5 @@ module _ (old : List ℕ) (perIndex from to : ℕ) where
                   above = next .0;
                   few = let f = next .1 in omega arith;
                   low = next .2;
+                  high = omega arith;
                 }

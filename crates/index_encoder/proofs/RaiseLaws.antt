@@ -17,7 +17,7 @@ use Rattle.layout.specs.File.{fileFits}
 use Rattle.index_encoder.specs.declared.Raised.{Raised}
 use Rattle.index_encoder.specs.declared.RaiseOutcome.{RaiseOutcome}
 use Rattle.index_encoder.specs.declared.RaiseOutcome.the-variants.{Answer as ARoot, Refused as NoRoot}
-use Rattle.index_encoder.specs.Children.{childrenFrom}
+use Rattle.index_encoder.specs.Children.{childrenFrom, startAt}
 use Rattle.index_encoder.specs.Raise.{indexFor, raiseOf, raisedFrom, raisedOf, raiseSaid, withIndex, IndexPut, LevelsPut}
 use Rattle.index_encoder.proofs.StoredLaws.{by-order, stored-room}
 
@@ -71,7 +71,7 @@ module _ (o : List ℕ) (perIndex from to : ℕ) where
     module _ (within : room ≤ length o) (low : to ≤ room) (new : List ℕ) (long : length new ≡ length (take room o)) where
       same : indexFor perIndex (take room o) from to ≡ index
       unfolding indexFor
-      same = ap (λ l. indexOver perIndex to (childrenFrom l from)) (take-take to room o low)
+      same = ap (λ l. indexOver perIndex to (childrenFrom l (startAt from))) (take-take to room o low)
 
       kept-front : take to new ≡ take to (take room o) → take to (new ++ drop room o) ≡ take to o
       kept-front e = let cut = length-take-le room o within in

@@ -9,14 +9,14 @@ use Rattle.outcome.specs.Outcome.{Outcome, answer, refused, _>>=_, _>>_, must}
 use Rattle.output_bytes.specs.OutputBytes.{stored}
 use Rattle.layout.specs.Index.{IndexBlock, indexBytes, indexOver, rootOf}
 use Rattle.layout.specs.File.{fileFits}
-use Rattle.index_encoder.specs.Children.{childrenFrom}
+use Rattle.index_encoder.specs.Children.{childrenFrom, startAt}
 use Rattle.index_encoder.specs.declared.Raised.{Raised}
 use Rattle.index_encoder.specs.declared.RaiseOutcome.{RaiseOutcome}
 use Rattle.index_encoder.specs.declared.RaiseOutcome.the-variants.{Answer as ARoot, Refused as NoRoot}
 
 -- the index blocks over the blocks that stand in the output from `from` to `to`, to be put from `to` on
 unfoldable pub indexFor : (perIndex : ℕ) (output : List ℕ) (from to : ℕ) → List IndexBlock
-indexFor perIndex output from to = indexOver perIndex to (childrenFrom (take to output) from)
+indexFor perIndex output from to = indexOver perIndex to (childrenFrom (take to output) (startAt from))
 
 -- the same, or a refusal: 30 where an index block would hold fewer than two entries, 31 where they don't fit
 unfoldable pub raiseOf : (perIndex : ℕ) (output : List ℕ) (from to : ℕ) → Outcome (List IndexBlock)

@@ -1,5 +1,8 @@
-// The block at an offset of an output, as the entry that names it.
+// The next block of a run in an output, as the entry that names it.
+ghost use Prim.Native.Nat.{_+_, _≤_};
 ghost use mathlib.Core.Path.{_≡_};
+ghost use mathlib.Core.Option.{some};
+ghost use Rattle.layout.specs.File.{keyFor};
 ghost use Rattle.index_encoder.specs.Children as children;
 use framing::FrameOutcome;
 use framing::frame_at;
@@ -7,26 +10,101 @@ use part::Part;
 use payload::TextOutcome;
 use payload::text_at;
 
-pub enum EntryForOutcome {
-    // The key, which is the block's first record or first key, and the block's full size.
-    Answer { key: Part, size: usize },
+// Where a run goes on: the offset of the next block, and the record before it, an empty part where there is none.
+pub struct Place {
+    pub offset: usize,
+    pub before: Part,
+}
+
+pub enum ChildOutcome {
+    // The key of the entry, the block's last record, and its full size.
+    Answer {
+        key: Part,
+        last: Part,
+        size: usize,
+    },
     Refused(u64),
 }
 
-// The entry for the block at an offset of `s`.
-pub fn child_at(s: &[u8], at: usize) -> EntryForOutcome
-    ensures { λ r. ⌜ children.childSaid (now (s .entry)) at r ≡ children.childAt (now (s .entry)) at ⌝ }
-    ensures { λ r. ⌜ children.ChildWithin (now (s .entry)) at r ⌝ }
+// The key of a data block whose first record is `first`, after the record `before`.
+fn key_after(s: &[u8], before: Part, first: Part) -> Part
+    requires { ⌜ children.Within (now s) before × children.Within (now s) first ⌝ }
+    ensures { λ r. ⌜ children.bytesOf (now (s .entry)) r ≡ keyFor (some (children.bytesOf (now (s .entry)) before)) (children.bytesOf (now (s .entry)) first) ⌝ }
+    ensures { λ r. ⌜ (r .offset ≡ first .offset) × (r .length ≤ first .length) ⌝ }
 {
-    let frame = frame_at(s, at);
+    let a = before.offset;
+    let b = a + before.length;
+    let c = first.offset;
+    let d = c + first.length;
+    let comparison = byte_string::compare(&s[a..b], &s[c..d]);
+    let agreeing = comparison.agreeing;
+    if agreeing == before.length {
+        return Part {
+            offset: c,
+            length: agreeing,
+        };
+    }
+    if agreeing == first.length {
+        return first;
+    }
+    Part {
+        offset: c,
+        length: agreeing + 1,
+    }
+}
+
+// The last of the records that stand one after the other in `s`, from `first` to the end.
+fn last_record(s: &[u8], first: Part) -> Part
+    requires { ⌜ children.Within (now s) first ⌝ }
+    ensures { λ r. ⌜ children.bytesOf (now (s .entry)) r
+        ≡ children.lastFrom (now (s .entry)) (first .offset + first .length) (children.bytesOf (now (s .entry)) first) ⌝ }
+    ensures { λ r. ⌜ children.Within (now (s .entry)) r ⌝ }
+{
+    let mut last = first;
+    let mut at = first.offset + first.length;
+    while at < s.len() {
+        let step = text_at(s, at);
+        match step {
+            TextOutcome::Refused(_) => return last,
+            TextOutcome::Answer(next) => {
+                last = next;
+                at = next.offset + next.length;
+            },
+        }
+    }
+    last
+}
+
+// The block at a place of `s`.
+pub fn child_at(s: &[u8], place: Place) -> ChildOutcome
+    requires { ⌜ children.Within (now s) (place .before) ⌝ }
+    ensures { λ r. ⌜ children.childSaid (now (s .entry)) place r ≡ children.childAt (now (s .entry)) place ⌝ }
+    ensures { λ r. ⌜ children.ChildWithin (now (s .entry)) place r ⌝ }
+{
+    let frame = frame_at(s, place.offset);
     match frame {
-        FrameOutcome::Refused(n) => EntryForOutcome::Refused(n),
+        FrameOutcome::Refused(n) => ChildOutcome::Refused(n),
         FrameOutcome::Answer(f) => {
             let end = f.end;
-            let first = text_at(&s[..end], f.body + 1);
-            match first {
-                TextOutcome::Refused(n) => EntryForOutcome::Refused(n),
-                TextOutcome::Answer(key) => EntryForOutcome::Answer { key, size: f.size },
+            let found = text_at(&s[..end], f.body + 1);
+            match found {
+                TextOutcome::Refused(n) => ChildOutcome::Refused(n),
+                TextOutcome::Answer(first) => {
+                    if f.level != 0 {
+                        return ChildOutcome::Answer {
+                            key: first,
+                            last: first,
+                            size: f.size,
+                        };
+                    }
+                    let key = key_after(s, place.before, first);
+                    let last = last_record(&s[..end], first);
+                    ChildOutcome::Answer {
+                        key,
+                        last,
+                        size: f.size,
+                    }
+                },
             }
         },
     }

@@ -2,19 +2,20 @@
 ghost use Prim.Native.Nat.{ℕ, _+_, _^_, _≤_};
 ghost use mathlib.Core.Path.{_≡_};
 ghost use mathlib.Core.List.{List, flatMap};
-ghost use lib.ListN.{length};
+ghost use lib.ListN.{length, take};
 ghost use Rattle.output_bytes.specs.OutputBytes.{stored};
 ghost use Rattle.layout.specs.Index.{entryBytes};
-ghost use Rattle.index_encoder.specs.Children.{entryIn};
+ghost use Rattle.index_encoder.specs.Children.{entryIn, Within};
 ghost use Rattle.index_encoder.specs.Level.{Measured, entriesFor};
-use crate::child::EntryForOutcome;
+use crate::child::ChildOutcome;
+use crate::child::Place;
 use crate::child::child_at;
 use part::Part;
 
-// A group of blocks that stand side by side: how many, where they end, and how many bytes their entries take.
+// A group of blocks that stand side by side: how many, where the run goes on, and how many bytes their entries take.
 pub struct Group {
     pub count: u64,
-    pub next: usize,
+    pub next: Place,
     pub length: usize,
 }
 
@@ -29,9 +30,9 @@ fn entry_length(key: Part, offset: usize, size: usize) -> usize
         + uleb128::number_length(size as u64)
 }
 
-// The blocks of `s` from an offset on, at most `most` of them.
-pub fn measure(s: &[u8], from: usize, most: u64) -> Group
-    requires { ⌜ length (now s) ≤ 2 ^ 30 ⌝ }
+// The blocks of `s` from a place on, at most `most` of them.
+pub fn measure(s: &[u8], from: Place, most: u64) -> Group
+    requires { ⌜ (length (now s) ≤ 2 ^ 30) × Within (now s) (from .before) ⌝ }
     ensures { λ r. ⌜ Measured (now (s .entry)) from most r ⌝ }
 {
     let mut at = from;
@@ -40,14 +41,17 @@ pub fn measure(s: &[u8], from: usize, most: u64) -> Group
     while count < most {
         let child = child_at(s, at);
         match child {
-            EntryForOutcome::Refused(_) => return Group {
+            ChildOutcome::Refused(_) => return Group {
                 count,
                 next: at,
                 length,
             },
-            EntryForOutcome::Answer { key, size } => {
-                length += entry_length(key, at, size);
-                at += size;
+            ChildOutcome::Answer { key, last, size } => {
+                length += entry_length(key, at.offset, size);
+                at = Place {
+                    offset: at.offset + size,
+                    before: last,
+                };
                 count += 1;
             },
         }
@@ -73,8 +77,9 @@ fn put_entry(output: &mut [u8], place: usize, key: Part, offset: usize, size: us
 }
 
 // Puts the entries for the first `count` blocks from `from` on of the run that ends at `to`; answers where they end.
-pub fn put_entries(output: &mut [u8], to: usize, from: usize, count: u64, place: usize) -> usize
-    requires { ⌜ (to ≤ place) × (place + length (flatMap entryBytes (entriesFor (now output) to from count)) ≤ length (now output)) ⌝ }
+pub fn put_entries(output: &mut [u8], to: usize, from: Place, count: u64, place: usize) -> usize
+    requires { ⌜ (to ≤ place) × Within (take to (now output)) (from .before)
+        × (place + length (flatMap entryBytes (entriesFor (now output) to from count)) ≤ length (now output)) ⌝ }
     ensures { λ r. ⌜ r ≡ place + length (flatMap entryBytes (entriesFor (now (output .entry)) to from count)) ⌝ }
     ensures { λ _. ⌜ now (output .exit) ≡ stored (now (output .entry)) place (flatMap entryBytes (entriesFor (now (output .entry)) to from count)) ⌝ }
 {
@@ -84,10 +89,13 @@ pub fn put_entries(output: &mut [u8], to: usize, from: usize, count: u64, place:
     while 0 < left {
         let child = child_at(&output[..to], at);
         match child {
-            EntryForOutcome::Refused(_) => return end,
-            EntryForOutcome::Answer { key, size } => {
-                end = put_entry(output, end, key, at, size);
-                at += size;
+            ChildOutcome::Refused(_) => return end,
+            ChildOutcome::Answer { key, last, size } => {
+                end = put_entry(output, end, key, at.offset, size);
+                at = Place {
+                    offset: at.offset + size,
+                    before: last,
+                };
                 left -= 1;
             },
         }

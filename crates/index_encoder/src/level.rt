@@ -2,13 +2,16 @@
 ghost use Prim.Native.Nat.{_^_, _≤_};
 ghost use mathlib.Core.Path.{_≡_};
 ghost use mathlib.Core.List.{flatMap};
-ghost use lib.ListN.{length};
+ghost use lib.ListN.{length, take};
 ghost use Rattle.output_bytes.specs.OutputBytes.{stored, storedLength};
 ghost use Rattle.layout.specs.Index.{entryBytes, indexBytes};
+ghost use Rattle.index_encoder.specs.Children.{Within};
 ghost use Rattle.index_encoder.specs.Level.{entriesFor, blockFor, levelFor, LevelPut};
+use crate::child::Place;
 use crate::entries::Group;
 use crate::entries::measure;
 use crate::entries::put_entries;
+use part::Part;
 
 pub enum LevelOutcome {
     // Where the level ends, and how many blocks it has.
@@ -23,11 +26,12 @@ fn put_index_block(
     output: &mut [u8],
     level: u8,
     to: usize,
-    from: usize,
+    from: Place,
     group: Group,
     place: usize,
 ) -> usize
-    requires { ⌜ (to ≤ place) × (group .length ≡ length (flatMap entryBytes (entriesFor (now output) to from (group .count)))) ⌝ }
+    requires { ⌜ (to ≤ place) × Within (take to (now output)) (from .before)
+        × (group .length ≡ length (flatMap entryBytes (entriesFor (now output) to from (group .count)))) ⌝ }
     ensures { λ r. ⌜ r ≡ storedLength (now (output .entry)) place (indexBytes (blockFor (now (output .entry)) level to from (group .count) place)) ⌝ }
     ensures { λ _. ⌜ now (output .exit)
         ≡ stored (now (output .entry)) place (indexBytes (blockFor (now (output .entry)) level to from (group .count) place)) ⌝ }
@@ -56,7 +60,14 @@ pub fn put_level(
     requires { ⌜ (1 ≤ «per_index») × (to ≤ length (now output)) × (length (now output) ≤ 2 ^ 30) ⌝ }
     ensures { λ r. ⌜ LevelPut (now (output .entry)) (now (output .exit)) to (levelFor «per_index» level (now (output .entry)) from to) r ⌝ }
 {
-    let mut at = from;
+    let none = Part {
+        offset: 0,
+        length: 0,
+    };
+    let mut at = Place {
+        offset: from,
+        before: none,
+    };
     let mut end = to;
     let mut blocks: usize = 0;
     loop {

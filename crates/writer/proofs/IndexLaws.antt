@@ -20,8 +20,8 @@ use Rattle.layout.specs.Index.{IndexBlock, indexBytes, indexOver}
 use Rattle.layout.specs.File.{blocksStart, dataEntries, dataPart, indexBlocks, rootEntry, fileOf, fileFits}
 use Rattle.layout.proofs.LiesLaws.{lies-last}
 use Rattle.layout.proofs.KeyLaws.{Filled}
-use Rattle.layout.proofs.ChildrenBackLaws.{data-children-back}
-use Rattle.index_encoder.specs.Children.{childAt, childrenFrom}
+use Rattle.index_encoder.specs.Children.{childrenFrom, startAt}
+use Rattle.index_encoder.proofs.ChildrenBackLaws.{data-children-back}
 use Rattle.index_encoder.specs.Raise.{indexFor, raiseOf, raisedFrom, raisedOf, withIndex}
 use Rattle.index_encoder.specs.declared.Raised.{Raised}
 use Rattle.writer.specs.Steps.{endIfFits}
@@ -63,14 +63,14 @@ module _ (metadata : List ℕ) (blocks : List (List (List ℕ))) (perIndex room 
   taken : take to output ≡ S
   taken = ap (take to) stands ∙ ap (λ (n : ℕ). take n (padded room S)) (sym long) ∙ take-padded room S
 
-  children : childrenFrom S from ≡ dataEntries none from blocks
-  unfolding childrenFrom childAt
-  children = data-children-back S (omega (arith, long)) (childAt S) (λ at. refl) from blocks filled (lies-last S (zeros from) (flatMap dataBytes blocks) from refl (sym (length-zeros from)))
+  children : childrenFrom S (startAt from) ≡ dataEntries none from blocks
+  children =
+      data-children-back S (omega (arith, long)) from blocks filled (lies-last S (zeros from) (flatMap dataBytes blocks) from refl (sym (length-zeros from)))
       (sym ends ∙ sym long)
 
   index-is : indexFor perIndex output from to ≡ index
   unfolding indexFor indexBlocks dataPart
-  index-is = ap (λ z. indexOver perIndex to (childrenFrom z from)) taken ∙ ap (indexOver perIndex to) children
+  index-is = ap (λ z. indexOver perIndex to (childrenFrom z (startAt from))) taken ∙ ap (indexOver perIndex to) children
       ∙ ap (λ (n : ℕ). indexOver perIndex n (dataEntries none from blocks)) ends
 
   abbrev end : ℕ

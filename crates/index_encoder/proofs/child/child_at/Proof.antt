@@ -1,4 +1,5 @@
--- `child_at` meets its contract: the frame, then the first byte string of the payload. Assumes nothing.
+-- `child_at` meets its contract: the frame, the first byte string of the payload, and for a data block its key and its last record.
+-- Assumes nothing.
 use mathlib.Core.Path.{sym, ap, _∙_}
 use native.Mathlib.Omega.{arith}
 use borrow.Author.Needs.{needs}
@@ -7,8 +8,8 @@ use lib.Seq.{length-take-le}
 use Rattle.framing.specs.Answers.{frameSaid}
 use Rattle.framing.proofs.FrameLaws.{frame⇒Framed}
 use Rattle.payload.specs.Answers.{textSaid}
-use Rattle.index_encoder.specs.Children.{childSaid, ChildWithin}
-use Rattle.index_encoder.proofs.ChildLaws.{child-frameless, child-keyless, child-told}
+use Rattle.index_encoder.specs.Children.{bytesOf, Within, childAt, childSaid, ChildWithin}
+use Rattle.index_encoder.proofs.ChildLaws.{child-frameless, child-keyless, first-within, index-child-told, data-child-told}
 use Rattle.index_encoder.proofs.child.child_at.Statement.{statement}
 use Rattle.index_encoder.proofs.child.child_at.Tie as tie
 
@@ -27,8 +28,8 @@ slice-aggregate-text-at c =
     let args = c .before .before .before .before .before .before .args in
     let frame-at = c .before .before .before .before .frame-at in
     let frame2 = c .before .before .frame2 in
-    let f = frame⇒Framed (now (args .s)) (args .at) _ (sym (frame-at .ensures) ∙ ap (frameSaid (args .at)) (frame2 .given .1)) in let sized
-    = f .sized in let within = f .within in sym (length-take-le _ (now (args .s)) (omega arith))
+    let f = frame⇒Framed (now (args .s)) (args .place .offset) _ (sym (frame-at .ensures) ∙ ap (frameSaid (args .place .offset))
+    (frame2 .given .1)) in let sized = f .sized in let within = f .within in sym (length-take-le _ (now (args .s)) (omega arith))
 
 add-text-at : tie.Need-add-text-at
 unfolding frameSaid
@@ -37,49 +38,93 @@ add-text-at c =
     let frame-at = c .before .before .before .before .before .frame-at in
     let frame2 = c .before .before .before .frame2 in
     let good = c .before .before .before .before .before .before .before .good in
-    let f = frame⇒Framed (now (args .s)) (args .at) _ (sym (frame-at .ensures) ∙ ap (frameSaid (args .at)) (frame2 .given .1)) in let some =
-    f .some in let sized = f .sized in let within = f .within in omega (arith, good)
+    let f = frame⇒Framed (now (args .s)) (args .place .offset) _ (sym (frame-at .ensures) ∙ ap (frameSaid (args .place .offset))
+    (frame2 .given .1)) in let some = f .some in let sized = f .sized in let within = f .within in omega (arith, good)
 
 text-at-requires : tie.Need-text-at-requires
 text-at-requires c κs = search needs
 
-enum-known-first : tie.Need-enum-known-first
-enum-known-first c = search needs
+enum-known-found : tie.Need-enum-known-found
+enum-known-found c = search needs
 
-enum-known-first-2 : tie.Need-enum-known-first-2
-enum-known-first-2 c = search needs
+enum-known-found-2 : tie.Need-enum-known-found-2
+enum-known-found-2 c = search needs
 
 returns : tie.Need-returns
-unfolding frameSaid childSaid ChildWithin
+unfolding frameSaid textSaid
 returns c =
-    let args = c .before .before .before .before .before .args in
-    let frame-at = c .before .before .before .frame-at in (
-      sym (child-frameless (now (args .s)) (args .at) _ _ (sym (frame-at .ensures) ∙ ap (frameSaid (args .at))
-          (c .before .frame .given .1))),
-      tt,
-    )
+    let args = c .before .before .before .before .before .before .before .before .before .before .before .before .before .args in
+    let frame-at = c .before .before .before .before .before .before .before .before .before .before .before .frame-at in
+    let frame2 = c .before .before .before .before .before .before .before .before .before .frame2 in
+    let text-at = c .before .before .before .before .before .text-at in
+    let found2 = c .before .before .before .found2 in
+    index-child-told (now (args .s)) (args .place) _ (sym (frame-at .ensures) ∙ ap (frameSaid (args .place .offset)) (frame2 .given .1)) _
+    (sym (text-at .ensures (args .place .offset)) ∙ ap (textSaid (args .place .offset) _) (found2 .given .1)) (c .if1 .taken)
+
+key-after-requires : tie.Need-key-after-requires
+unfolding frameSaid textSaid
+key-after-requires c κs =
+    let pre = c .before .before .before .before .before .before .before .before .before .before .before .before .before .pre in
+    let args = c .before .before .before .before .before .before .before .before .before .before .before .before .before .args in
+    let frame-at = c .before .before .before .before .before .before .before .before .before .before .before .frame-at in
+    let frame2 = c .before .before .before .before .before .before .before .before .before .frame2 in
+    let text-at = c .before .before .before .before .before .text-at in
+    let found2 = c .before .before .before .found2 in
+    (pre, first-within (now (args .s)) (args .place) _ (sym (frame-at .ensures) ∙ ap (frameSaid (args .place .offset)) (frame2 .given .1)) _
+    (sym (text-at .ensures (args .place .offset)) ∙ ap (textSaid (args .place .offset) _) (found2 .given .1)) .0)
+
+slice-aggregate-last-record : tie.Need-slice-aggregate-last-record
+unfolding frameSaid
+slice-aggregate-last-record c =
+    let args = c .before .before .before .before .before .before .before .before .before .before .before .before .before .before .before .args in
+    let frame-at = c .before .before .before .before .before .before .before .before .before .before .before .before .before .frame-at in
+    let frame2 = c .before .before .before .before .before .before .before .before .before .before .before .frame2 in
+    let f = frame⇒Framed (now (args .s)) (args .place .offset) _ (sym (frame-at .ensures) ∙ ap (frameSaid (args .place .offset))
+    (frame2 .given .1)) in let sized = f .sized in let within = f .within in sym (length-take-le _ (now (args .s)) (omega arith))
+
+last-record-requires : tie.Need-last-record-requires
+unfolding frameSaid textSaid
+last-record-requires c κs =
+    let args = c .before .before .before .before .before .before .before .before .before .before .before .before .before .before .before .args in
+    let frame-at = c .before .before .before .before .before .before .before .before .before .before .before .before .before .frame-at in
+    let frame2 = c .before .before .before .before .before .before .before .before .before .before .before .frame2 in
+    let text-at = c .before .before .before .before .before .before .before .text-at in
+    let found2 = c .before .before .before .before .before .found2 in
+    first-within (now (args .s)) (args .place) _ (sym (frame-at .ensures) ∙ ap (frameSaid (args .place .offset)) (frame2 .given .1)) _ (sym
+    (text-at .ensures (args .place .offset)) ∙ ap (textSaid (args .place .offset) _) (found2 .given .1)) .1
 
 returns-2 : tie.Need-returns-2
-unfolding frameSaid textSaid childSaid ChildWithin
+unfolding frameSaid childAt childSaid ChildWithin
 returns-2 c =
-    let args = c .before .before .before .before .before .before .before .before .before .before .before .args in
-    let frame-at = c .before .before .before .before .before .before .before .before .before .frame-at in
-    let frame2 = c .before .before .before .before .before .before .before .frame2 in
-    let text-at = c .before .before .before .text-at in (
-      sym (child-keyless (now (args .s)) (args .at) _ _ _ (sym (frame-at .ensures) ∙ ap (frameSaid (args .at)) (frame2 .given .1)) (sym
-          (text-at .ensures (args .at)) ∙ ap (textSaid (args .at) _) (c .before .first .given .1))),
-      tt,
-    )
+    let args = c .before .before .before .before .before .args in
+    let frame-at = c .before .before .before .frame-at in
+    (sym (child-frameless (now (args .s)) (bytesOf (now (args .s)) (args .place .before)) (args .place .offset) _ _ (sym (frame-at .ensures)
+    ∙ ap (frameSaid (args .place .offset)) (c .before .frame .given .1))), tt)
 
 returns-3 : tie.Need-returns-3
-unfolding frameSaid textSaid
+unfolding frameSaid textSaid childAt childSaid ChildWithin
 returns-3 c =
     let args = c .before .before .before .before .before .before .before .before .before .before .before .args in
     let frame-at = c .before .before .before .before .before .before .before .before .before .frame-at in
     let frame2 = c .before .before .before .before .before .before .before .frame2 in
     let text-at = c .before .before .before .text-at in
-    child-told (now (args .s)) (args .at) _ _ (sym (frame-at .ensures) ∙ ap (frameSaid (args .at)) (frame2 .given .1)) (sym
-    (text-at .ensures (args .at)) ∙ ap (textSaid (args .at) _) (c .before .first2 .given .1))
+    (sym (child-keyless (now (args .s)) (bytesOf (now (args .s)) (args .place .before)) (args .place .offset) _ (sym (frame-at .ensures) ∙
+    ap (frameSaid (args .place .offset)) (frame2 .given .1)) _ _ (sym (text-at .ensures (args .place .offset)) ∙ ap (textSaid
+    (args .place .offset) _) (c .before .found .given .1))), tt)
+
+returns-4 : tie.Need-returns-4
+unfolding frameSaid textSaid
+returns-4 c =
+    let args = c .before .before .before .before .before .before .before .before .before .before .before .before .before .before .before .before .args in
+    let frame-at = c .before .before .before .before .before .before .before .before .before .before .before .before .before .before .frame-at in
+    let frame2 = c .before .before .before .before .before .before .before .before .before .before .before .before .frame2 in
+    let text-at = c .before .before .before .before .before .before .before .before .text-at in
+    let found2 = c .before .before .before .before .before .before .found2 in
+    let if1 = c .before .before .before .if1 in
+    let key-after = c .before .before .key-after in
+    data-child-told (now (args .s)) (args .place) _ (sym (frame-at .ensures) ∙ ap (frameSaid (args .place .offset)) (frame2 .given .1)) _
+    (sym (text-at .ensures (args .place .offset)) ∙ ap (textSaid (args .place .offset) _) (found2 .given .1)) (if1 .left) _ _
+    (key-after .ensures .0) (key-after .ensures .1 .0) (key-after .ensures .1 .1) (c .last-record .ensures .0) (c .last-record .ensures .1)
 
 pub child-at-spec : {M : Type 1} → statement M
 child-at-spec =
@@ -91,8 +136,12 @@ child-at-spec =
     slice-aggregate-text-at
     add-text-at
     text-at-requires
-    enum-known-first
-    enum-known-first-2
+    enum-known-found
+    enum-known-found-2
     returns
+    key-after-requires
+    slice-aggregate-last-record
+    last-record-requires
     returns-2
-    returns-3)
+    returns-3
+    returns-4)

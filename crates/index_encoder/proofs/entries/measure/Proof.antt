@@ -9,19 +9,19 @@ use Rattle.index_encoder.proofs.entries.measure.Statement.{statement}
 use Rattle.index_encoder.proofs.entries.measure.Tie as tie
 
 abbrev Inv-loop : tie.InvT-loop
-Inv-loop s from most at₀ count₀ length₀ at count length =
-    Measuring s from most at count length
+Inv-loop s most at₀ count₀ length₀ at count length =
+    Measuring s at₀ most at count length
 
 abbrev μ-loop : tie.MeasureT-loop
-μ-loop s from most at₀ count₀ length₀ at count length =
+μ-loop s most at₀ count₀ length₀ at count length =
     most - count
 
 loop-holds : tie.Need-loop-holds Inv-loop μ-loop
 loop-holds c =
-    measuring-none _ _ _
+    measuring-none _ _ _ (c .before .pre .1)
 
 child-at-requires : tie.Need-child-at-requires Inv-loop μ-loop
-child-at-requires c κs = search needs
+child-at-requires c κs = c .before .loop .inv .within
 
 enum-told : tie.Need-enum-told Inv-loop μ-loop
 enum-told c = search needs
@@ -30,7 +30,7 @@ returns : tie.Need-returns Inv-loop μ-loop
 returns c =
     let loop = c .before .before .before .before .loop in
     let child-at = c .before .before .child-at in
-    measured-all _ _ _ _ _ _ (loop .inv) _ _ (child-none _ (loop .at) (omega arith) _ (child-at .ensures .0) _ (c .enum-told .given .1))
+    measured-all _ _ _ _ _ _ (loop .inv) _ _ (child-none _ (loop .at) _ (child-at .ensures .0) _ (c .enum-told .given .1))
 
 enum-known-child : tie.Need-enum-known-child Inv-loop μ-loop
 enum-known-child c = search needs
@@ -42,13 +42,8 @@ entry-length-requires c κs =
     let loop = c .before .before .before .before .before .loop in
     let child-at = c .before .before .before .child-at in
     let pre = c .before .before .before .before .before .before .before .pre in
-    let known = child-known (now (args .s)) (loop .at) (omega arith) _ (child-at .ensures .0) _ _ (c .before .child .given .1)
-    (child-at .ensures .1) in let a = known .1 .0 in let b = known .1 .1 in let d = known .1 .2 in let short = pre in (
-      omega arith,
-      omega
-          arith,
-      omega arith,
-    )
+    let known = child-known (now (args .s)) (loop .at) _ (child-at .ensures .0) _ _ _ (c .before .child .given .1) (child-at .ensures .1) in
+    let a = known .1 .0 in let b = known .1 .1 in let d = known .1 .3 in let short = pre .0 in ( omega arith, omega arith, omega arith, )
 
 add-length : tie.Need-add-length Inv-loop μ-loop
 unfolding ChildWithin
@@ -58,21 +53,21 @@ add-length c =
     let child-at = c .before .before .before .before .child-at in
     let child = c .before .before .child in
     let pre = c .before .before .before .before .before .before .before .before .pre in
-    let known = child-known (now (args .s)) (loop .at) (omega arith) _ (child-at .ensures .0) _ _ (child .given .1) (child-at .ensures .1)
-    in let a = known .1 .0 in let b = known .1 .1 in let d = known .1 .2 in let short = pre in let more = measuring-bound _ _ _ _ _ _
-    (loop .inv) _ _ (known .0) (known .1) short in let bounded = loop .inv .bounded in let onward = loop .inv .onward in let long =
+    let known = child-known (now (args .s)) (loop .at) _ (child-at .ensures .0) _ _ _ (child .given .1) (child-at .ensures .1) in let a =
+    known .1 .0 in let b = known .1 .1 in let d = known .1 .3 in let short = pre .0 in let more = measuring-bound _ _ _ _ _ _ (loop .inv) _
+    _ _ (known .0) (known .1) short in let bounded = loop .inv .bounded in let onward = loop .inv .onward in let long =
     c .entry-length .ensures (now (args .s)) (omega arith) in omega arith
 
-add-at : tie.Need-add-at Inv-loop μ-loop
+add-t12 : tie.Need-add-t12 Inv-loop μ-loop
 unfolding ChildWithin
-add-at c =
-    let args = c .before .before .before .before .before .before .before .before .args in
-    let loop = c .before .before .before .before .before .before .loop in
-    let child-at = c .before .before .before .before .child-at in
-    let child = c .before .before .child in
-    let pre = c .before .before .before .before .before .before .before .before .pre in
-    let known = child-known (now (args .s)) (loop .at) (omega arith) _ (child-at .ensures .0) _ _ (child .given .1) (child-at .ensures .1)
-    in let d = known .1 .2 in let short = pre in omega arith
+add-t12 c =
+    let args = c .before .before .before .before .before .before .before .before .before .args in
+    let loop = c .before .before .before .before .before .before .before .loop in
+    let child-at = c .before .before .before .before .before .child-at in
+    let child = c .before .before .before .child in
+    let pre = c .before .before .before .before .before .before .before .before .before .pre in
+    let known = child-known (now (args .s)) (loop .at) _ (child-at .ensures .0) _ _ _ (child .given .1) (child-at .ensures .1) in let d =
+    known .1 .3 in let short = pre .0 in omega arith
 
 add-count : tie.Need-add-count Inv-loop μ-loop
 add-count c = search needs
@@ -83,14 +78,14 @@ loop-less c = search needs
 loop-again : tie.Need-loop-again Inv-loop μ-loop
 unfolding ChildWithin
 loop-again c =
-    let args = c .before .before .before .before .before .before .before .before .args in
-    let loop = c .before .before .before .before .before .before .loop in
-    let child-at = c .before .before .before .before .child-at in
-    let child = c .before .before .child in
-    let pre = c .before .before .before .before .before .before .before .before .pre in
-    let known = child-known (now (args .s)) (loop .at) (omega arith) _ (child-at .ensures .0) _ _ (child .given .1) (child-at .ensures .1)
-    in let b = known .1 .1 in let d = known .1 .2 in let short = pre in rw (c .entry-length .ensures (now (args .s)) (omega arith))
-    (measuring-more _ _ _ _ _ _ (loop .inv) _ _ (known .0) (known .1) short (omega arith))
+    let args = c .before .before .before .before .before .before .before .before .before .args in
+    let loop = c .before .before .before .before .before .before .before .loop in
+    let child-at = c .before .before .before .before .before .child-at in
+    let child = c .before .before .before .child in
+    let pre = c .before .before .before .before .before .before .before .before .before .pre in
+    let known = child-known (now (args .s)) (loop .at) _ (child-at .ensures .0) _ _ _ (child .given .1) (child-at .ensures .1) in let b =
+    known .1 .1 in let d = known .1 .3 in let short = pre .0 in rw (c .before .entry-length .ensures (now (args .s)) (omega arith))
+    (measuring-more _ _ _ _ _ _ (loop .inv) _ _ _ (known .0) (known .1) short (omega arith))
 
 returns-2 : tie.Need-returns-2 Inv-loop μ-loop
 returns-2 c =
@@ -109,7 +104,7 @@ measure-spec =
     enum-known-child
     entry-length-requires
     add-length
-    add-at
+    add-t12
     add-count
     loop-less
     loop-again

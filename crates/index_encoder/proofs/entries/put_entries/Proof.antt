@@ -3,36 +3,39 @@ use mathlib.Core.Path.{sym}
 use native.Mathlib.Omega.{arith}
 use borrow.Author.Needs.{needs}
 use lib.Seq.{length-take-le}
-use Rattle.index_encoder.proofs.EntryLaws.{child-known, child-none, Entering, entering-none, entering-long, entering-all, entering-refused, entering-fits, entering-more}
+use Rattle.index_encoder.proofs.EntryLaws.{child-known, child-none, Entering, entering-none, entering-long, entering-all, entering-refused, entering-within, entering-fits, entering-more}
 use Rattle.index_encoder.proofs.entries.put_entries.Statement.{statement}
 use Rattle.index_encoder.proofs.entries.put_entries.Tie as tie
 
 abbrev Inv-loop : tie.InvT-loop
-Inv-loop output₀ to from count place at₀ end₀ left₀ output at end left =
-    Entering output₀ to from count place output at end left
+Inv-loop output₀ to count place at₀ end₀ left₀ output at end left =
+    Entering output₀ to at₀ count place output at end left
 
 abbrev μ-loop : tie.MeasureT-loop
-μ-loop output₀ to from count place at₀ end₀ left₀ output at end left =
+μ-loop output₀ to count place at₀ end₀ left₀ output at end left =
     left
 
 loop-holds : tie.Need-loop-holds Inv-loop μ-loop
 loop-holds c =
-    entering-none _ _ _ _ _
+    entering-none _ _ _ _ _ (c .before .pre .1)
 
 slice-reshare-prefix-child-at : tie.Need-slice-reshare-prefix-child-at Inv-loop μ-loop
 slice-reshare-prefix-child-at c =
     let pre = c .before .before .before .pre in
-    let long = entering-long _ _ _ _ _ _ _ _ _ (c .before .loop .inv) in let low = pre .0 in let enough = pre .1 in omega arith
+    let long = entering-long _ _ _ _ _ _ _ _ _ (c .before .loop .inv) in let low = pre .0 in let enough = pre .2 in omega arith
 
 slice-aggregate-child-at : tie.Need-slice-aggregate-child-at Inv-loop μ-loop
 slice-aggregate-child-at c =
     let loop = c .before .before .loop in
     let pre = c .before .before .before .before .pre in
-    let long = entering-long _ _ _ _ _ _ _ _ _ (loop .inv) in let low = pre .0 in let enough = pre .1 in sym (length-take-le _ _ (omega
+    let long = entering-long _ _ _ _ _ _ _ _ _ (loop .inv) in let low = pre .0 in let enough = pre .2 in sym (length-take-le _ _ (omega
     arith))
 
 child-at-requires : tie.Need-child-at-requires Inv-loop μ-loop
-child-at-requires c κs = search needs
+child-at-requires c κs =
+    let loop = c .before .before .loop in
+    let pre = c .before .before .before .before .pre in
+    entering-within _ _ _ _ _ _ _ _ _ (loop .inv) (pre .0)
 
 enum-told : tie.Need-enum-told Inv-loop μ-loop
 enum-told c = search needs
@@ -47,7 +50,7 @@ returns c =
     let loop = c .before .before .before .before .before .loop in
     let pre = c .before .before .before .before .before .before .before .pre in
     let child-at = c .before .before .child-at in
-    entering-refused _ _ _ _ _ _ _ _ _ (loop .inv) (pre .0) _ _ (child-none _ (loop .at) (omega arith) _ (child-at .ensures .0) _
+    entering-refused _ _ _ _ _ _ _ _ _ (loop .inv) (pre .0) _ _ (child-none _ (loop .at) _ (child-at .ensures .0) _
     (c .enum-told .given .1))
 
 enum-known-child : tie.Need-enum-known-child Inv-loop μ-loop
@@ -59,17 +62,17 @@ put-entry-requires c κs =
     let child-at = c .before .before .before .before .child-at in
     let child = c .before .before .child in
     let pre = c .before .before .before .before .before .before .before .before .before .pre in
-    let known = child-known _ (loop .at) (omega arith) _ (child-at .ensures .0) _ _ (child .given .1) (child-at .ensures .1) in let fits =
-    entering-fits _ _ _ _ _ _ _ _ _ (loop .inv) (pre .0) _ _ (known .0) (known .1) (omega arith) (pre .1) in (fits .0, fits .1)
+    let known = child-known _ (loop .at) _ (child-at .ensures .0) _ _ _ (child .given .1) (child-at .ensures .1) in let fits = entering-fits
+    _ _ _ _ _ _ _ _ _ (loop .inv) (pre .0) _ _ _ (known .0) (known .1) (omega arith) (pre .2) in (fits .0, fits .1)
 
-add-at : tie.Need-add-at Inv-loop μ-loop
-add-at c =
-    let loop = c .before .before .before .before .before .before .before .before .before .before .loop in
-    let child-at = c .before .before .before .before .before .before .before .child-at in
-    let child = c .before .before .before .before .before .child in
-    let pre = c .before .before .before .before .before .before .before .before .before .before .before .before .pre in
-    let known = child-known _ (loop .at) (omega arith) _ (child-at .ensures .0) _ _ (child .given .1) (child-at .ensures .1) in let fits =
-    entering-fits _ _ _ _ _ _ _ _ _ (loop .inv) (pre .0) _ _ (known .0) (known .1) (omega arith) (pre .1) in omega (arith, fits .2)
+add-t18 : tie.Need-add-t18 Inv-loop μ-loop
+add-t18 c =
+    let loop = c .before .before .before .before .before .before .before .before .before .before .before .loop in
+    let child-at = c .before .before .before .before .before .before .before .before .child-at in
+    let child = c .before .before .before .before .before .before .child in
+    let pre = c .before .before .before .before .before .before .before .before .before .before .before .before .before .pre in
+    let known = child-known _ (loop .at) _ (child-at .ensures .0) _ _ _ (child .given .1) (child-at .ensures .1) in let fits = entering-fits
+    _ _ _ _ _ _ _ _ _ (loop .inv) (pre .0) _ _ _ (known .0) (known .1) (omega arith) (pre .2) in omega (arith, fits .2)
 
 sub-left : tie.Need-sub-left Inv-loop μ-loop
 sub-left c = search needs
@@ -79,14 +82,13 @@ loop-less c = search needs
 
 loop-again : tie.Need-loop-again Inv-loop μ-loop
 loop-again c =
-    let loop = c .before .before .before .before .before .before .before .before .before .before .loop in
-    let child-at = c .before .before .before .before .before .before .before .child-at in
-    let child = c .before .before .before .before .before .child in
-    let pre = c .before .before .before .before .before .before .before .before .before .before .before .before .pre in
-    let put-entry = c .before .before .put-entry in
-    let known = child-known _ (loop .at) (omega arith) _ (child-at .ensures .0) _ _ (child .given .1) (child-at .ensures .1) in
-    entering-more _ _ _ _ _ _ _ _ _ (loop .inv) (pre .0) _ _ (known .0) (known .1) (omega arith) (pre .1) (put-entry .ensures .0)
-    (put-entry .ensures .1)
+    let loop = c .before .before .before .before .before .before .before .before .before .before .before .loop in
+    let child-at = c .before .before .before .before .before .before .before .before .child-at in
+    let child = c .before .before .before .before .before .before .child in
+    let pre = c .before .before .before .before .before .before .before .before .before .before .before .before .before .pre in
+    let put-entry = c .before .before .before .put-entry in
+    let known = child-known _ (loop .at) _ (child-at .ensures .0) _ _ _ (child .given .1) (child-at .ensures .1) in entering-more _ _ _ _ _
+    _ _ _ _ (loop .inv) (pre .0) _ _ _ (known .0) (known .1) (omega arith) (pre .2) (put-entry .ensures .0) (put-entry .ensures .1)
 
 same-length-2 : tie.Need-same-length-2 Inv-loop μ-loop
 same-length-2 c =
@@ -111,7 +113,7 @@ put-entries-spec =
     returns
     enum-known-child
     put-entry-requires
-    add-at
+    add-t18
     sub-left
     loop-less
     loop-again

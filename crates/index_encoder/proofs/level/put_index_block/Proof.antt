@@ -14,7 +14,7 @@ returns c =
     let args = c .before .before .before .args in
     let pre = c .before .before .before .pre in
     block-none (now (args .output)) (args .level) (args .to) (args .from) (args .group .count) (args .place) (args .group .length) (pre .0)
-    (pre .1) (c .before .block-size .ensures) (c .if1 .taken)
+    (pre .1) (pre .2) (c .before .block-size .ensures) (c .if1 .taken)
 
 add-put-number : tie.Need-add-put-number
 add-put-number c =
@@ -23,7 +23,7 @@ add-put-number c =
     let block-size = c .before .before .block-size in
     let good = c .before .before .before .before .good in
     let room = index-room (now (args .output)) (args .level) (args .to) (args .from) (args .group .count) (args .place)
-    (args .group .length) (pre .0) (pre .1) (block-size .ensures) (c .before .if1 .left) in omega (arith, good)
+    (args .group .length) (pre .0) (pre .1) (pre .2) (block-size .ensures) (c .before .if1 .left) in omega (arith, good)
 
 put-number-requires : tie.Need-put-number-requires
 put-number-requires c κs = search needs
@@ -36,7 +36,7 @@ add-body c =
     let if1 = c .before .before .before .before .if1 in
     let put-number = c .before .before .put-number in
     let number = index-number (now (args .output)) (args .level) (args .to) (args .from) (args .group .count) (args .place)
-    (args .group .length) (pre .0) (pre .1) (block-size .ensures) (if1 .left) (put-number .ensures .0) in omega (arith, number .1)
+    (args .group .length) (pre .0) (pre .1) (pre .2) (block-size .ensures) (if1 .left) (put-number .ensures .0) in omega (arith, number .1)
 
 slice-aggregate-put : tie.Need-slice-aggregate-put
 slice-aggregate-put c = search needs
@@ -52,7 +52,7 @@ add-put-entries c =
     let if1 = c .before .before .before .before .before .before .before .before .before .before .if1 in
     let put-number = c .before .before .before .before .before .before .before .before .put-number in
     let number = index-number (now (args .output)) (args .level) (args .to) (args .from) (args .group .count) (args .place)
-    (args .group .length) (pre .0) (pre .1) (block-size .ensures) (if1 .left) (put-number .ensures .0) in omega (arith, number .1)
+    (args .group .length) (pre .0) (pre .1) (pre .2) (block-size .ensures) (if1 .left) (put-number .ensures .0) in omega (arith, number .1)
 
 put-entries-requires : tie.Need-put-entries-requires
 put-entries-requires c κs =
@@ -63,7 +63,7 @@ put-entries-requires c κs =
     let put-number = c .before .before .before .before .before .before .before .before .put-number in
     let put = c .before .before .before .put in
     index-fits (now (args .output)) (args .level) (args .to) (args .from) (args .group .count) (args .place) (args .group .length) (pre .0)
-    (pre .1) (block-size .ensures) (if1 .left) (put-number .ensures .0) (put-number .ensures .1) (put .ensures .1)
+    (pre .1) (pre .2) (block-size .ensures) (if1 .left) (put-number .ensures .0) (put-number .ensures .1) (put .ensures .1)
 
 sub-checksum : tie.Need-sub-checksum
 sub-checksum c =
@@ -75,7 +75,7 @@ sub-checksum c =
     let put = c .before .before .before .before .before .before .put in
     let put-entries = c .before .before .put-entries in
     let ends = index-ends (now (args .output)) (args .level) (args .to) (args .from) (args .group .count) (args .place)
-    (args .group .length) (pre .0) (pre .1) (block-size .ensures) (if1 .left) (put-number .ensures .0) (put-number .ensures .1)
+    (args .group .length) (pre .0) (pre .1) (pre .2) (block-size .ensures) (if1 .left) (put-number .ensures .0) (put-number .ensures .1)
     (put .ensures .1) (put-entries .ensures .0) (put-entries .ensures .1) in omega (arith, ends .0)
 
 part-checksum-start : tie.Need-part-checksum-start
@@ -88,7 +88,7 @@ part-checksum-start c =
     let put = c .before .before .before .before .before .before .before .put in
     let put-entries = c .before .before .before .put-entries in
     let ends = index-ends (now (args .output)) (args .level) (args .to) (args .from) (args .group .count) (args .place)
-    (args .group .length) (pre .0) (pre .1) (block-size .ensures) (if1 .left) (put-number .ensures .0) (put-number .ensures .1)
+    (args .group .length) (pre .0) (pre .1) (pre .2) (block-size .ensures) (if1 .left) (put-number .ensures .0) (put-number .ensures .1)
     (put .ensures .1) (put-entries .ensures .0) (put-entries .ensures .1) in omega (arith, ends .0, ends .1)
 
 part-checksum-end : tie.Need-part-checksum-end
@@ -101,7 +101,7 @@ part-checksum-end c =
     let put = c .before .before .before .before .before .before .before .put in
     let put-entries = c .before .before .before .put-entries in
     let ends = index-ends (now (args .output)) (args .level) (args .to) (args .from) (args .group .count) (args .place)
-    (args .group .length) (pre .0) (pre .1) (block-size .ensures) (if1 .left) (put-number .ensures .0) (put-number .ensures .1)
+    (args .group .length) (pre .0) (pre .1) (pre .2) (block-size .ensures) (if1 .left) (put-number .ensures .0) (put-number .ensures .1)
     (put .ensures .1) (put-entries .ensures .0) (put-entries .ensures .1) in omega (arith, ends .0, ends .1)
 
 checksum-requires : tie.Need-checksum-requires
@@ -132,7 +132,7 @@ returns-2 c =
     let le64-bytes = c .before .before .before .before .before .le64-bytes in
     let put2 = c .before .before .put2 in
     index-stored (now (args .output)) (args .level) (args .to) (args .from) (args .group .count) (args .place) (args .group .length)
-    (pre .0) (pre .1) (block-size .ensures) (if1 .left) (put-number .ensures .0) (put-number .ensures .1) (put .ensures .1)
+    (pre .0) (pre .1) (pre .2) (block-size .ensures) (if1 .left) (put-number .ensures .0) (put-number .ensures .1) (put .ensures .1)
     (put-entries .ensures .0) (put-entries .ensures .1) (checksum .ensures) (le64-bytes .ensures) (put2 .ensures .1)
 
 pub put-index-block-spec : {M : Type 1} → statement M

@@ -4,8 +4,8 @@ use native.Mathlib.Omega.{arith}
 use lib.ListN.{length, take, length-take}
 use lib.Seq.{length-take-le}
 use Rattle.output_bytes.proofs.OutputBytesLaws.{length-stored}
-use Rattle.index_encoder.specs.Children.{childrenFrom}
-use Rattle.index_encoder.proofs.LevelLaws.{Leveling, leveling-none, leveling-long, level-all, level-requires, level-falls, level-none, level-size, leveling-more}
+use Rattle.index_encoder.specs.Children.{childrenFrom, startAt}
+use Rattle.index_encoder.proofs.LevelLaws.{Leveling, leveling-none, leveling-long, leveling-held, level-all, level-requires, level-falls, level-none, level-size, leveling-more}
 use Rattle.index_encoder.proofs.level.put_level.Statement.{statement}
 use Rattle.index_encoder.proofs.level.put_level.Tie as tie
 
@@ -18,6 +18,7 @@ abbrev μ-loop : tie.MeasureT-loop
     length (childrenFrom (take to output₀) at)
 
 loop-holds : tie.Need-loop-holds Inv-loop μ-loop
+unfolding startAt
 loop-holds c =
     leveling-none _ _ _ _ _ (c .before .pre .1)
 
@@ -34,8 +35,8 @@ slice-aggregate-measure c =
 measure-requires : tie.Need-measure-requires Inv-loop μ-loop
 measure-requires c κs =
     let pre = c .before .before .before .pre in
-    let long = leveling-long _ _ _ _ _ _ _ _ _ (c .before .loop .inv) in let low = pre .1 in let short = pre .2 in simp length-take (omega
-    arith)
+    let long = leveling-long _ _ _ _ _ _ _ _ _ (c .before .loop .inv) in let low = pre .1 in let short = pre .2 in (simp length-take (omega
+    arith), leveling-held _ _ _ _ _ _ _ _ _ (c .before .loop .inv))
 
 same-length : tie.Need-same-length Inv-loop μ-loop
 same-length c =
@@ -84,27 +85,27 @@ add-end c =
 
 add-blocks : tie.Need-add-blocks Inv-loop μ-loop
 add-blocks c =
-    let loop = c .before .before .before .before .before .before .before .before .before .loop in
-    let pre = c .before .before .before .before .before .before .before .before .before .before .before .pre in
+    let loop = c .before .before .before .before .before .before .before .before .before .before .loop in
+    let pre = c .before .before .before .before .before .before .before .before .before .before .before .before .pre in
     let few = loop .inv .few in let within = loop .inv .within in let short = pre .2 in omega arith
 
 loop-less : tie.Need-loop-less Inv-loop μ-loop
 loop-less c =
-    let loop = c .before .before .before .before .before .before .before .before .before .loop in
-    let pre = c .before .before .before .before .before .before .before .before .before .before .before .pre in
-    let measure = c .before .before .before .before .before .before .before .measure in
-    let if1 = c .before .before .before .before .before .if1 in
+    let loop = c .before .before .before .before .before .before .before .before .before .before .loop in
+    let pre = c .before .before .before .before .before .before .before .before .before .before .before .before .pre in
+    let measure = c .before .before .before .before .before .before .before .before .measure in
+    let if1 = c .before .before .before .before .before .before .if1 in
     level-falls _ _ _ _ _ _ _ _ _ (loop .inv) (pre .0) _ (measure .ensures) (let some = if1 .left in omega arith)
 
 loop-again : tie.Need-loop-again Inv-loop μ-loop
 loop-again c =
-    let loop = c .before .before .before .before .before .before .before .before .before .loop in
-    let pre = c .before .before .before .before .before .before .before .before .before .before .before .pre in
-    let measure = c .before .before .before .before .before .before .before .measure in
-    let if1 = c .before .before .before .before .before .if1 in
-    let put-index-block = c .before .before .before .put-index-block in
+    let loop = c .before .before .before .before .before .before .before .before .before .before .loop in
+    let pre = c .before .before .before .before .before .before .before .before .before .before .before .before .pre in
+    let measure = c .before .before .before .before .before .before .before .before .measure in
+    let if1 = c .before .before .before .before .before .before .if1 in
+    let put-index-block = c .before .before .before .before .put-index-block in
     leveling-more _ _ _ _ _ _ _ _ _ (loop .inv) (pre .0) _ (measure .ensures) (let some = if1 .left in omega arith)
-    (put-index-block .ensures .0) (put-index-block .ensures .1) (c .if2 .left)
+    (put-index-block .ensures .0) (put-index-block .ensures .1) (c .before .if2 .left)
 
 pub put-level-spec : {M : Type 1} → statement M
 put-level-spec =
