@@ -9,7 +9,7 @@ use zs_library::Query;
 
 use crate::escapes::{resolve, Bytes};
 use crate::records::Form;
-use crate::writing::{BLOCK_BYTES, ENTRIES_PER_BLOCK, FEWEST_PER_BLOCK, MOST_PER_BLOCK};
+use crate::writing::{BLOCK_BYTES, ENTRIES_PER_BLOCK, MOST_PER_BLOCK};
 
 const ABOUT: &str = "Makes, checks, reads and searches ZS archives (version 0.10, codec none), by a library that is proved.";
 
@@ -126,7 +126,7 @@ pub struct Make {
     pub sort: bool,
     #[arg(long, value_name = "N", value_parser = number_parser(1, MOST_PER_BLOCK), allow_hyphen_values = true,
         help = format!("Records in a data block, 1 to {MOST_PER_BLOCK} [default: about {} KiB of them, \
-            and {FEWEST_PER_BLOCK} records at the least]", BLOCK_BYTES >> 10))]
+            more where long records begin alike]", BLOCK_BYTES >> 10))]
     pub records_per_block: Option<u64>,
     #[arg(long, value_name = "N", value_parser = number_parser(2, MOST_PER_BLOCK), allow_hyphen_values = true,
         default_value_t = ENTRIES_PER_BLOCK, help = format!("Entries in an index block, 2 to {MOST_PER_BLOCK}"))]

@@ -70,6 +70,13 @@ impl Encoded {
         LIBRARY_FORM.split(&self.bytes).flatten()
     }
 
+    /// Goes over the blocks of a level, which begin so many records apart, and says of each how long the key of its entry is at most.
+    pub fn key_lengths(&self, apart: usize) -> impl Iterator<Item = usize> + '_ {
+        let pair = |before: &mut Option<_>, record| Some((before.replace(record), record));
+        let firsts = self.records().scan(None, pair).step_by(apart);
+        firsts.map(|(before, first)| before.map_or(0, |before| key_length(before, first)))
+    }
+
     /// Says which record is less than the one before it, if any is.
     pub fn describe_fall(&self) -> Option<String> {
         let mut pairs = (1..).zip(self.records().zip(self.records().skip(1)));
@@ -80,6 +87,13 @@ impl Encoded {
             "{noun} {next}, {record}, is less than {noun} {at}, {before}"
         ))
     }
+}
+
+/// A key tells its block's first record from the one before it. It has at most one byte more than these begin with alike.
+fn key_length(before: &[u8], first: &[u8]) -> usize {
+    let pairs = before.iter().zip(first);
+    let agreeing = pairs.take_while(|(one, other)| one == other).count();
+    first.len().min(agreeing + 1)
 }
 
 /// Sorts as unsigned bytes. Equal records are the same bytes, so that nothing depends on which of them comes first.

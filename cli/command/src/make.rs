@@ -16,7 +16,7 @@ use crate::progress::show_while;
 use crate::records::Form;
 use crate::refusals::Refusal;
 use crate::terminal::is_terminal;
-use crate::writing::{refuse_early, usual_count, Draft, Made, FEWEST_PER_BLOCK};
+use crate::writing::{refuse_early, usual_count, Draft, Made, MOST_PER_BLOCK};
 
 /// Writes nothing before the whole archive is known. It isn't checked then: that it would be accepted is proved of the library.
 pub fn run(asked: &Make) -> Result<(), Failure> {
@@ -29,7 +29,8 @@ pub fn run(asked: &Make) -> Result<(), Failure> {
         per_block: asked.records_per_block.unwrap_or(per_block),
         per_index: asked.entries_per_block,
     };
-    refuse_early(&metadata, counts(FEWEST_PER_BLOCK))?;
+    // The usual count, which isn't known yet, is in its range.
+    refuse_early(&metadata, counts(MOST_PER_BLOCK))?;
     let input = read(&asked.input, "input", form.most_times())?;
     let what = if asked.sort { "sorting" } else { "reading" };
     let records = show_while(what, &asked.input, input.len(), || {

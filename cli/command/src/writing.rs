@@ -12,8 +12,9 @@ use crate::refusals::Refusal;
 pub const BLOCK_BYTES: u64 = 2048;
 /// Entries of an index block, where nobody says how many.
 pub const ENTRIES_PER_BLOCK: u64 = 32;
-/// The index repeats the first record of each data block, which would cost much if blocks had fewer records.
-pub const FEWEST_PER_BLOCK: u64 = 16;
+/// More records make a data block where the keys would otherwise take more than one of so many bytes of the records: long records that
+/// begin alike have long keys.
+pub const KEY_SHARE: u64 = 16;
 /// The library takes no greater count.
 pub const MOST_PER_BLOCK: u64 = 65_535;
 
@@ -38,9 +39,13 @@ pub struct Made {
 
 /// How many records go into a data block, where nobody says it.
 pub fn usual_count(records: &Encoded) -> u64 {
-    let length = records.bytes.len().max(1) as u64;
-    let count = records.number * BLOCK_BYTES / length;
-    count.clamp(FEWEST_PER_BLOCK, MOST_PER_BLOCK)
+    let length = records.bytes.len() as u64;
+    let mut count = (records.number * BLOCK_BYTES / length.max(1)).clamp(1, MOST_PER_BLOCK);
+    let keys = |count| records.key_lengths(count as usize).sum::<usize>() as u64;
+    while count < MOST_PER_BLOCK && keys(count) > length / KEY_SHARE {
+        count = MOST_PER_BLOCK.min(2 * count);
+    }
+    count
 }
 
 /// Refuses counts and metadata that no archive can have, whatever its records: the library looks at them first.
@@ -84,10 +89,10 @@ impl Draft<'_> {
             longest: HEADER + self.metadata.len() + self.records.bytes.len(),
         };
         let mut apart = per_block as usize;
-        size.add_level(self.records.records().step_by(apart));
+        size.add_level(self.records.key_lengths(apart));
         loop {
             apart = apart.saturating_mul(per_index as usize);
-            if size.add_level(self.records.records().step_by(apart)) <= 1 {
+            if size.add_level(self.records.key_lengths(apart)) <= 1 {
                 return size;
             }
         }
@@ -126,12 +131,12 @@ struct Size {
 }
 
 impl Size {
-    /// Adds the blocks of a level, given the first record that each leads to, and says how many they are.
-    fn add_level<'a>(&mut self, firsts: impl Iterator<Item = &'a [u8]>) -> u64 {
+    /// Adds the blocks of a level, given how long their keys are at most, and says how many they are.
+    fn add_level(&mut self, key_lengths: impl Iterator<Item = usize>) -> u64 {
         let before = self.blocks;
-        for first in firsts {
+        for length in key_lengths {
             self.blocks += 1;
-            self.longest += first.len() + BESIDE;
+            self.longest += length + BESIDE;
         }
         self.blocks - before
     }

@@ -230,27 +230,39 @@ fn usual_blocks_have_about_two_kilobytes() {
         (1 << 10..4 << 10).contains(&(file.len() / blocks)),
         "{blocks}"
     );
-    // The index repeats records. It stays short where they are long.
-    let note = |number: usize| format!("{number:03}{}\n", "x".repeat(20_000));
-    let input: String = (0..200).map(note).collect();
-    let file = make(&folder, input.as_bytes(), LINES);
-    assert!(
-        file.len() < input.len() + input.len() / 10,
-        "{}",
-        file.len()
-    );
-    // Thirteen data blocks of 16 records and less, and the root.
-    assert_eq!(reader::check(&file, file.len()).blocks, 14);
     let help = zs(&["make", "--help"]).text();
-    let says = "about 2 KiB of them, and 16 records at the least";
+    let says = "about 2 KiB of them, more where long records begin alike";
     assert!(help.contains(says), "{help}");
 }
 
+/// Notes of twenty thousand bytes that part early, and such that part late.
+fn notes() -> [String; 2] {
+    let long = "x".repeat(20_000);
+    let early = |number: usize| format!("{number:03}{long}\n");
+    let late = |number: usize| format!("{long}{number:03}\n");
+    [(0..200).map(early).collect(), (0..200).map(late).collect()]
+}
+
 #[test]
-fn long_records_fit_however_often_the_index_repeats_them() {
+fn long_records_make_a_block_each_unless_they_begin_alike() {
     let folder = Folder::new();
-    let note = |number: usize| format!("{number:03}{}\n", "x".repeat(5000));
-    let input: String = (0..200).map(note).collect();
+    // 200 data blocks, 7 index blocks over them, and the root; thirteen data blocks of 16 records and less, and the root. By a hundredth
+    // and by a tenth the file is longer than its records.
+    for ((input, blocks), part) in notes().iter().zip([208, 14]).zip([100, 10]) {
+        let file = make(&folder, input.as_bytes(), LINES);
+        assert_eq!(reader::check(&file, file.len()).blocks, blocks);
+        let longest = input.len() + input.len() / part;
+        assert!(file.len() < longest, "{}", file.len());
+    }
+    // Equal ones, whose keys would be whole records, stand in one data block.
+    let input = format!("{}\n", "x".repeat(20_000)).repeat(8);
+    let file = make(&folder, input.as_bytes(), LINES);
+    assert_eq!(reader::check(&file, file.len()).blocks, 2);
+}
+
+#[test]
+fn long_records_fit_however_long_their_keys() {
+    let folder = Folder::new();
     for (per_block, per_index) in [("1", "2"), ("1", "3"), ("3", "2"), ("1", "65535")] {
         let words = [
             "--records-per-block",
@@ -258,8 +270,10 @@ fn long_records_fit_however_often_the_index_repeats_them() {
             "--entries-per-block",
             per_index,
         ];
-        let file = make(&folder, input.as_bytes(), &words);
-        assert!(terminated(&records_of(&file), b"\n") == input.as_bytes());
+        for input in notes() {
+            let file = make(&folder, input.as_bytes(), &words);
+            assert!(terminated(&records_of(&file), b"\n") == input.as_bytes());
+        }
     }
 }
 

@@ -267,7 +267,7 @@ fn unfinished(folder: &Folder) -> Vec<String> {
     files
 }
 
-/// Starts to make an archive of about 64 MB, and sends a signal once some of it is written. The archive may be there before.
+/// Starts to make an archive of about 32 MB, and sends a signal once some of it is written. The archive may be there before.
 fn interrupt(signal: i32, folder: &Folder) -> ExitStatus {
     let mut child = Command::new("env")
         .args(["--default-signal", ZS, "make", "{}", "long", "out"])

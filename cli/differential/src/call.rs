@@ -60,6 +60,8 @@ pub enum Room {
     FirstShort,
     /// The result list is one place short.
     ResultsShort,
+    /// The output is one byte too short for the file that has whole records as keys, which is longer.
+    WholeShort,
     /// Any number of places.
     Any,
 }

@@ -5,7 +5,7 @@ use crate::inputs::Input;
 use crate::queries::{narrow_range, query};
 use zs_reference::maker::random::Random;
 use zs_reference::reader::{check, read, search, Checked, Query};
-use zs_reference::writer::write;
+use zs_reference::writer::{whole_record, write, write_by};
 
 /// Room for every answer, unless blocks are named in very many ways. Files with more records get queries that few of them match.
 const AMPLE: usize = 1000;
@@ -13,7 +13,8 @@ const AMPLE: usize = 1000;
 /// A call, and how its room compares with what it needs.
 pub type Asked = (Call, Room);
 
-/// Draws all calls of the writer on an input: where it is sound, with more bytes than needed, just enough, one less, and fewer.
+/// Draws all calls of the writer on an input: where it is sound, with more bytes than needed, just enough, one less, and fewer; and with
+/// bytes that are enough only because no key is longer than it must be.
 pub fn draw_writes(random: &mut Random, input: &Input) -> Vec<Asked> {
     let mut calls = Vec::new();
     let mut ask = |output, room| {
@@ -24,8 +25,14 @@ pub fn draw_writes(random: &mut Random, input: &Input) -> Vec<Asked> {
         };
         calls.push((call, room));
     };
-    match write(&input.metadata, &input.records, input.counts, usize::MAX) {
+    let (metadata, records, counts) = (&input.metadata, &input.records, input.counts);
+    match write(metadata, records, counts, usize::MAX) {
         Ok(file) => {
+            let whole = write_by(whole_record, metadata, records, counts, usize::MAX);
+            let longer = whole.map_or(0, |whole| whole.len());
+            if longer > file.len() {
+                ask(longer - 1, Room::WholeShort);
+            }
             ask(file.len() + 1 + random.below(99), Room::Plenty);
             ask(file.len(), Room::Exact);
             ask(file.len() - 1, Room::FirstShort);

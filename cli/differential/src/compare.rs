@@ -7,7 +7,7 @@ use zs_library as library;
 use zs_reference::maker::encode;
 use zs_reference::maker::random::Random;
 use zs_reference::reader::{self, Query};
-use zs_reference::writer::{self, Counts};
+use zs_reference::writer::{self, whole_record, Counts};
 
 /// So many places of a list are printed one by one.
 const MOST_PRINTED: usize = 3;
@@ -184,17 +184,17 @@ fn write(
     random: &mut Random,
     records: &[u8],
     metadata: &[u8],
-    counts: Counts,
+    due_counts: Counts,
     room: usize,
 ) -> Outcome {
-    let due = writer::write(metadata, records, counts, room);
+    let due = writer::write(metadata, records, due_counts, room);
     let number = due.as_ref().err().copied().unwrap_or(0);
     let mut file = due.unwrap_or_default();
     let metadata = Lent::bytes(random, metadata);
     let mut output = Lent::output(random, room);
     let counts = library::Counts {
-        per_block: counts.per_block,
-        per_index: counts.per_index,
+        per_block: due_counts.per_block,
+        per_index: due_counts.per_index,
     };
     let given = library::write(metadata.part(), records, counts, output.part_mut());
     let mut outcome = Outcome::of(number, 0);
@@ -207,6 +207,15 @@ fn write(
     if number == 0 {
         let written = output.part().get(..given.length as usize);
         read_back(&mut outcome, written.unwrap_or(&[]), records);
+        let whole = writer::write_by(
+            whole_record,
+            metadata.part(),
+            records,
+            due_counts,
+            usize::MAX,
+        );
+        let is_short = whole.map_or(false, |whole| given.length <= whole.len() as u64);
+        outcome.require(is_short, "longer than with whole records as keys");
     }
     outcome
 }

@@ -6,6 +6,7 @@ use crate::damage::{damage, repair, Repair};
 use crate::faults::{draw_faulty, NUMBERS};
 use crate::hostile::draw_hostile;
 use crate::inputs::draw_input;
+use crate::keys::{keys, kinds, Kinds};
 use crate::queries::strings_of;
 use crate::shapes::shape;
 use zs_reference::maker::random::{bend, Random};
@@ -34,6 +35,8 @@ pub struct Drawing {
     pub accepted: Option<u8>,
     /// The calls.
     pub calls: Vec<Asked>,
+    /// What the records of a writer are like where data blocks meet, if they are written.
+    pub kinds: Kinds,
     /// Gives the arbitrary bytes and numbers around and in what is lent.
     pub random: Random,
 }
@@ -64,6 +67,7 @@ fn on_texts(mut random: Random, texts: Vec<Vec<u8>>) -> impl Iterator<Item = Dra
         bytes: text,
         accepted: None,
         calls: vec![(Call::IsMetadata, Room::Any)],
+        kinds: Kinds::default(),
         random: Random::new(random.next()),
     })
 }
@@ -85,6 +89,7 @@ fn on_file(mut random: Random, file: Vec<u8>, strings: &[Vec<u8>]) -> Drawing {
         accepted: root_level(&file),
         bytes: file,
         calls,
+        kinds: Kinds::default(),
         random,
     }
 }
@@ -94,11 +99,15 @@ fn draw_written(mut random: Random, turn: u64) -> Vec<Drawing> {
     let input = draw_input(&mut random, turn);
     let calls = draw_writes(&mut random, &input);
     let file = write(&input.metadata, &input.records, input.counts, usize::MAX);
-    let file = file.map(|file| on_file(Random::new(random.next()), file, &input.strings));
+    let file = file.map(|file| {
+        let strings = [&input.strings[..], &keys(&input)].concat();
+        on_file(Random::new(random.next()), file, &strings)
+    });
     let records = Drawing {
-        bytes: input.records,
         accepted: file.as_ref().ok().and_then(|drawing| drawing.accepted),
         calls,
+        kinds: file.as_ref().map_or(Kinds::default(), |_| kinds(&input)),
+        bytes: input.records,
         random,
     };
     std::iter::once(records).chain(file).collect()

@@ -2,7 +2,7 @@
 
 use crate::faults::bad_metadata;
 use crate::shapes::metadata;
-use crate::strings::Kind;
+use crate::strings::{row, Kind};
 use zs_reference::maker::random::Random;
 use zs_reference::maker::{encode, Plan};
 use zs_reference::writer::Counts;
@@ -82,13 +82,14 @@ fn encoded(strings: &[Vec<u8>]) -> Vec<u8> {
     Plan::data(strings).payload(&[])
 }
 
-/// Records that rise: few of any kind, few of lengths that matter, or many.
+/// Records that rise: few of any kind, few of lengths that matter, many, or each made of the one before it.
 fn strings(random: &mut Random) -> Vec<Vec<u8>> {
     let kind = Kind::draw(random);
-    let mut strings: Vec<Vec<u8>> = match random.below(12) {
+    let mut strings: Vec<Vec<u8>> = match random.below(18) {
         0 => (0..1 + random.below(3)).map(|_| long(random)).collect(),
         1 if !kind.is_long() => (0..300).map(|_| kind.string(random)).collect(),
         2 => vec![kind.string(random)],
+        3..=8 => row(random),
         _ => (0..1 + random.below(40))
             .map(|_| kind.string(random))
             .collect(),

@@ -16,6 +16,7 @@ pub mod faults;
 pub mod frames;
 pub mod hostile;
 pub mod inputs;
+pub mod keys;
 pub mod lent;
 pub mod queries;
 pub mod run;

@@ -54,6 +54,47 @@ impl Kind {
     }
 }
 
+/// Strings that rise, each made of the one before it: the same, a longer one, or one that parts from it somewhere.
+pub fn row(random: &mut Random) -> Vec<Vec<u8>> {
+    let stem = random.pick(&[0, 0, 1, 3, 126, 127, 200, 2000]);
+    let (first, count) = (vec![0x6b; stem], 1 + random.below(40));
+    let next = |string: &Vec<u8>| Some(follow(random, string));
+    std::iter::successors(Some(first), next)
+        .take(count)
+        .collect()
+}
+
+/// A string that isn't less than this one.
+fn follow(random: &mut Random, string: &[u8]) -> Vec<u8> {
+    let mut next = string.to_vec();
+    let way = random.below(5);
+    if way >= 2 {
+        raise(random, &mut next);
+    }
+    if way >= 1 {
+        let byte = random.pick(&[0x00, 0x61, 0xff]);
+        let times = random.pick(&[0, 1, 2, 130]);
+        next.extend(vec![byte; times]);
+    }
+    next
+}
+
+/// Raises a byte, one of the last, the first or any, and may leave out what follows it. A byte FF stays, and all that follows it.
+fn raise(random: &mut Random, string: &mut Vec<u8>) {
+    let any = random.below(string.len());
+    let back = random.pick(&[0, 0, 1, 2, any, string.len()]);
+    let at = string.len().saturating_sub(1 + back);
+    match string.get_mut(at) {
+        Some(byte) if *byte < 0xff => {
+            *byte = random.pick(&[*byte + 1, *byte + 1, *byte + 1, 0xff]);
+            if random.once_in(2) {
+                string.truncate(at + 1);
+            }
+        }
+        _ => {}
+    }
+}
+
 /// Gives a string near the given one: itself, a beginning, a little longer, or its last byte one more or less.
 pub fn vary(random: &mut Random, string: &[u8]) -> Vec<u8> {
     let mut near = string.to_vec();

@@ -4,6 +4,7 @@ use std::fmt;
 
 use crate::call::{Call, Room};
 use crate::compare::Outcome;
+use crate::keys::{self, Kinds};
 use zs_library::refusals;
 
 /// No refusal, and all refusals.
@@ -36,6 +37,8 @@ pub struct Column {
     pub first_short: u64,
     /// Refusals 27 on accepted files, by a result list that is one place short.
     pub results_short: u64,
+    /// Files written into an output that is one byte too short for the longer file with whole records as keys.
+    pub whole_short: u64,
 }
 
 /// Counts of a run.
@@ -57,6 +60,8 @@ pub struct Tally {
     pub metadata: [u64; 2],
     /// Texts that are metadata, and others.
     pub texts: [u64; 2],
+    /// Inputs written, by what their records are like where data blocks meet.
+    pub kinds: [u64; keys::COUNT],
     /// Searches of accepted files with two or more levels below the root, one for each query.
     pub deep: u64,
     /// Those of them with matches.
@@ -92,11 +97,19 @@ impl Tally {
             }
             Room::FirstShort => column.first_short += u64::from([18, 26, 31].contains(&number)),
             Room::ResultsShort => column.results_short += u64::from(number == 27),
+            Room::WholeShort => column.whole_short += u64::from(number == 0),
             Room::Exact | Room::Any => {}
         }
         if level >= 2 && room == Room::Plenty && matches!(call, Call::Search { .. }) {
             self.deep += 1;
             self.deep_matched += matched;
+        }
+    }
+
+    /// Counts one input of the writers.
+    pub fn add_kinds(&mut self, kinds: &Kinds) {
+        for (count, holds) in self.kinds.iter_mut().zip(kinds) {
+            *count += u64::from(*holds);
         }
     }
 
@@ -131,13 +144,17 @@ impl Tally {
     /// What the run falls short of.
     pub fn shortfalls(&self) -> Vec<String> {
         let mut missing = self.rare_numbers();
+        let kinds = keys::names().zip(self.kinds);
+        let rare = kinds.filter(|(_, count)| *count < LEAST);
+        missing
+            .extend(rare.map(|(name, count)| format!("{name} where blocks meet: {count} times")));
         let unmet = self.demands().into_iter().filter(|(met, _)| !met);
         missing.extend(unmet.map(|(_, what)| what.to_string()));
         missing
     }
 
     /// What a run has to reach besides the count of each number, and whether it did.
-    fn demands(&self) -> [(bool, &'static str); 10] {
+    fn demands(&self) -> [(bool, &'static str); 11] {
         [
             (self.records.iter().all(|n| *n >= LEAST), "records"),
             (self.metadata.iter().all(|n| *n >= LEAST), "metadata"),
@@ -158,6 +175,10 @@ impl Tally {
             (
                 self.write.first_short == self.write.answered,
                 "short outputs",
+            ),
+            (
+                self.write.whole_short >= LEAST,
+                "outputs too short with whole records as keys",
             ),
             (
                 self.search.results_short == self.search.matched,
@@ -216,9 +237,13 @@ impl fmt::Display for Tally {
         )?;
         writeln!(
             out,
-            "inputs written: {}, one byte short: {}",
-            self.write.answered, self.write.first_short
+            "inputs written: {}, one byte short: {}, too short with whole records as keys: {}",
+            self.write.answered, self.write.first_short, self.write.whole_short
         )?;
+        writeln!(out, "  where their data blocks meet:")?;
+        for (name, count) in keys::names().zip(self.kinds) {
+            writeln!(out, "    {count:4} have {name}")?;
+        }
         write!(
             out,
             "{} files, inputs and rows of texts, {} cases, {} differ",

@@ -23,7 +23,8 @@ record 111 2 0 0
 within 1 0 0 0
 metadata 96 2 0 0
 is metadata 1 1 0 0
-write 0 0 155 0
+write 0 0 154 0
+the file 1 0 0 0
 check 0 0 3 4
 read 0 0 3 0
 results 111 2 124 2 127 1

@@ -97,10 +97,11 @@ static zs_written call_write(size_t room)
     return answer;
 }
 
-/* A file that is written, checked and read back, and one that finds no room. */
+/* A file that is written, compared with the one that is named, checked and read back, and one that finds no room. */
 static void write_and_read(void)
 {
     size_t written = (size_t)call_write(OUTPUT).length;
+    print_four("the file", written == length && memcmp(output, file, length) == 0, 0, 0, 0);
     print_checked("check", zs_check(output, written, work, WORK));
     fill_lists();
     print_read("read", zs_read(output, written, (const uint8_t *)"b", 1, false, NULL, 0, NULL, 0, results, RESULTS));

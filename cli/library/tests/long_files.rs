@@ -56,7 +56,7 @@ fn is_zeros(bytes: &[u8]) -> bool {
 }
 
 /// An empty record and one of zero bytes, such that the file has this length. A header with the metadata `{}` has 106 bytes, the data
-/// block 20 beside the long record, and the index block 17: its one key is the first record.
+/// block 20 beside the long record, and the index block 17: its one key is empty.
 fn input_for(file_length: u64) -> Vec<u8> {
     let record = file_length - 106 - 20 - 17;
     let mut input = vec![0; 6 + record as usize];

@@ -1,7 +1,8 @@
-//! Writing ZS files, by request L1: refusals 30, 9, 28, 29 and 31, in this order and each with place 0.
+//! Writing ZS files, by requests L1 and L3: refusals 30, 9, 28, 29 and 31, in this order and each with place 0.
 //!
 //! The layout is fixed: a header without extra bytes, all data blocks, then index blocks level by
-//! level, each full but the last of its level, until one stands alone, on level 1 or higher.
+//! level, each full but the last of its level, until one stands alone, on level 1 or higher. Keys are
+//! the shortest that their rule allows.
 
 use std::ops::RangeInclusive;
 
@@ -25,12 +26,29 @@ pub struct Counts {
     pub per_index: u64,
 }
 
+/// Gives the key of an entry, made of the record before its block, if there is one, and of the first record that its block leads to.
+pub type KeyRule = for<'a> fn(before: Option<&[u8]>, first: &'a [u8]) -> &'a [u8];
+
 /// The file of these records, for an output of `room` bytes. The input is records one after the
 /// other, each a number and that many bytes.
 ///
 /// # Errors
 /// The number of the refusal.
 pub fn write(metadata: &[u8], input: &[u8], counts: Counts, room: usize) -> Result<Vec<u8>, u64> {
+    write_by(shortest_key, metadata, input, counts, room)
+}
+
+/// The same with keys by this rule.
+///
+/// # Errors
+/// The number of the refusal.
+pub fn write_by(
+    rule: KeyRule,
+    metadata: &[u8],
+    input: &[u8],
+    counts: Counts,
+    room: usize,
+) -> Result<Vec<u8>, u64> {
     let per_block = in_range(counts.per_block, 1..=65_535)?;
     let per_index = in_range(counts.per_index, 2..=65_535)?;
     if !is_metadata(metadata) {
@@ -41,7 +59,7 @@ pub fn write(metadata: &[u8], input: &[u8], counts: Counts, room: usize) -> Resu
     if records.windows(2).any(|pair| pair[0] > pair[1]) {
         return Err(29);
     }
-    let file = lay_out(metadata, &records, per_block, per_index);
+    let file = lay_out(rule, metadata, &records, per_block, per_index);
     if file.len() > room.min(LONGEST_FILE) {
         return Err(31);
     }
@@ -75,20 +93,50 @@ struct Named<'a> {
     size: u64,
 }
 
-/// The key of the entry for a data block with these records. An index block has that of its first child.
-fn key<'a>(records: &[&'a [u8]]) -> &'a [u8] {
-    records[0]
+/// The shortest beginning of `first` that isn't less than `before`; empty where nothing is before. No byte string of fewer bytes keeps
+/// the key rule there: those up to `first` are at most as great as its beginning of as many bytes.
+///
+/// A longer beginning is the greater one, so the length is found by halving.
+pub fn shortest_key<'a>(before: Option<&[u8]>, first: &'a [u8]) -> &'a [u8] {
+    let before = before.unwrap_or(&[]);
+    let (mut least, mut most) = (0, first.len());
+    while least < most {
+        let middle = (least + most) / 2;
+        if &first[..middle] < before {
+            least = middle + 1;
+        } else {
+            most = middle;
+        }
+    }
+    &first[..least]
 }
 
-/// The whole file.
-fn lay_out(metadata: &[u8], records: &[&[u8]], per_block: usize, per_index: usize) -> Vec<u8> {
+/// The whole first record, as keys were before request L3: what shorter ones are compared with.
+pub fn whole_record<'a>(_before: Option<&[u8]>, first: &'a [u8]) -> &'a [u8] {
+    first
+}
+
+/// The whole file. An entry over an index block has the key of the block's own first entry.
+fn lay_out(
+    rule: KeyRule,
+    metadata: &[u8],
+    records: &[&[u8]],
+    per_block: usize,
+    per_index: usize,
+) -> Vec<u8> {
     // The header's place; what it holds is known when all blocks stand.
     let mut file = vec![0; HEADER + metadata.len()];
-    let groups = records.chunks(per_block);
-    let payloads: Vec<Vec<u8>> = groups.clone().map(data_payload).collect();
-    let mut row: Vec<Named> = groups
+    let payloads: Vec<Vec<u8>> = records.chunks(per_block).map(data_payload).collect();
+    let key = |first: usize| {
+        rule(
+            first.checked_sub(1).map(|last| records[last]),
+            records[first],
+        )
+    };
+    let keys = (0..records.len()).step_by(per_block).map(key);
+    let mut row: Vec<Named> = keys
         .zip(&payloads)
-        .map(|(group, payload)| put_block(&mut file, 0, payload, key(group)))
+        .map(|(key, payload)| put_block(&mut file, 0, payload, key))
         .collect();
     let mut level = 0;
     while level == 0 || row.len() > 1 {

@@ -3,7 +3,7 @@
 use std::collections::{BTreeMap, BTreeSet};
 
 use crate::support::tree::faults;
-use zs_reference::corpus::{Call, Case, Claim, Corpus, File, ALL_CALLS};
+use zs_reference::corpus::{published_file, Call, Case, Claim, Corpus, File, ALL_CALLS};
 use zs_reference::reader::check;
 use zs_reference::writer::{write, Counts};
 
@@ -108,6 +108,31 @@ fn calls_can_be_chosen() {
         let corpus = Corpus::whole().with_calls(&[call]);
         assert!(!corpus.cases.is_empty());
         assert!(corpus.cases.iter().all(|case| case.call == call));
+    }
+}
+
+/// The files of docs/FORMAT.md that are written: the maker makes the same, and so does the second writer, at both sides of their length.
+#[test]
+fn published_files_are_due() {
+    let corpus = Corpus::whole();
+    let bytes_of = |name: &str| {
+        let file = corpus.files.iter().find(|file| file.name == name);
+        file.expect("a file of the corpus").bytes.as_slice()
+    };
+    let mut outputs: BTreeMap<&str, Vec<u16>> = BTreeMap::new();
+    for case in &corpus.cases {
+        if let Some(published) = published_file(case) {
+            let made = case.name.strip_prefix("write-").expect("the records' name");
+            assert_eq!(bytes_of(made), published);
+            assert_eq!(
+                case.line(bytes_of(&case.name)),
+                case.line_of_file(published)
+            );
+            outputs.entry(made).or_default().push(case.result_places);
+        }
+    }
+    for (made, length) in [("smallest", 130), ("two-blocks", 154)] {
+        assert!(outputs[made].contains(&length) && outputs[made].contains(&(length - 1)));
     }
 }
 

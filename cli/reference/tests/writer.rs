@@ -5,9 +5,9 @@ use std::collections::BTreeSet;
 use crate::support::take_apart;
 use crate::support::tree::faults;
 use zs_reference::maker::random::{tree, Random};
-use zs_reference::maker::{Plan, Tree};
+use zs_reference::maker::{Keys, Plan, Tree};
 use zs_reference::reader::{check, read, Query};
-use zs_reference::writer::{write, Counts};
+use zs_reference::writer::{shortest_key, whole_record, write, write_by, Counts, KeyRule};
 
 const AMPLE: usize = 1 << 20;
 
@@ -43,11 +43,30 @@ fn smallest_file() {
     assert_eq!(hex(&file), due);
 }
 
-/// The records of the example with two data blocks. Its first key is empty; here it is the first record.
+/// The records of the example with two data blocks of docs/FORMAT.md, and that file: 154 bytes.
 #[test]
 fn two_block_file() {
     let records = input(&[&b"a"[..], b"b\xff", b"b\xff", b"c"]);
-    let file = write(b"{}", &records, counts(2, 2), 155).expect("a file");
+    let file = write(b"{}", &records, counts(2, 2), 154).expect("a file");
+    let due = "ab5a5366694c65015200000000000000\
+               88000000000000001200000000000000\
+               9a0000000000000036d084f06260a0c6\
+               bcb8aa9150e1ef4910be942e1bb1e624\
+               e918bb056b0a3c406e6f6e6500000000\
+               00000000000000000200000000000000\
+               7b7d4804e1ff342a142b\
+               060001610262ffd6b5633b79cd7edc\
+               06000262ff0163ea05b28ba1c5e0cc\
+               0901006a0f0262ff790fc9ca9e52c2973e86";
+    assert_eq!(hex(&file), due);
+    assert_eq!(write(b"{}", &records, counts(2, 2), 153), Err(31));
+}
+
+/// The same records with whole records as keys, of which the first takes one byte more: 155 bytes.
+#[test]
+fn two_block_file_with_whole_records() {
+    let records = input(&[&b"a"[..], b"b\xff", b"b\xff", b"c"]);
+    let file = write_by(whole_record, b"{}", &records, counts(2, 2), 155).expect("a file");
     let due = "ab5a5366694c65015200000000000000\
                88000000000000001300000000000000\
                9b0000000000000036d084f06260a0c6\
@@ -59,6 +78,70 @@ fn two_block_file() {
                06000262ff0163ea05b28ba1c5e0cc\
                0a0101616a0f0262ff790f3dcd160f44e92985";
     assert_eq!(hex(&file), due);
+}
+
+/// Keys that can be worked out by hand.
+#[test]
+fn shortest_keys() {
+    let long = [b'k'; 5000];
+    for (before, first, key) in [
+        (None, &b""[..], &b""[..]),
+        (None, b"abc", b""),
+        (Some(&b""[..]), b"", b""),
+        (Some(b""), b"abc", b""),
+        (Some(b"a"), b"b", b"b"),
+        (Some(b"a\xff\xff"), b"b\xff", b"b"),
+        (Some(b"ab"), b"ab", b"ab"),
+        (Some(b"ab"), b"abc", b"ab"),
+        (Some(b"ab"), b"ab\0\0", b"ab"),
+        (Some(b"aba"), b"abcd", b"abc"),
+        (Some(b"a\xfe\xff"), b"a\xff\xff", b"a\xff"),
+        (Some(b"\xff"), b"\xff\xff\xff", b"\xff"),
+        (Some(b"\x7f\x80"), b"\x80\x7f", b"\x80"),
+        (Some(&long[..4000]), &long, &long[..4000]),
+        (Some(&long), &long, &long),
+        (
+            Some(&[&long[..], b"a"].concat()),
+            &[&long[..], b"bc"].concat(),
+            &[&long[..], b"b"].concat(),
+        ),
+    ] {
+        assert_eq!(shortest_key(before, first), key, "{before:?} {first:?}");
+    }
+}
+
+/// All byte strings of at most so many of these letters, shorter ones first.
+fn strings(letters: &[u8], longest: usize) -> Vec<Vec<u8>> {
+    let mut strings = vec![Vec::new()];
+    let mut longer = strings.clone();
+    for _ in 0..longest {
+        let extend = |string: &Vec<u8>| {
+            let more = letters
+                .iter()
+                .map(|letter| [&string[..], &[*letter]].concat());
+            more.collect::<Vec<_>>()
+        };
+        longer = longer.iter().flat_map(extend).collect();
+        strings.extend(longer.iter().cloned());
+    }
+    strings
+}
+
+/// No byte string between the two records has fewer bytes than the key, which is a beginning of the second. Tried are those of both
+/// letters and of the bytes beside them.
+#[test]
+fn no_key_is_shorter() {
+    let records = strings(&[0x61, 0xff], 4);
+    let keys = strings(&[0x00, 0x60, 0x61, 0x62, 0xfe, 0xff], 4);
+    for before in &records {
+        for first in records.iter().filter(|first| before <= first) {
+            let key = shortest_key(Some(before), first);
+            let mut legal = keys.iter().filter(|key| before <= key && *key <= first);
+            let shortest = legal.next().expect("the record itself").len();
+            assert!(before.as_slice() <= key && first.starts_with(key));
+            assert_eq!(key.len(), shortest, "{before:?} {first:?}");
+        }
+    }
 }
 
 /// Level and keys of each block in file order.
@@ -74,24 +157,24 @@ fn layout(file: &[u8]) -> Vec<(u8, Vec<String>)> {
         .collect()
 }
 
-/// Nine records, two in a block and two entries in an index block.
+/// Nine records, two in a block and two entries in an index block. The first key of a level is empty, and no other.
 #[test]
 fn levels() {
-    let records = input(&["a", "b", "c", "d", "e", "f", "g", "h", "i"]);
+    let records = input(&["a", "bb", "cc", "dd", "ddd", "f", "ga", "gc", "gdd"]);
     let file = write(b"{}", &records, counts(2, 2), AMPLE).expect("a file");
     let words = |text: &str| text.split(' ').map(str::to_string).collect::<Vec<_>>();
     let due = [
-        (0, "a b"),
-        (0, "c d"),
-        (0, "e f"),
-        (0, "g h"),
-        (0, "i"),
-        (1, "a c"),
-        (1, "e g"),
-        (1, "i"),
-        (2, "a e"),
-        (2, "i"),
-        (3, "a i"),
+        (0, "a bb"),
+        (0, "cc dd"),
+        (0, "ddd f"),
+        (0, "ga gc"),
+        (0, "gdd"),
+        (1, " c"),
+        (1, "dd g"),
+        (1, "gd"),
+        (2, " dd"),
+        (2, "gd"),
+        (3, " gd"),
     ];
     let due: Vec<_> = due.iter().map(|(l, keys)| (*l, words(keys))).collect();
     assert_eq!(layout(&file), due);
@@ -147,7 +230,7 @@ fn refusals_in_order() {
     assert_eq!(given(b"{}", b"\0", 129), Err(31));
 }
 
-/// The maker makes the same file in its own way, with offsets that it finds by rounds of guesses.
+/// The maker makes the same files in its own way: it tries one beginning after the other as a key, and finds offsets by rounds of guesses.
 #[test]
 fn files_of_the_maker() {
     let mut random = Random::new(6);
@@ -161,13 +244,26 @@ fn files_of_the_maker() {
         tree.metadata = format!("{{{}}}", " ".repeat(random.below(50))).into_bytes();
 
         let counts = counts(per_block as u64, per_index as u64);
-        let due = tree.bytes();
-        let file = write(&tree.metadata, &input(&records), counts, due.len());
-        assert_eq!(file, Ok(due.clone()));
-        let short = write(&tree.metadata, &input(&records), counts, due.len() - 1);
-        assert_eq!(short, Err(31));
-        keeps_rules(&due, &records);
+        let rules: [(KeyRule, Keys); 2] = [
+            (shortest_key, Keys::Separator),
+            (whole_record, Keys::FirstRecord),
+        ];
+        let lengths = rules.map(|(rule, keys)| {
+            tree.keys = keys;
+            is_the_makers(rule, &tree, counts, &records)
+        });
+        assert!(lengths[0] <= lengths[1]);
     }
+}
+
+/// The file of a rule for keys is the maker's, and finds room in so many bytes and in no fewer. Gives its length.
+fn is_the_makers(rule: KeyRule, tree: &Tree, counts: Counts, records: &[Vec<u8>]) -> usize {
+    let due = tree.bytes();
+    let written = |room| write_by(rule, &tree.metadata, &input(records), counts, room);
+    assert_eq!(written(due.len()), Ok(due.clone()));
+    assert_eq!(written(due.len() - 1), Err(31));
+    keeps_rules(&due, records);
+    due.len()
 }
 
 /// The file breaks no rule, and holds these records.

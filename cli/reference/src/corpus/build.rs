@@ -39,7 +39,7 @@ pub fn stop(stop: &[u8]) -> Query {
 }
 
 /// So many records in a data block and so many entries in an index block.
-pub fn counts(per_block: u64, per_index: u64) -> Counts {
+pub const fn counts(per_block: u64, per_index: u64) -> Counts {
     Counts {
         per_block,
         per_index,

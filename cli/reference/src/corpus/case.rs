@@ -146,8 +146,19 @@ impl Case {
             Call::Check => self.check_line(file),
             Call::Search => self.search_line(file),
             Call::Record => self.record_line(file),
-            Call::Write => self.write_line(file),
+            Call::Write => self.write_line(self.written(file)),
         };
+        self.line_with(&answer)
+    }
+
+    /// The line due for a write of which the file is known.
+    pub fn line_of_file(&self, file: Vec<u8>) -> String {
+        let fits = file.len() <= usize::from(self.result_places);
+        let answer = self.write_line(if fits { Ok(file) } else { Err(31) });
+        self.line_with(&answer)
+    }
+
+    fn line_with(&self, answer: &str) -> String {
         format!("{} {} {answer}", self.name, self.call.word())
     }
 
@@ -209,13 +220,18 @@ impl Case {
         )
     }
 
-    fn write_line(&self, records: &[u8]) -> String {
+    /// What the second writer makes of these records.
+    fn written(&self, records: &[u8]) -> Result<Vec<u8>, u64> {
         let counts = Counts {
             per_block: self.offset,
             per_index: self.length,
         };
         let room = usize::from(self.result_places);
-        let answer = write(&self.start, records, counts, room);
+        write(&self.start, records, counts, room)
+    }
+
+    fn write_line(&self, answer: Result<Vec<u8>, u64>) -> String {
+        let room = usize::from(self.result_places);
         let number = answer.as_ref().err().copied().unwrap_or(0);
         let mut output = answer.unwrap_or_default();
         let length = output.len();
@@ -223,8 +239,8 @@ impl Case {
         format!(
             "{} {} {} {room}: number {number} place 0 length {length} output {}",
             hex(&self.start),
-            counts.per_block,
-            counts.per_index,
+            self.offset,
+            self.length,
             hex(&sha256([&output[..]])),
         )
     }

@@ -1,7 +1,8 @@
 //! The stored corpus: named files, cases to run on them, and the lines due.
 //!
 //! Each file carries a claim of its maker, so that the tests can compare what the
-//! maker meant with what the reader says. Lines come from the reader alone.
+//! maker meant with what the reader says. Lines come from the reader and the writer alone, but for
+//! writes whose file docs/FORMAT.md has: those come from that page.
 
 mod build;
 mod case;
@@ -20,6 +21,7 @@ mod two_faults;
 mod written;
 
 pub use case::{Call, Case, ALL_CALLS};
+pub use written::published_file;
 
 use std::collections::HashMap;
 
@@ -135,7 +137,11 @@ impl Corpus {
         let mut out = String::new();
         for case in &self.cases {
             let file = bytes.get(case.name.as_str()).copied().unwrap_or(&[]);
-            out.push_str(&case.line(file));
+            let line = match published_file(case) {
+                Some(published) => case.line_of_file(published),
+                None => case.line(file),
+            };
+            out.push_str(&line);
             out.push('\n');
         }
         out

@@ -2,16 +2,60 @@
 
 use super::build::counts;
 use super::metadata::{accepted, refused};
-use super::{Claim, Corpus};
+use super::{Case, Claim, Corpus};
 use crate::maker::{encode, Plan};
+use crate::writer::Counts;
 
 /// Metadata of most cases.
 const BRACES: &[u8] = b"{}";
+
+/// The smallest file of docs/FORMAT.md, as it stands there.
+const SMALLEST: &str = "
+    ab 5a 53 66 69 4c 65 01  52 00 00 00 00 00 00 00
+    75 00 00 00 00 00 00 00  0d 00 00 00 00 00 00 00
+    82 00 00 00 00 00 00 00  6e 34 0b 9c ff b3 7a 98
+    9c a5 44 e6 bb 78 0a 2c  78 90 1d 3f b3 37 38 76
+    85 11 a3 06 17 af a0 1d  6e 6f 6e 65 00 00 00 00
+    00 00 00 00 00 00 00 00  02 00 00 00 00 00 00 00
+    7b 7d  9d 1a a8 b3 53 c4 52 7e
+    02 00 00  87 5a 4a 51 97 4d 10 42
+    04 01 00 6a 0b  9c c4 01 24 89 27 29 21";
+
+/// The file with two data blocks of docs/FORMAT.md, as it stands there.
+const TWO_BLOCKS: &str = "
+    ab 5a 53 66 69 4c 65 01  52 00 00 00 00 00 00 00
+    88 00 00 00 00 00 00 00  12 00 00 00 00 00 00 00
+    9a 00 00 00 00 00 00 00  36 d0 84 f0 62 60 a0 c6
+    bc b8 aa 91 50 e1 ef 49  10 be 94 2e 1b b1 e6 24
+    e9 18 bb 05 6b 0a 3c 40  6e 6f 6e 65 00 00 00 00
+    00 00 00 00 00 00 00 00  02 00 00 00 00 00 00 00
+    7b 7d  48 04 e1 ff 34 2a 14 2b
+    06 00 01 61 02 62 ff  d6 b5 63 3b 79 cd 7e dc
+    06 00 02 62 ff 01 63  ea 05 b2 8b a1 c5 e0 cc
+    09 01 00 6a 0f 02 62 ff 79 0f  c9 ca 9e 52 c2 97 3e 86";
+
+/// Records of which docs/FORMAT.md has the file that the writer makes with these counts, and that file.
+const PUBLISHED: [(&str, Counts, &str); 2] = [
+    ("write-smallest", counts(1, 2), SMALLEST),
+    ("write-two-blocks", counts(2, 2), TWO_BLOCKS),
+];
+
+/// The file that a write makes, given room, where docs/FORMAT.md has it.
+pub fn published_file(case: &Case) -> Option<Vec<u8>> {
+    let is_due = |(name, counts, _): &&(&str, Counts, &str)| {
+        Case::write(name, BRACES, *counts, case.result_places) == *case
+    };
+    let bytes = PUBLISHED.iter().find(is_due)?.2.split_whitespace();
+    bytes
+        .map(|byte| u8::from_str_radix(byte, 16).ok())
+        .collect()
+}
 
 /// Adds the inputs and their cases.
 pub fn add(corpus: &mut Corpus) {
     add_examples(corpus);
     add_shapes(corpus);
+    add_keys(corpus);
     add_long_records(corpus);
     add_metadata(corpus);
     add_counts(corpus);
@@ -61,17 +105,71 @@ fn add_shapes(corpus: &mut Corpus) {
     }
 }
 
+/// Blocks that begin with a record of which the key takes nothing, some or all.
+fn add_keys(corpus: &mut Corpus) {
+    let stem = [b'k'; 200];
+    let after = |ending: &[u8]| [&stem[..], ending].concat();
+    for (name, records) in [
+        (
+            "write-keys-equal",
+            &[&b"a"[..], b"ab", b"ab", b"ab", b"ab", b"b"][..],
+        ),
+        (
+            "write-keys-beginning",
+            &[b"a", b"ab", b"abc", b"abc\0", b"abc\0\0"],
+        ),
+        ("write-keys-first-byte", &[b"abc", b"bca", b"cab", b"d"]),
+        ("write-keys-last-byte", &[b"aba", b"abb", b"abc", b"abd"]),
+        ("write-keys-empty-first", &[b"", b"", b"ab", b"abc", b"b"]),
+        (
+            "write-keys-ff",
+            &[
+                b"a\xfe\xff",
+                b"a\xff\xfe",
+                b"a\xff\xff",
+                b"b\xff",
+                b"\xff",
+                b"\xff\xff\0",
+            ],
+        ),
+        (
+            "write-keys-signed",
+            &[b"\x7e\x80", b"\x7f\xff", b"\x80\x7f", b"\x80\x80"],
+        ),
+        (
+            "write-keys-long",
+            &[
+                &after(b""),
+                &after(b"a\xff"),
+                &after(b"bc"),
+                &after(b"bd\xff"),
+                b"l",
+                &[0xff; 300],
+            ],
+        ),
+    ] {
+        corpus.add_input(name, input(records), 0);
+        corpus.ask_write(name, 1, 2);
+        corpus.ask_write(name, 2, 2);
+        corpus.ask_write(name, 1, 65_535);
+    }
+}
+
 /// Lengths at which a number takes a byte more: of records, of blocks with one of them, and of keys.
 fn add_long_records(corpus: &mut Corpus) {
     let long = |length| vec![b'k'; length];
     let name = "write-lengths-127";
-    corpus.add_input(name, input(&[125, 126, 127, 128].map(long)), 0);
+    corpus.add_input(name, input(&[125, 126, 127, 128, 129].map(long)), 0);
     corpus.ask_write(name, 1, 2);
     corpus.ask_write(name, 4, 2);
+    corpus.ask_write(name, 5, 2);
     let name = "write-lengths-16383";
     corpus.add_input(name, input(&[0, 16_383, 16_384].map(long)), 0);
     corpus.ask_write(name, 3, 2);
     corpus.ask_write(name, 2, 2);
+    let name = "write-lengths-16384";
+    corpus.add_input(name, input(&[16_384, 16_385].map(long)), 0);
+    corpus.ask_write(name, 1, 2);
 }
 
 /// Metadata that move the blocks, and metadata that are refused: 9.
