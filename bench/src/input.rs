@@ -28,7 +28,8 @@ impl Input {
         write(METADATA.as_bytes(), &self.bytes, counts, output)
     }
 
-    /// The file. There is room for twice the input, which is ample for eight records to a block and more.
+    /// The file. There is room for twice the input, which is ample for eight records to a block and more, and for long ones in blocks of
+    /// their own.
     pub fn file(&self, counts: Counts) -> Vec<u8> {
         let mut output = vec![0; 2 * self.bytes.len() + 4096];
         let written = self.write(counts, &mut output);

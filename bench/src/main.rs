@@ -33,7 +33,8 @@ use chart::Panel;
 use others::Programs;
 use report::Report;
 use sections::{
-    block_sizes, checking, checksums, growth, lookups, metadata, writing, Setting, FULL, QUICK,
+    block_sizes, checking, checksums, growth, keys, lookups, metadata, writing, Setting, FULL,
+    QUICK,
 };
 use shapes::Shape;
 
@@ -137,6 +138,7 @@ fn measure(programs: Programs, quick: bool, folder: &Path) -> (Report, [Panel; 2
     metadata::measure(&setting, &mut report);
     writing::measure(&setting, &mut report);
     block_sizes::measure(&setting, &mut report);
+    keys::measure(&setting, &mut report);
     let panels = growth::measure(&setting, &mut report);
     (report, panels)
 }

@@ -1,5 +1,5 @@
 //! Fictitious records in order: a name and a number that no other record has, a telephone number that is reserved for fiction, an
-//! address.
+//! address; and notes, which have a long text after the name and the number.
 
 use zs_reference::maker::random::Random;
 
@@ -45,6 +45,30 @@ fn record(random: &mut Random, number: usize) -> Vec<u8> {
     let address = format!("{} {}", 1 + random.below(999), random.pick(&STREETS));
     let code = random.below(1_000_000);
     format!("{name} {number:07}\t{telephone}\t{address}\tNoplace {code:06}").into_bytes()
+}
+
+/// Notes of two to six KiB of text, the same each time, all of them different, sorted. Each begins with `head`.
+pub fn notes(count: usize, head: &str) -> Vec<Vec<u8>> {
+    let mut random = Random::new(2011);
+    let note = |number| {
+        let name = format!("{} {}", random.pick(&GIVEN), random.pick(&FAMILY));
+        let text = text(&mut random);
+        format!("{head}{name} {number:07}\t{text}").into_bytes()
+    };
+    let mut notes: Vec<Vec<u8>> = (0..count).map(note).collect();
+    notes.sort();
+    notes
+}
+
+/// A text of two to six KiB.
+fn text(random: &mut Random) -> String {
+    let length = 2048 + random.below(4096);
+    let mut text = String::new();
+    while text.len() < length {
+        text += random.pick(&STREETS);
+        text += ", ";
+    }
+    text
 }
 
 /// The records as lines.

@@ -4,6 +4,7 @@ pub mod block_sizes;
 pub mod checking;
 pub mod checksums;
 pub mod growth;
+pub mod keys;
 pub mod lookups;
 pub mod metadata;
 pub mod writing;
@@ -24,6 +25,8 @@ pub struct Sizes {
     pub records: usize,
     /// Rounds of a comparison.
     pub rounds: usize,
+    /// Long records.
+    pub notes: usize,
     /// Lookups within this process.
     pub lookups: usize,
     /// Lookups as processes.
@@ -35,6 +38,7 @@ pub struct Sizes {
 /// For a document.
 pub const FULL: Sizes = Sizes {
     records: 1_000_000,
+    notes: 10_000,
     rounds: 9,
     lookups: 2000,
     processes: 60,
@@ -44,6 +48,7 @@ pub const FULL: Sizes = Sizes {
 /// To see that everything runs.
 pub const QUICK: Sizes = Sizes {
     records: 20_000,
+    notes: 200,
     rounds: 3,
     lookups: 100,
     processes: 5,
@@ -74,23 +79,70 @@ pub struct Searched {
     pub bytes: f64,
 }
 
-/// Looks up records drawn from all, each by a prefix that only it has. The same lookup goes before, untimed.
+/// Looks up records drawn from all in an archive.
 pub fn measure_search(setting: &Setting, archive: &Archive, records: &[Vec<u8>]) -> Searched {
-    let (mut seconds, mut blocks, mut bytes) = (Vec::new(), Vec::new(), Vec::new());
-    let mut lists = Lists::default();
+    let [searched] = measure_searches(setting, [archive], records);
+    searched
+}
+
+/// Looks up records drawn from all, each by a prefix that only it has, in one archive after the other. The same lookup goes before,
+/// untimed.
+pub fn measure_searches<const N: usize>(
+    setting: &Setting,
+    archives: [&Archive; N],
+    records: &[Vec<u8>],
+) -> [Searched; N] {
+    let mut lookups = archives.map(Lookups::new);
     for record in draw(records, setting.sizes.lookups) {
-        let found = archive.lookup(key(record));
-        assert_eq!(found.records, [record]);
-        seconds.push(measure_time(|| archive.search(key(record), &mut lists)));
-        blocks.push(found.opened.len() as f64);
-        bytes.push(found.opened.iter().map(|block| block.len()).sum::<usize>() as f64);
-        if seconds.iter().sum::<f64>() > LONG_ENOUGH {
+        for lookups in &mut lookups {
+            lookups.look_up(record);
+        }
+        if lookups.iter().all(Lookups::are_enough) {
             break;
         }
     }
-    Searched {
-        seconds: median(seconds),
-        blocks: median(blocks),
-        bytes: median(bytes),
+    lookups.map(Lookups::medians)
+}
+
+/// Lookups in an archive.
+struct Lookups<'a> {
+    archive: &'a Archive,
+    lists: Lists,
+    seconds: Vec<f64>,
+    blocks: Vec<f64>,
+    bytes: Vec<f64>,
+}
+
+impl<'a> Lookups<'a> {
+    fn new(archive: &'a Archive) -> Self {
+        Lookups {
+            archive,
+            lists: Lists::default(),
+            seconds: Vec::new(),
+            blocks: Vec::new(),
+            bytes: Vec::new(),
+        }
+    }
+
+    fn look_up(&mut self, record: &[u8]) {
+        let found = self.archive.lookup(key(record));
+        assert_eq!(found.records, [record]);
+        let lengths = found.opened.iter().map(|block| block.len());
+        self.blocks.push(found.opened.len() as f64);
+        self.bytes.push(lengths.sum::<usize>() as f64);
+        let search = || self.archive.search(key(record), &mut self.lists);
+        self.seconds.push(measure_time(search));
+    }
+
+    fn are_enough(&self) -> bool {
+        self.seconds.iter().sum::<f64>() > LONG_ENOUGH
+    }
+
+    fn medians(self) -> Searched {
+        Searched {
+            seconds: median(self.seconds),
+            blocks: median(self.blocks),
+            bytes: median(self.bytes),
+        }
     }
 }
