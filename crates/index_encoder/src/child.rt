@@ -18,11 +18,7 @@ pub struct Place {
 
 pub enum ChildOutcome {
     // The key of the entry, the block's last record, and its full size.
-    Answer {
-        key: Part,
-        last: Part,
-        size: usize,
-    },
+    Answer { key: Part, last: Part, size: usize },
     Refused(u64),
 }
 
@@ -47,10 +43,8 @@ fn key_after(s: &[u8], before: Part, first: Part) -> Part
     if agreeing == first.length {
         return first;
     }
-    Part {
-        offset: c,
-        length: agreeing + 1,
-    }
+    let length = agreeing + 1;
+    Part { offset: c, length }
 }
 
 // The last of the records that stand one after the other in `s`, from `first` to the end.

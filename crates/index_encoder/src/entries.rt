@@ -48,8 +48,9 @@ pub fn measure(s: &[u8], from: Place, most: u64) -> Group
             },
             ChildOutcome::Answer { key, last, size } => {
                 length += entry_length(key, at.offset, size);
+                let offset = at.offset + size;
                 at = Place {
-                    offset: at.offset + size,
+                    offset,
                     before: last,
                 };
                 count += 1;
@@ -92,8 +93,9 @@ pub fn put_entries(output: &mut [u8], to: usize, from: Place, count: u64, place:
             ChildOutcome::Refused(_) => return end,
             ChildOutcome::Answer { key, last, size } => {
                 end = put_entry(output, end, key, at.offset, size);
+                let offset = at.offset + size;
                 at = Place {
-                    offset: at.offset + size,
+                    offset,
                     before: last,
                 };
                 left -= 1;

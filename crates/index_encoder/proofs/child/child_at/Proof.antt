@@ -69,9 +69,11 @@ key-after-requires c κs =
     let frame-at = c .before .before .before .before .before .before .before .before .before .before .before .frame-at in
     let frame2 = c .before .before .before .before .before .before .before .before .before .frame2 in
     let text-at = c .before .before .before .before .before .text-at in
-    let found2 = c .before .before .before .found2 in
-    (pre, first-within (now (args .s)) (args .place) _ (sym (frame-at .ensures) ∙ ap (frameSaid (args .place .offset)) (frame2 .given .1)) _
-    (sym (text-at .ensures (args .place .offset)) ∙ ap (textSaid (args .place .offset) _) (found2 .given .1)) .0)
+    let found2 = c .before .before .before .found2 in (
+      pre,
+      first-within (now (args .s)) (args .place) _ (sym (frame-at .ensures) ∙ ap (frameSaid (args .place .offset)) (frame2 .given .1)) _
+          (sym (text-at .ensures (args .place .offset)) ∙ ap (textSaid (args .place .offset) _) (found2 .given .1)) .0,
+    )
 
 slice-aggregate-last-record : tie.Need-slice-aggregate-last-record
 unfolding frameSaid
@@ -97,9 +99,11 @@ returns-2 : tie.Need-returns-2
 unfolding frameSaid childAt childSaid ChildWithin
 returns-2 c =
     let args = c .before .before .before .before .before .args in
-    let frame-at = c .before .before .before .frame-at in
-    (sym (child-frameless (now (args .s)) (bytesOf (now (args .s)) (args .place .before)) (args .place .offset) _ _ (sym (frame-at .ensures)
-    ∙ ap (frameSaid (args .place .offset)) (c .before .frame .given .1))), tt)
+    let frame-at = c .before .before .before .frame-at in (
+      sym (child-frameless (now (args .s)) (bytesOf (now (args .s)) (args .place .before)) (args .place .offset) _ _ (sym (frame-at .ensures)
+          ∙ ap (frameSaid (args .place .offset)) (c .before .frame .given .1))),
+      tt,
+    )
 
 returns-3 : tie.Need-returns-3
 unfolding frameSaid textSaid childAt childSaid ChildWithin
@@ -107,10 +111,12 @@ returns-3 c =
     let args = c .before .before .before .before .before .before .before .before .before .before .before .args in
     let frame-at = c .before .before .before .before .before .before .before .before .before .frame-at in
     let frame2 = c .before .before .before .before .before .before .before .frame2 in
-    let text-at = c .before .before .before .text-at in
-    (sym (child-keyless (now (args .s)) (bytesOf (now (args .s)) (args .place .before)) (args .place .offset) _ (sym (frame-at .ensures) ∙
-    ap (frameSaid (args .place .offset)) (frame2 .given .1)) _ _ (sym (text-at .ensures (args .place .offset)) ∙ ap (textSaid
-    (args .place .offset) _) (c .before .found .given .1))), tt)
+    let text-at = c .before .before .before .text-at in (
+      sym (child-keyless (now (args .s)) (bytesOf (now (args .s)) (args .place .before)) (args .place .offset) _ (sym (frame-at .ensures) ∙
+          ap (frameSaid (args .place .offset)) (frame2 .given .1)) _ _ (sym (text-at .ensures (args .place .offset)) ∙ ap (textSaid
+          (args .place .offset) _) (c .before .found .given .1))),
+      tt,
+    )
 
 returns-4 : tie.Need-returns-4
 unfolding frameSaid textSaid

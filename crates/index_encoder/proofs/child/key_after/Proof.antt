@@ -66,17 +66,21 @@ returns-2 c =
     (lent-part _ (args .before .offset) (args .before .length)) (lent-part _ (args .first .offset) (args .first .length))) (if1 .left)
     (c .if2 .taken)
 
-add-t11 : tie.Need-add-t11
+add-length : tie.Need-add-length
 unfolding bytesOf Within
-add-t11 c =
+add-length c =
     let pre = c .before .before .before .before .before .before .before .before .before .before .pre in
     let good = c .before .before .before .before .before .before .before .before .before .before .good in
     let args = c .before .before .before .before .before .before .before .before .before .before .args in
     let compare = c .before .before .before .before .compare in
     let if1 = c .before .before .if1 in
-    let inside = pre .1 in omega (arith, good, key-parted (now (args .s)) (args .before) (args .first) (pre .0) (pre .1) (compared-agreeing
-    _ _ _ (compare .ensures) ∙ ap₂ agreeing (lent-part _ (args .before .offset) (args .before .length)) (lent-part _ (args .first .offset)
-    (args .first .length))) (if1 .left) (c .if2 .left) .1 .1)
+    let inside = pre .1 in omega (
+      arith,
+      good,
+      key-parted (now (args .s)) (args .before) (args .first) (pre .0) (pre .1) (compared-agreeing
+          _ _ _ (compare .ensures) ∙ ap₂ agreeing (lent-part _ (args .before .offset) (args .before .length)) (lent-part _ (args .first .offset)
+          (args .first .length))) (if1 .left) (c .if2 .left) .1 .1,
+    )
 
 returns-3 : tie.Need-returns-3
 unfolding bytesOf
@@ -104,5 +108,5 @@ key-after-spec =
     compare-requires
     returns
     returns-2
-    add-t11
+    add-length
     returns-3)

@@ -51,8 +51,12 @@ add-at-2 c =
     let loop-test = c .before .before .before .before .before .loop-test in
     let text-at = c .before .before .before .before .text-at in
     let step = c .before .before .step in
-    omega (arith, good, passing-forward _ _ _ _ (loop .inv) (loop-test .taken) _ (sym (text-at .ensures 0) ∙ ap (textSaid 0 _)
-    (step .given .1)) .1)
+    omega (
+      arith,
+      good,
+      passing-forward _ _ _ _ (loop .inv) (loop-test .taken) _ (sym (text-at .ensures 0) ∙ ap (textSaid 0 _)
+          (step .given .1)) .1,
+    )
 
 loop-less : tie.Need-loop-less Inv-loop μ-loop
 unfolding textSaid

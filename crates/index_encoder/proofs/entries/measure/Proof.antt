@@ -43,7 +43,7 @@ entry-length-requires c κs =
     let child-at = c .before .before .before .child-at in
     let pre = c .before .before .before .before .before .before .before .pre in
     let known = child-known (now (args .s)) (loop .at) _ (child-at .ensures .0) _ _ _ (c .before .child .given .1) (child-at .ensures .1) in
-    let a = known .1 .0 in let b = known .1 .1 in let d = known .1 .3 in let short = pre .0 in ( omega arith, omega arith, omega arith, )
+    let a = known .1 .0 in let b = known .1 .1 in let d = known .1 .3 in let short = pre .0 in (omega arith, omega arith, omega arith)
 
 add-length : tie.Need-add-length Inv-loop μ-loop
 unfolding ChildWithin
@@ -58,9 +58,9 @@ add-length c =
     _ _ (known .0) (known .1) short in let bounded = loop .inv .bounded in let onward = loop .inv .onward in let long =
     c .entry-length .ensures (now (args .s)) (omega arith) in omega arith
 
-add-t12 : tie.Need-add-t12 Inv-loop μ-loop
+add-offset : tie.Need-add-offset Inv-loop μ-loop
 unfolding ChildWithin
-add-t12 c =
+add-offset c =
     let args = c .before .before .before .before .before .before .before .before .before .args in
     let loop = c .before .before .before .before .before .before .before .loop in
     let child-at = c .before .before .before .before .before .child-at in
@@ -104,7 +104,7 @@ measure-spec =
     enum-known-child
     entry-length-requires
     add-length
-    add-t12
+    add-offset
     add-count
     loop-less
     loop-again

@@ -65,8 +65,8 @@ put-entry-requires c κs =
     let known = child-known _ (loop .at) _ (child-at .ensures .0) _ _ _ (child .given .1) (child-at .ensures .1) in let fits = entering-fits
     _ _ _ _ _ _ _ _ _ (loop .inv) (pre .0) _ _ _ (known .0) (known .1) (omega arith) (pre .2) in (fits .0, fits .1)
 
-add-t18 : tie.Need-add-t18 Inv-loop μ-loop
-add-t18 c =
+add-offset : tie.Need-add-offset Inv-loop μ-loop
+add-offset c =
     let loop = c .before .before .before .before .before .before .before .before .before .before .before .loop in
     let child-at = c .before .before .before .before .before .before .before .before .child-at in
     let child = c .before .before .before .before .before .before .child in
@@ -113,7 +113,7 @@ put-entries-spec =
     returns
     enum-known-child
     put-entry-requires
-    add-t18
+    add-offset
     sub-left
     loop-less
     loop-again

@@ -35,8 +35,11 @@ slice-aggregate-measure c =
 measure-requires : tie.Need-measure-requires Inv-loop μ-loop
 measure-requires c κs =
     let pre = c .before .before .before .pre in
-    let long = leveling-long _ _ _ _ _ _ _ _ _ (c .before .loop .inv) in let low = pre .1 in let short = pre .2 in (simp length-take (omega
-    arith), leveling-held _ _ _ _ _ _ _ _ _ (c .before .loop .inv))
+    let long = leveling-long _ _ _ _ _ _ _ _ _ (c .before .loop .inv) in let low = pre .1 in let short = pre .2 in (
+      simp length-take (omega
+          arith),
+      leveling-held _ _ _ _ _ _ _ _ _ (c .before .loop .inv),
+    )
 
 same-length : tie.Need-same-length Inv-loop μ-loop
 same-length c =
