@@ -96,7 +96,8 @@ module _ (file : List ℕ) (from at : ℕ) (s : State) (p : Passed file from at 
             (omega arith);
         holds =
             subst (Holds (payloads file (p .seen ++ (b ∷ [])))) (sym same)
-            (subst (λ (m : List ℕ). Holds m (stateAfter file s f)) (sym (payloads-snoc file (p .seen) b)) (holds-after file (payloads file (p .seen)) s f (p .holds)));
+            (subst (λ (m : List ℕ). Holds m (stateAfter file s f)) (sym (payloads-snoc file (p .seen) b))
+            (holds-after file (payloads file (p .seen)) s f (p .holds)));
       }
 
 -- ---- the payloads are no longer than the file
@@ -128,7 +129,8 @@ laid-short file (suc fuel) at = by-end (leb (length file) at) refl (laid-short f
     by-frame h (refused number place) e ih =
         subst Short (sym (sound-refused (laidAt file) (length file) fuel at number place h (laid-refused file at number place e))) (omega arith)
     by-frame h (answer f) e ih =
-        subst Short (sym (sound-step (laidAt file) (length file) fuel at (record { item = laidIn file f; next = at + f .size }) h (laid-found file at f e))) (both f (frame⇒Framed file at f e) (ih (at + f .size)))
+        subst Short (sym (sound-step (laidAt file) (length file) fuel at (record { item = laidIn file f; next = at + f .size }) h (laid-found file at f e)))
+        (both f (frame⇒Framed file at f e) (ih (at + f .size)))
       where
         both : (f : Frame) → Framed file at f
             → length (payloads file (soundFrom (laidAt file) (length file) fuel (at + f .size))) ≤ length file - (at + f .size)

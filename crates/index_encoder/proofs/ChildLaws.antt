@@ -25,7 +25,8 @@ use Rattle.layout.specs.Index.{IndexEntry}
 use Rattle.layout.specs.File.{keyFor}
 use Rattle.index_encoder.specs.declared.child.Place.{Place}
 use Rattle.index_encoder.specs.declared.child.ChildOutcome.the-variants.{Answer as AChild}
-use Rattle.index_encoder.specs.Children.{bytesOf, Within, lastFrom, Child, childAfter, childrenAfter, childAt, childrenFrom, entryIn, childSaid, ChildWithin}
+use Rattle.index_encoder.specs.Children.{bytesOf, Within, lastFrom, Child, childAfter, childrenAfter, childAt, childrenFrom}
+use Rattle.index_encoder.specs.Children.{entryIn, childSaid, ChildWithin}
 
 -- ---- one block
 

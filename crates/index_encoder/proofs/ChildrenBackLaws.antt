@@ -26,7 +26,7 @@ use Rattle.layout.proofs.SideBySideLaws.{SideBySide}
 use Rattle.layout.proofs.BlockBackLaws.{data-some, index-some}
 use Rattle.layout.proofs.KeyLaws.{Filled}
 use Rattle.layout.proofs.KeyForLaws.{key-nothing-before}
-use Rattle.index_encoder.specs.Children.{bytesOf, lastText, lastFrom, Child, childAfter, childrenAfter, childrenFrom, startAt}
+use Rattle.index_encoder.specs.Children.{bytesOf, lastText, lastFrom, childAfter, childrenAfter, childrenFrom, startAt}
 use Rattle.index_encoder.proofs.ChildLaws.{data-child-found, index-child-found, after-past, after-more}
 
 module _ (s : List ℕ) (small : length s < 2 ^ 63) where

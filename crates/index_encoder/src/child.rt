@@ -25,7 +25,8 @@ pub enum ChildOutcome {
 // The key of a data block whose first record is `first`, after the record `before`.
 fn key_after(s: &[u8], before: Part, first: Part) -> Part
     requires { ⌜ children.Within (now s) before × children.Within (now s) first ⌝ }
-    ensures { λ r. ⌜ children.bytesOf (now (s .entry)) r ≡ keyFor (some (children.bytesOf (now (s .entry)) before)) (children.bytesOf (now (s .entry)) first) ⌝ }
+    ensures { λ r. ⌜ children.bytesOf (now (s .entry)) r
+        ≡ keyFor (some (children.bytesOf (now (s .entry)) before)) (children.bytesOf (now (s .entry)) first) ⌝ }
     ensures { λ r. ⌜ (r .offset ≡ first .offset) × (r .length ≤ first .length) ⌝ }
 {
     let a = before.offset;

@@ -1,25 +1,21 @@
--- A block that is laid, as a reader of its frame and its first text finds it.
+-- The payload of a block that is laid, and its first text.
 -- Assumes nothing.
-use mathlib.Core.Path.{_≡_, refl, ap, _∙_, subst}
+use mathlib.Core.Path.{_≡_, ap, _∙_, subst}
 use mathlib.Core.List.{List, [], _∷_, _++_, flatMap, append-assoc}
 use Prim.Native.Nat.{ℕ, _+_, _^_, _<_}
 use native.Mathlib.Omega.{arith}
 use lib.ListN.{length, take, length-append}
-use Rattle.lists.specs.Groups.{firstOr}
 use Rattle.endian.specs.FixedWidth.{littleBytes}
 use Rattle.uleb128.specs.Encoding.{encoding}
 use Rattle.crc64.specs.Crc64.{crc64}
-use Rattle.outcome.specs.Outcome.{Outcome, answer, _>>=_}
-use Rattle.outcome.proofs.OutcomeLaws.{bind-answer}
+use Rattle.outcome.specs.Outcome.{answer}
 use Rattle.items.specs.Items.{Step}
-use Rattle.framing.specs.declared.Frame.{Frame}
-use Rattle.framing.specs.Frame.{frameAt}
 use Rattle.payload.specs.Payload.{Text, textAt}
-use Rattle.layout.specs.Blocks.{textBytes, blockBytes, recordsBytes, dataBytes}
-use Rattle.layout.specs.Index.{IndexEntry, IndexBlock, entryBytes, indexBytes, firstKey}
+use Rattle.layout.specs.Blocks.{textBytes, blockBytes}
+use Rattle.layout.specs.Index.{IndexEntry, entryBytes, firstKey}
 use Rattle.layout.specs.Placed.{placedText, placedFrame}
 use Rattle.layout.proofs.LiesLaws.{Lies, lies-front, lies-back, lies-take}
-use Rattle.layout.proofs.ReadBackLaws.{body-lies, frame-back, text-back, length-text}
+use Rattle.layout.proofs.ReadBackLaws.{body-lies, text-back, length-text}
 
 -- the payload lies between the level byte and the end of the frame, also in what comes before that end
 pub payload-lies : (s : List ℕ) (at level : ℕ) (payload : List ℕ) → Lies s at (blockBytes level payload)
@@ -48,12 +44,7 @@ module _ (s : List ℕ) (at level : ℕ) (payload key rest : List ℕ) (begins :
       text-back place _ _ key (omega arith)
       (lies-front _ _ (textBytes key) rest (subst (Lies _ _) begins (payload-lies s at level payload l)))
 
--- a data block begins with its first record, and an index block with its first key
-pub records-begin : (rs : List (List ℕ)) → 0 < length rs → (rest : List ℕ) × (recordsBytes rs ≡ textBytes (firstOr [] rs) ++ rest)
-unfolding recordsBytes flatMap firstOr
-records-begin [] h = absurd (omega arith)
-records-begin (r ∷ rs) h = (recordsBytes rs, refl)
-
+-- an index block begins with its first key
 pub entries-begin : (es : List IndexEntry) → 0 < length es → (rest : List ℕ) × (flatMap entryBytes es ≡ textBytes (firstKey es) ++ rest)
 unfolding flatMap entryBytes firstKey
 entries-begin [] h = absurd (omega arith)

@@ -7,8 +7,8 @@ use native.Mathlib.Omega.{arith}
 use lib.ListN.{length, length-append}
 use Rattle.outcome.specs.Outcome.{Outcome, answer}
 use Rattle.outcome.proofs.OutcomeLaws.{bind-answer}
-use Rattle.items.specs.Items.{Step, itemsFrom, soundFrom}
-use Rattle.items.proofs.ItemsLaws.{items-end, items-step, items⇒sound}
+use Rattle.items.specs.Items.{Step, itemsFrom}
+use Rattle.items.proofs.ItemsLaws.{items-end, items-step}
 use Rattle.layout.proofs.LiesLaws.{Lies, lies-front, lies-back}
 
 -- things with their bytes, and each as it is found at an offset
@@ -52,9 +52,3 @@ module _ {A B : Type 0} (bytes : B → List ℕ) (found : ℕ → B → A) where
     items-back end bs back at fuel l h enough =
         items-back-then end [] bs back at fuel l (omega arith) enough (λ more k. items-end step end more (at + length (flatMap bytes bs)) (omega arith))
         ∙ ap answer (append-nil (placedBy at bs))
-
-    -- those in front of the first refusal are the same
-    pub sound-back : (end : ℕ) (bs : List B) → FoundBack bs → (at fuel : ℕ)
-        → Lies s at (flatMap bytes bs) → at + length (flatMap bytes bs) ≡ end → end - at ≤ fuel
-        → soundFrom step end fuel at ≡ placedBy at bs
-    sound-back end bs back at fuel l h enough = items⇒sound step end fuel at (placedBy at bs) (items-back end bs back at fuel l h enough)

@@ -9,10 +9,9 @@ use mathlib.Core.Option.{Option, none, some}
 use mathlib.Core.List.{List, [], _∷_}
 use lib.Dec.{eqb, eqb·zero-suc, eqb·suc-suc}
 use lib.ListN.{length, take, length-take}
-use lib.Seq.{length-take-le}
 use Rattle.byte_string.specs.Order.{AreBytes, atMost, isMore, begins, agreeing}
 use Rattle.byte_string.proofs.BytesLaws.{bytes-take}
-use Rattle.byte_string.proofs.OrderLaws.{order-below, order-same, nil-atMost, atMost-nil, atMost-refl, atMost-cons}
+use Rattle.byte_string.proofs.OrderLaws.{order-below, order-same, nil-atMost, atMost-nil, atMost-cons}
 use Rattle.byte_string.proofs.AgreeingLaws.{agreeing-same, agreeing-differ, agreeing-nil-left}
 use Rattle.byte_string.proofs.PrefixLaws.{begins-nil, begins-take, begins-atMost}
 use Rattle.layout.specs.File.{keyLength, keyFor}
@@ -93,9 +92,3 @@ key-shortest before first key h k =
     let cut = length-take (keyLength before first) first in
     let least = keyLength-shortest before first key h k in
     omega arith
-
--- where the two records rise, the first one has that many bytes
-pub length-keyFor : (before first : List ℕ) → atMost before first ≡ true → length (keyFor (some before) first) ≡ keyLength before first
-unfolding keyFor
-length-keyFor before first h =
-    length-take-le (keyLength before first) first (keyLength-shortest before first first h (atMost-refl first))

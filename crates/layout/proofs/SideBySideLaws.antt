@@ -1,19 +1,15 @@
 -- Blocks side by side: the index blocks of a level, and of all levels, stand where their offsets say.
 -- Assumes nothing.
-use mathlib.Core.Path.{_≡_, refl, ap, ap₂, subst}
+use mathlib.Core.Path.{_≡_, refl, ap, subst}
 use mathlib.Core.Bool.{Bool, true, false, cond}
 use mathlib.Core.Logic.{_⊎_, inl, inr}
 use mathlib.Core.List.{List, [], _∷_, _++_, flatMap, map, List·Memᴰ, List·Memᴰ·not-nil, List·Memᴰ·cases-cons}
 use Prim.Native.Nat.{ℕ, zero, suc, _+_, _≤_}
 use native.Mathlib.Omega.{arith}
-use mathlib.Core.Option.{Option}
 use lib.Dec.{leb}
 use lib.ListN.{length, length-append}
-use Rattle.lists.specs.Groups.{groups, firstOr}
-use Rattle.layout.specs.Blocks.{dataBytes}
-use Rattle.layout.specs.Index.{IndexEntry, IndexBlock, indexBytes, firstKey, entryFor, levelFrom, levelsFrom, indexOver}
-use Rattle.layout.specs.File.{keyFor, dataEntries}
-use Rattle.layout.proofs.ItemsBackLaws.{placedBy}
+use Rattle.lists.specs.Groups.{groups}
+use Rattle.layout.specs.Index.{IndexEntry, IndexBlock, indexBytes, entryFor, levelFrom, levelsFrom, indexOver}
 
 -- each index block begins where the one before it ends
 unfoldable pub SideBySide : (at : ℕ) → List IndexBlock → Type 0

@@ -70,7 +70,8 @@ pub fn entry_at(s: &[u8], at: usize) -> EntryOutcome
 // The entry whose key and offset have been read.
 fn sized(s: &[u8], key: Part, offset: u64, at: usize) -> EntryOutcome
     requires { ⌜ key .offset + key .length ≤ length (now s) ⌝ }
-    ensures { λ r. ⌜ ((place : ℕ) → answers.entrySaid place (now (s .entry)) r ≡ payloads.entrySized place (now (s .entry)) (answers.textIn (now (s .entry)) (key .offset) (key .length)) offset at) ⌝ }
+    ensures { λ r. ⌜ ((place : ℕ) → answers.entrySaid place (now (s .entry)) r
+        ≡ payloads.entrySized place (now (s .entry)) (answers.textIn (now (s .entry)) (key .offset) (key .length)) offset at) ⌝ }
     ensures { λ r. ⌜ answers.KeyWithin (now (s .entry)) r ⌝ }
 {
     let number = number_at(s, at, 15);

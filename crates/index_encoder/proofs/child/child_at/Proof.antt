@@ -8,7 +8,7 @@ use lib.Seq.{length-take-le}
 use Rattle.framing.specs.Answers.{frameSaid}
 use Rattle.framing.proofs.FrameLaws.{frame⇒Framed}
 use Rattle.payload.specs.Answers.{textSaid}
-use Rattle.index_encoder.specs.Children.{bytesOf, Within, childAt, childSaid, ChildWithin}
+use Rattle.index_encoder.specs.Children.{bytesOf, childAt, childSaid, ChildWithin}
 use Rattle.index_encoder.proofs.ChildLaws.{child-frameless, child-keyless, first-within, index-child-told, data-child-told}
 use Rattle.index_encoder.proofs.child.child_at.Statement.{statement}
 use Rattle.index_encoder.proofs.child.child_at.Tie as tie

@@ -4,7 +4,8 @@ use native.Mathlib.Omega.{arith}
 use borrow.Author.Needs.{needs}
 use denote.Ref.{now}
 use Rattle.index_encoder.specs.Children.{ChildWithin}
-use Rattle.index_encoder.proofs.EntryLaws.{Measuring, measuring-none, measuring-bound, measuring-more, measured-all, measured-full, child-known, child-none}
+use Rattle.index_encoder.proofs.EntryLaws.{Measuring, measuring-none, measuring-bound, measuring-more, measured-all, measured-full}
+use Rattle.index_encoder.proofs.EntryLaws.{child-known, child-none}
 use Rattle.index_encoder.proofs.entries.measure.Statement.{statement}
 use Rattle.index_encoder.proofs.entries.measure.Tie as tie
 

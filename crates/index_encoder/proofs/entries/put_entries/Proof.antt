@@ -3,7 +3,9 @@ use mathlib.Core.Path.{sym}
 use native.Mathlib.Omega.{arith}
 use borrow.Author.Needs.{needs}
 use lib.Seq.{length-take-le}
-use Rattle.index_encoder.proofs.EntryLaws.{child-known, child-none, Entering, entering-none, entering-long, entering-all, entering-refused, entering-within, entering-fits, entering-more}
+use Rattle.index_encoder.proofs.EntryLaws.{child-known, child-none}
+use Rattle.index_encoder.proofs.EntryLaws.{Entering, entering-none, entering-long, entering-all}
+use Rattle.index_encoder.proofs.EntryLaws.{entering-refused, entering-within, entering-fits, entering-more}
 use Rattle.index_encoder.proofs.entries.put_entries.Statement.{statement}
 use Rattle.index_encoder.proofs.entries.put_entries.Tie as tie
 

@@ -5,7 +5,8 @@ use lib.ListN.{length, take, length-take}
 use lib.Seq.{length-take-le}
 use Rattle.output_bytes.proofs.OutputBytesLaws.{length-stored}
 use Rattle.index_encoder.specs.Children.{childrenFrom, startAt}
-use Rattle.index_encoder.proofs.LevelLaws.{Leveling, leveling-none, leveling-long, leveling-held, level-all, level-requires, level-falls, level-none, level-size, leveling-more}
+use Rattle.index_encoder.proofs.LevelLaws.{Leveling, leveling-none, leveling-long, leveling-held, leveling-more}
+use Rattle.index_encoder.proofs.LevelLaws.{level-all, level-requires, level-falls, level-none, level-size}
 use Rattle.index_encoder.proofs.level.put_level.Statement.{statement}
 use Rattle.index_encoder.proofs.level.put_level.Tie as tie
 
