@@ -68,9 +68,9 @@ put-entries-requires c κs =
 sub-checksum : tie.Need-sub-checksum
 sub-checksum c =
     let args = c .before .before .before .before .before .before .before .before .before .before .before .before .before .before
-        .before .before .args in
+    .before .before .args in
     let pre = c .before .before .before .before .before .before .before .before .before .before .before .before .before .before
-        .before .before .pre in
+    .before .before .pre in
     let block-size = c .before .before .before .before .before .before .before .before .before .before .before .before .before .before .block-size in
     let if1 = c .before .before .before .before .before .before .before .before .before .before .before .before .before .if1 in
     let put-number = c .before .before .before .before .before .before .before .before .before .before .before .put-number in
@@ -83,11 +83,11 @@ sub-checksum c =
 part-checksum-start : tie.Need-part-checksum-start
 part-checksum-start c =
     let args = c .before .before .before .before .before .before .before .before .before .before .before .before .before .before
-        .before .before .before .args in
+    .before .before .before .args in
     let pre = c .before .before .before .before .before .before .before .before .before .before .before .before .before .before
-        .before .before .before .pre in
+    .before .before .before .pre in
     let block-size = c .before .before .before .before .before .before .before .before .before .before .before .before .before
-        .before .before .block-size in
+    .before .before .block-size in
     let if1 = c .before .before .before .before .before .before .before .before .before .before .before .before .before .before .if1 in
     let put-number = c .before .before .before .before .before .before .before .before .before .before .before .before .put-number in
     let put = c .before .before .before .before .before .before .before .put in
@@ -99,11 +99,11 @@ part-checksum-start c =
 part-checksum-end : tie.Need-part-checksum-end
 part-checksum-end c =
     let args = c .before .before .before .before .before .before .before .before .before .before .before .before .before .before
-        .before .before .before .args in
+    .before .before .before .args in
     let pre = c .before .before .before .before .before .before .before .before .before .before .before .before .before .before
-        .before .before .before .pre in
+    .before .before .before .pre in
     let block-size = c .before .before .before .before .before .before .before .before .before .before .before .before .before
-        .before .before .block-size in
+    .before .before .block-size in
     let if1 = c .before .before .before .before .before .before .before .before .before .before .before .before .before .before .if1 in
     let put-number = c .before .before .before .before .before .before .before .before .before .before .before .before .put-number in
     let put = c .before .before .before .before .before .before .before .put in
@@ -130,15 +130,15 @@ same-length c = search needs
 returns-2 : tie.Need-returns-2
 returns-2 c =
     let args = c .before .before .before .before .before .before .before .before .before .before .before .before .before .before
-        .before .before .before .before .before .before .before .before .before .before .before .args in
+    .before .before .before .before .before .before .before .before .before .before .before .args in
     let pre = c .before .before .before .before .before .before .before .before .before .before .before .before .before .before
-        .before .before .before .before .before .before .before .before .before .before .before .pre in
+    .before .before .before .before .before .before .before .before .before .before .before .pre in
     let block-size = c .before .before .before .before .before .before .before .before .before .before .before .before .before
-        .before .before .before .before .before .before .before .before .before .before .block-size in
+    .before .before .before .before .before .before .before .before .before .before .block-size in
     let if1 = c .before .before .before .before .before .before .before .before .before .before .before .before .before .before
-        .before .before .before .before .before .before .before .before .if1 in
+    .before .before .before .before .before .before .before .before .if1 in
     let put-number = c .before .before .before .before .before .before .before .before .before .before .before .before .before
-        .before .before .before .before .before .before .before .put-number in
+    .before .before .before .before .before .before .before .put-number in
     let put = c .before .before .before .before .before .before .before .before .before .before .before .before .before .before .before .put in
     let put-entries = c .before .before .before .before .before .before .before .before .before .before .before .put-entries in
     let checksum = c .before .before .before .before .before .before .checksum in
