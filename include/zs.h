@@ -159,9 +159,9 @@ bool zs_is_metadata(const uint8_t *bytes, size_t bytes_len);
 
 /* Writes a file into the output: the metadata, and records that rise, each a length (uleb128 in shortest form) and as many bytes, one
  * after the other; so many records in a data block (1 to 65535) and so many entries in an index block (2 to 65535). The output then holds
- * the file and zeros after it, and `length` is the file's. Its index has the shortest keys that zs_check accepts, so that it repeats little
- * of long records. Refusals in this order: 30 a count, 9 the metadata, 28 and 29 the records, 31 no room; after one the output is zeros.
- * Every call writes every byte of the output. A file written is one that zs_check accepts. */
+ * the file and zeros after it, and `length` is the file's. Its index has the shortest keys that zs_check accepts. Refusals in this order:
+ * 30 a count, 9 the metadata, 28 and 29 the records, 31 no room; after one the output is zeros. Every call writes every byte of the
+ * output. A file written is one that zs_check accepts. */
 zs_written zs_write(const uint8_t *metadata, size_t metadata_len, const uint8_t *records, size_t records_len, uint64_t per_block,
                     uint64_t per_index, uint8_t *output, size_t output_len);
 

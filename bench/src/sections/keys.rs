@@ -26,6 +26,7 @@ struct Kind<'a> {
 pub fn measure(setting: &Setting, report: &mut Report) {
     let plain = notes(setting.sizes.notes, "");
     let alike = notes(setting.sizes.notes, &"-".repeat(HEAD));
+    // As many to a block as `zs make` puts there; of notes also sixteen, the least it put there before.
     let kinds = [
         ("records", setting.records, 32),
         ("notes", &plain, 1),
@@ -97,18 +98,21 @@ fn add_row(
     table.add_row(&[
         what,
         keys,
-        &kilobytes(index_length(&archive.bytes)),
+        &length(index_length(&archive.bytes)),
         &size(archive.bytes.len()),
         &format!("{:.0}", now.blocks),
-        &kilobytes(now.bytes as usize),
+        &length(now.bytes as usize),
         &time(now.seconds),
         &format!("{:.0}", 1.0 / now.seconds),
         &ratio(before.seconds / now.seconds),
     ]);
 }
 
-fn kilobytes(bytes: usize) -> String {
-    format!("{:.1} kB", bytes as f64 / 1e3)
+fn length(bytes: usize) -> String {
+    match bytes {
+        0..=999_999 => format!("{:.1} kB", bytes as f64 / 1e3),
+        _ => size(bytes),
+    }
 }
 
 fn empty_table() -> Table {

@@ -25,23 +25,19 @@ pub fn run(asked: &Make) -> Result<(), Failure> {
     let output = find_output(asked)?;
     let line_output = find_line_output(asked, &output)?;
     let metadata = read_metadata(asked)?;
-    let counts = |per_block| Counts {
-        per_block: asked.records_per_block.unwrap_or(per_block),
-        per_index: asked.entries_per_block,
-    };
     // The usual count, which isn't known yet, is in its range.
-    refuse_early(&metadata, counts(MOST_PER_BLOCK))?;
+    refuse_early(&metadata, find_counts(asked, || MOST_PER_BLOCK))?;
     let input = read(&asked.input, "input", form.most_times())?;
     let what = if asked.sort { "sorting" } else { "reading" };
     let records = show_while(what, &asked.input, input.len(), || {
         Encoded::new(input, form, asked.sort)
     })?;
-    let draft = Draft {
-        metadata: &metadata,
-        records: &records,
-        counts: counts(usual_count(&records)),
-    };
     let made = show_while("making", &asked.output, records.bytes.len(), || {
+        let draft = Draft {
+            metadata: &metadata,
+            records: &records,
+            counts: find_counts(asked, || usual_count(&records)),
+        };
         draft.make()
     })?;
     output.write(&|out| out.write_all(&made.file))?;
@@ -49,6 +45,14 @@ pub fn run(asked: &Make) -> Result<(), Failure> {
     line_output.map_or(Ok(()), |out| {
         out.write(&|out| out.write_all(line.as_bytes()))
     })
+}
+
+/// The counts that are asked, and the usual ones where nobody says them.
+fn find_counts(asked: &Make, usual: impl FnOnce() -> u64) -> Counts {
+    Counts {
+        per_block: asked.records_per_block.unwrap_or_else(usual),
+        per_index: asked.entries_per_block,
+    }
 }
 
 /// The file that is refused: that of the metadata, named as it is given, the input, or the archive that would be too long. Where an

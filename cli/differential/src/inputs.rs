@@ -22,7 +22,7 @@ pub struct Input {
     pub records: Vec<u8>,
     /// How many of them a data block holds, and how many entries an index block.
     pub counts: Counts,
-    /// Some of the records, for queries near them.
+    /// The records themselves, in order: for queries near them, and for what they are like where data blocks meet.
     pub strings: Vec<Vec<u8>>,
 }
 

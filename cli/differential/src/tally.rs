@@ -203,6 +203,19 @@ impl Tally {
         }
         Ok(())
     }
+
+    fn write_inputs(&self, out: &mut fmt::Formatter<'_>) -> fmt::Result {
+        writeln!(
+            out,
+            "inputs written: {}, one byte short: {}, too short with whole records as keys: {}",
+            self.write.answered, self.write.first_short, self.write.whole_short
+        )?;
+        writeln!(out, "  where their data blocks meet:")?;
+        for (name, count) in keys::names().zip(self.kinds) {
+            writeln!(out, "    {count:4} have {name}")?;
+        }
+        Ok(())
+    }
 }
 
 impl fmt::Display for Tally {
@@ -235,15 +248,7 @@ impl fmt::Display for Tally {
             self.read.results_short,
             self.check.first_short
         )?;
-        writeln!(
-            out,
-            "inputs written: {}, one byte short: {}, too short with whole records as keys: {}",
-            self.write.answered, self.write.first_short, self.write.whole_short
-        )?;
-        writeln!(out, "  where their data blocks meet:")?;
-        for (name, count) in keys::names().zip(self.kinds) {
-            writeln!(out, "    {count:4} have {name}")?;
-        }
+        self.write_inputs(out)?;
         write!(
             out,
             "{} files, inputs and rows of texts, {} cases, {} differ",

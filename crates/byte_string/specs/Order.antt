@@ -79,6 +79,6 @@ saysAtMost c = leZ (c .sign) (pos 0)
 unfoldable pub saysEqual : Comparison → Bool
 saysEqual c = saysAtMost c && not (saysLess c)
 
--- y begins with x, where this is the length of x; x begins with y, where it is that of y
-unfoldable pub saysBegins : (length : ℕ) → Comparison → Bool
-saysBegins length c = leb length (c .agreeing)
+-- y begins with x, where x has so many bytes; x begins with y, where y has
+unfoldable pub saysBegins : (count : ℕ) → Comparison → Bool
+saysBegins count c = leb count (c .agreeing)

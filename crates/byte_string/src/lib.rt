@@ -34,11 +34,11 @@ impl Comparison {
         self.sign == 0
     }
 
-    // Whether y begins with x, given the length of x. Given that of y, whether x begins with y.
-    pub fn begins(self, length: usize) -> bool
-        ensures { λ r. ⌜ r ≡ saysBegins length self ⌝ }
+    // Whether y begins with x, given how many bytes x has. Given how many y has, whether x begins with y.
+    pub fn begins(self, count: usize) -> bool
+        ensures { λ r. ⌜ r ≡ saysBegins count self ⌝ }
     {
-        length <= self.agreeing
+        count <= self.agreeing
     }
 }
 

@@ -23,7 +23,7 @@ use Rattle.payload.proofs.PayloadLaws.{text⇒Placed}
 use Rattle.block.specs.Block.{isData}
 use Rattle.layout.specs.Index.{IndexEntry}
 use Rattle.layout.specs.File.{keyFor}
-use Rattle.index_encoder.specs.declared.child.Place.{Place}
+use Rattle.index_encoder.specs.declared.child.Position.{Position}
 use Rattle.index_encoder.specs.declared.child.ChildOutcome.the-variants.{Answer as AChild}
 use Rattle.index_encoder.specs.Children.{bytesOf, Within, lastFrom, Child, childAfter, childrenAfter, childAt, childrenFrom}
 use Rattle.index_encoder.specs.Children.{entryIn, childSaid, ChildWithin}
@@ -90,7 +90,7 @@ module _ (s before : List ℕ) (at : ℕ) where
 
 -- ---- what `child_at` answers, and where it lies
 
-module _ (s : List ℕ) (p : Place) (f : Frame) (framed-at : frameAt s (p .offset) ≡ answer f) (first : Part)
+module _ (s : List ℕ) (p : Position) (f : Frame) (framed-at : frameAt s (p .offset) ≡ answer f) (first : Part)
     (read : textAt (p .offset) (take (f .end) s) (f .body + 1)
     ≡ answer (record { item = textIn (take (f .end) s) (first .offset) (first .length); next = first .offset + first .length })) where
   -- where the first text lies
@@ -216,13 +216,13 @@ module _ (s : List ℕ) where
           omega arith
       go (refused number place) e rest = let none = ap length (after-refused (suc fuel) before at number place e) in omega arith
 
-  module _ (p : Place) where
+  module _ (p : Position) where
     pub children-refused : (number place : ℕ) → childAt s p ≡ refused number place → childrenFrom s p ≡ []
     unfolding childAt childrenFrom
     children-refused number place e = after-refused (length s) _ (p .offset) number place e
 
-    -- one block, and the place after it
-    pub children-more : (c : Child) → childAt s p ≡ answer c → (next : Place) → next .offset ≡ p .offset + c .entry .size → bytesOf s (next .before) ≡ c .last
+    -- one block, and the position after it
+    pub children-more : (c : Child) → childAt s p ≡ answer c → (next : Position) → next .offset ≡ p .offset + c .entry .size → bytesOf s (next .before) ≡ c .last
         → childrenFrom s p ≡ c .entry ∷ childrenFrom s next
     unfolding childAt childrenFrom
     children-more c e next onward last =
@@ -231,6 +231,6 @@ module _ (s : List ℕ) where
         ∙ ap₂ (λ (n : ℕ) (b : List ℕ). c .entry ∷ childrenAfter s (length s) b n) (sym onward) (sym last)
 
   -- there are at most as many as bytes
-  pub children-few : (p : Place) → length (childrenFrom s p) ≤ length s
+  pub children-few : (p : Position) → length (childrenFrom s p) ≤ length s
   unfolding childrenFrom
   children-few p = after-few (length s) (bytesOf s (p .before)) (p .offset)

@@ -18,7 +18,7 @@ use Rattle.output_bytes.proofs.OutputBytesLaws.{length-stored, take-stored, cop
 use Rattle.layout.specs.Blocks.{textBytes}
 use Rattle.layout.specs.Index.{IndexEntry, entryBytes}
 use Rattle.layout.proofs.ReadBackLaws.{length-text, length-entry}
-use Rattle.index_encoder.specs.declared.child.Place.{Place}
+use Rattle.index_encoder.specs.declared.child.Position.{Position}
 use Rattle.index_encoder.specs.declared.child.ChildOutcome.{ChildOutcome}
 use Rattle.index_encoder.specs.declared.child.ChildOutcome.the-variants.{Answer as AChild, Refused as NoChild}
 use Rattle.index_encoder.specs.Children.{bytesOf, Within, entryIn, childAt, childrenFrom, childSaid, ChildWithin}
@@ -52,7 +52,7 @@ module _ (s : List ℕ) (key : Part) (offset size : ℕ) (within : key .offset +
 -- ---- measuring a group of blocks
 
 -- an answer of `child_at` that is known
-module _ (s : List ℕ) (p : Place) (r : ChildOutcome) (said : childSaid s p r ≡ childAt s p) where
+module _ (s : List ℕ) (p : Position) (r : ChildOutcome) (said : childSaid s p r ≡ childAt s p) where
   pub child-known : (key last : Part) (size : ℕ) → r ≡ AChild key last size → ChildWithin s p r
       → (childSaid s p (AChild key last size) ≡ childAt s p) × ChildWithin s p (AChild key last size)
   child-known key last size told within = (subst (λ o. childSaid s p o ≡ childAt s p) told said, subst (ChildWithin s p) told within)
@@ -61,9 +61,9 @@ module _ (s : List ℕ) (p : Place) (r : ChildOutcome) (said : childSaid s p r �
   unfolding childSaid
   child-none n told = sym said ∙ ap (childSaid s p) told
 
-module _ (s : List ℕ) (from : Place) (most : ℕ) where
+module _ (s : List ℕ) (from : Position) (most : ℕ) where
   -- the blocks up to `at` are seen, and so many bytes counted
-  pub record Measuring (at : Place) (count total : ℕ) : Type 0 where
+  pub record Measuring (at : Position) (count total : ℕ) : Type 0 where
     pub seen : List IndexEntry
     pub split : childrenFrom s from ≡ seen ++ childrenFrom s at
     pub counted : count ≡ length seen
@@ -78,7 +78,7 @@ module _ (s : List ℕ) (from : Place) (most : ℕ) where
   measuring-none h =
       record { seen = []; split = refl; counted = refl; few = omega arith; sized = refl; onward = omega arith; bounded = omega arith; within = h }
 
-  module _ (at : Place) (count total : ℕ) (m : Measuring at count total) where
+  module _ (at : Position) (count total : ℕ) (m : Measuring at count total) where
     measured : (rest : List IndexEntry) → childrenFrom s at ≡ rest → take most (m .seen ++ rest) ≡ m .seen → drop most (m .seen ++ rest) ≡ rest
         → Measured s from most (record { count = count; next = at; length = total })
     measured rest e t d =
@@ -122,7 +122,7 @@ module _ (s : List ℕ) (from : Place) (most : ℕ) where
       unfolding childSaid entryIn ChildWithin Within
       measuring-more h =
           let it = entryIn s key (at .offset) size in
-          let next : Place = record { offset = at .offset + size; before = last } in
+          let next : Position = record { offset = at .offset + size; before = last } in
           record {
             seen = m .seen ++ (it ∷ []);
             split =
@@ -216,9 +216,9 @@ module _ (o : List ℕ) (place : ℕ) (key : Part) (offset size : ℕ) (before :
 
 -- ---- putting the entries of a block
 
-module _ (old : List ℕ) (to : ℕ) (from : Place) (count place : ℕ) where
+module _ (old : List ℕ) (to : ℕ) (from : Position) (count place : ℕ) where
   -- the entries for the blocks up to `at` are put
-  pub record Entering (output : List ℕ) (at : Place) (end left : ℕ) : Type 0 where
+  pub record Entering (output : List ℕ) (at : Position) (end left : ℕ) : Type 0 where
     pub seen : List IndexEntry
     pub split : entriesFor old to from count ≡ seen ++ take left (childrenFrom (take to old) at)
     pub ends : end ≡ place + length (flatMap entryBytes seen)
@@ -229,7 +229,7 @@ module _ (old : List ℕ) (to : ℕ) (from : Place) (count place : ℕ) where
   unfolding entriesFor flatMap
   entering-none h = record { seen = []; split = refl; ends = omega arith; holds = sym (stored-nil old place); within = h }
 
-  module _ (output : List ℕ) (at : Place) (end left : ℕ) (e : Entering output at end left) where
+  module _ (output : List ℕ) (at : Position) (end left : ℕ) (e : Entering output at end left) where
     -- the run of blocks is as it was
     pub entering-same : to ≤ place → take to output ≡ take to old
     entering-same h = ap (take to) (e .holds) ∙ take-stored old place (flatMap entryBytes (e .seen)) to h
@@ -270,7 +270,7 @@ module _ (old : List ℕ) (to : ℕ) (from : Place) (count place : ℕ) where
         abbrev it : IndexEntry
         it = entryIn output key (at .offset) size
 
-        abbrev onward : Place
+        abbrev onward : Position
         onward = record { offset = at .offset + size; before = last }
 
         short : length (take to output) ≤ to

@@ -22,7 +22,7 @@ use Rattle.layout.proofs.BlockBackLaws.{index-some}
 use Rattle.encoder.proofs.PutLaws.{blockSize-some, size-0, size-within, block-number, block-stored}
 use Rattle.index_encoder.specs.declared.entries.Group.{Group}
 use Rattle.index_encoder.specs.declared.level.LevelOutcome.the-variants.{Answer as ALevel, Refused as NoLevel}
-use Rattle.index_encoder.specs.declared.child.Place.{Place}
+use Rattle.index_encoder.specs.declared.child.Position.{Position}
 use Rattle.index_encoder.specs.Children.{Within, childrenFrom, startAt}
 use Rattle.index_encoder.specs.Level.{Measured, entriesFor, blockFor, levelFor, LevelPut}
 use Rattle.index_encoder.proofs.StoredLaws.{flatMap-snoc, take-counted, stored-nil, stored-after, part-stored}
@@ -30,7 +30,7 @@ use Rattle.index_encoder.proofs.StoredLaws.{flatMap-snoc, take-counted,
 -- ---- one index block
 
 -- the block at `place` over the first `count` blocks from `from` to `to`, whose entries take n bytes
-module _ (o : List ℕ) (level to : ℕ) (from : Place) (count place n : ℕ) (low : to ≤ place) (held : Within (take to o) (from .before))
+module _ (o : List ℕ) (level to : ℕ) (from : Position) (count place n : ℕ) (low : to ≤ place) (held : Within (take to o) (from .before))
     (long : n ≡ length (flatMap entryBytes (entriesFor o to from count))) where
   abbrev payload : List ℕ
   payload = flatMap entryBytes (entriesFor o to from count)
@@ -128,11 +128,11 @@ module _ (o : List ℕ) (level to : ℕ) (from : Place) (count place n : ℕ) (l
 -- ---- the index blocks of a level
 
 module _ (old : List ℕ) (perIndex level from to : ℕ) where
-  abbrev childrenOf : Place → List IndexEntry
+  abbrev childrenOf : Position → List IndexEntry
   childrenOf at = childrenFrom (take to old) at
 
   -- the index blocks of the groups up to `at` are put
-  pub record Leveling (output : List ℕ) (at : Place) (end blocks : ℕ) : Type 0 where
+  pub record Leveling (output : List ℕ) (at : Position) (end blocks : ℕ) : Type 0 where
     pub done : List IndexBlock
     pub split : levelFor perIndex level old from to ≡ done ++ levelFrom level end (groups perIndex (childrenOf at))
     pub ends : end ≡ to + length (flatMap indexBytes done)
@@ -156,7 +156,7 @@ module _ (old : List ℕ) (perIndex level from to : ℕ) where
         held = omega arith;
       }
 
-  module _ (output : List ℕ) (at : Place) (end blocks : ℕ) (v : Leveling output at end blocks) where
+  module _ (output : List ℕ) (at : Position) (end blocks : ℕ) (v : Leveling output at end blocks) where
     pub leveling-long : length output ≡ length old
     leveling-long = ap length (v .holds) ∙ length-stored old to (flatMap indexBytes (v .done))
 

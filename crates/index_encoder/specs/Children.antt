@@ -14,14 +14,15 @@ use Rattle.payload.specs.Payload.{Text, textAt}
 use Rattle.block.specs.Block.{isData}
 use Rattle.layout.specs.Index.{IndexEntry}
 use Rattle.layout.specs.File.{keyFor}
-use Rattle.index_encoder.specs.declared.child.Place.{Place}
+use Rattle.index_encoder.specs.declared.child.Position.{Position}
 use Rattle.index_encoder.specs.declared.child.ChildOutcome.{ChildOutcome}
 use Rattle.index_encoder.specs.declared.child.ChildOutcome.the-variants.{Answer as AChild, Refused as NoChild}
 
--- the bytes of a part of s, which lies within s
+-- the bytes of a part of s
 unfoldable pub bytesOf : (s : List ℕ) → Part → List ℕ
 bytesOf s p = part s (p .offset) (p .length)
 
+-- a part lies within s
 unfoldable pub Within : (s : List ℕ) → Part → Type 0
 Within s p = p .offset + p .length ≤ length s
 
@@ -52,16 +53,16 @@ module _ (s : List ℕ) where
         })
         (record { entry = record { key = first .item .bytes; offset = at; size = f .size }; last = first .item .bytes }))
 
-  -- the entries for the blocks from an offset on, up to the first place where none can be read; at most `fuel` of them
+  -- the entries for the blocks from an offset on, up to the first offset where none can be read; at most `fuel` of them
   unfoldable pub childrenAfter : (fuel : ℕ) (before : List ℕ) (at : ℕ) → List IndexEntry
   childrenAfter zero before at = []
   childrenAfter (suc fuel) before at = whereAnswered (childAfter before at) (λ c. c .entry ∷ childrenAfter fuel (c .last) (at + c .entry .size))
 
-  -- the block at a place, and the entries for the blocks from there on; a block takes at least a byte, so the length is fuel enough
-  unfoldable pub childAt : Place → Outcome Child
+  -- the block at a position, and the entries for the blocks from there on; a block takes at least a byte, so the length is fuel enough
+  unfoldable pub childAt : Position → Outcome Child
   childAt p = childAfter (bytesOf s (p .before)) (p .offset)
 
-  unfoldable pub childrenFrom : Place → List IndexEntry
+  unfoldable pub childrenFrom : Position → List IndexEntry
   childrenFrom p = childrenAfter (length s) (bytesOf s (p .before)) (p .offset)
 
   -- the entry with a key that stands in s
@@ -69,17 +70,17 @@ module _ (s : List ℕ) where
   entryIn key offset size = record { key = bytesOf s key; offset = offset; size = size }
 
   -- what an answer of `child_at` says
-  unfoldable pub childSaid : Place → ChildOutcome → Outcome Child
+  unfoldable pub childSaid : Position → ChildOutcome → Outcome Child
   childSaid p (AChild key last size) = answer (record { entry = entryIn key (p .offset) size; last = bytesOf s last })
   childSaid p (NoChild n) = refused n (p .offset)
 
   -- the key and the record that an answer names lie within the block, and the block within s
-  unfoldable pub ChildWithin : Place → ChildOutcome → Type 0
+  unfoldable pub ChildWithin : Position → ChildOutcome → Type 0
   ChildWithin p (AChild key last size) =
       (p .offset < key .offset) × (key .offset + key .length ≤ p .offset + size) × (last .offset + last .length ≤ p .offset + size)
       × (p .offset + size ≤ length s)
   ChildWithin p (NoChild n) = Unit {0}
 
--- the place of a block that has no record before it
-unfoldable pub startAt : ℕ → Place
+-- the position of a block that has no record before it
+unfoldable pub startAt : ℕ → Position
 startAt offset = record { offset = offset; before = record { offset = 0; length = 0 } }

@@ -10,14 +10,15 @@ use part::Part;
 use payload::TextOutcome;
 use payload::text_at;
 
-// Where a run goes on: the offset of the next block, and the record before it, an empty part where there is none.
-pub struct Place {
+// Where a run goes on: the offset of the next block, and the record before it, an empty part where there is none. Only a data block's key is
+// made by that record.
+pub struct Position {
     pub offset: usize,
     pub before: Part,
 }
 
 pub enum ChildOutcome {
-    // The key of the entry, the block's last record, and its full size.
+    // The key of the entry, the block's last record (of an index block, which needs none, its key), and its full size.
     Answer { key: Part, last: Part, size: usize },
     Refused(u64),
 }
@@ -41,6 +42,7 @@ fn key_after(s: &[u8], before: Part, first: Part) -> Part
             length: agreeing,
         };
     }
+    // The first record is a beginning of the one before, so the records fall.
     if agreeing == first.length {
         return first;
     }
@@ -70,13 +72,13 @@ fn last_record(s: &[u8], first: Part) -> Part
     last
 }
 
-// The block at a place of `s`.
-pub fn child_at(s: &[u8], place: Place) -> ChildOutcome
-    requires { ⌜ children.Within (now s) (place .before) ⌝ }
-    ensures { λ r. ⌜ children.childSaid (now (s .entry)) place r ≡ children.childAt (now (s .entry)) place ⌝ }
-    ensures { λ r. ⌜ children.ChildWithin (now (s .entry)) place r ⌝ }
+// The block at a position of `s`.
+pub fn child_at(s: &[u8], at: Position) -> ChildOutcome
+    requires { ⌜ children.Within (now s) (at .before) ⌝ }
+    ensures { λ r. ⌜ children.childSaid (now (s .entry)) at r ≡ children.childAt (now (s .entry)) at ⌝ }
+    ensures { λ r. ⌜ children.ChildWithin (now (s .entry)) at r ⌝ }
 {
-    let frame = frame_at(s, place.offset);
+    let frame = frame_at(s, at.offset);
     match frame {
         FrameOutcome::Refused(n) => ChildOutcome::Refused(n),
         FrameOutcome::Answer(f) => {
@@ -92,7 +94,7 @@ pub fn child_at(s: &[u8], place: Place) -> ChildOutcome
                             size: f.size,
                         };
                     }
-                    let key = key_after(s, place.before, first);
+                    let key = key_after(s, at.before, first);
                     let last = last_record(&s[..end], first);
                     ChildOutcome::Answer {
                         key,

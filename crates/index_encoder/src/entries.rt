@@ -8,14 +8,14 @@ ghost use Rattle.layout.specs.Index.{entryBytes};
 ghost use Rattle.index_encoder.specs.Children.{entryIn, Within};
 ghost use Rattle.index_encoder.specs.Level.{Measured, entriesFor};
 use crate::child::ChildOutcome;
-use crate::child::Place;
+use crate::child::Position;
 use crate::child::child_at;
 use part::Part;
 
 // A group of blocks that stand side by side: how many, where the run goes on, and how many bytes their entries take.
 pub struct Group {
     pub count: u64,
-    pub next: Place,
+    pub next: Position,
     pub length: usize,
 }
 
@@ -30,8 +30,8 @@ fn entry_length(key: Part, offset: usize, size: usize) -> usize
         + uleb128::number_length(size as u64)
 }
 
-// The blocks of `s` from a place on, at most `most` of them.
-pub fn measure(s: &[u8], from: Place, most: u64) -> Group
+// The blocks of `s` from a position on, at most `most` of them.
+pub fn measure(s: &[u8], from: Position, most: u64) -> Group
     requires { ⌜ (length (now s) ≤ 2 ^ 30) × Within (now s) (from .before) ⌝ }
     ensures { λ r. ⌜ Measured (now (s .entry)) from most r ⌝ }
 {
@@ -49,7 +49,7 @@ pub fn measure(s: &[u8], from: Place, most: u64) -> Group
             ChildOutcome::Answer { key, last, size } => {
                 length += entry_length(key, at.offset, size);
                 let offset = at.offset + size;
-                at = Place {
+                at = Position {
                     offset,
                     before: last,
                 };
@@ -78,7 +78,7 @@ fn put_entry(output: &mut [u8], place: usize, key: Part, offset: usize, size: us
 }
 
 // Puts the entries for the first `count` blocks from `from` on of the run that ends at `to`; answers where they end.
-pub fn put_entries(output: &mut [u8], to: usize, from: Place, count: u64, place: usize) -> usize
+pub fn put_entries(output: &mut [u8], to: usize, from: Position, count: u64, place: usize) -> usize
     requires { ⌜ (to ≤ place) × Within (take to (now output)) (from .before)
         × (place + length (flatMap entryBytes (entriesFor (now output) to from count)) ≤ length (now output)) ⌝ }
     ensures { λ r. ⌜ r ≡ place + length (flatMap entryBytes (entriesFor (now (output .entry)) to from count)) ⌝ }
@@ -94,7 +94,7 @@ pub fn put_entries(output: &mut [u8], to: usize, from: Place, count: u64, place:
             ChildOutcome::Answer { key, last, size } => {
                 end = put_entry(output, end, key, at.offset, size);
                 let offset = at.offset + size;
-                at = Place {
+                at = Position {
                     offset,
                     before: last,
                 };

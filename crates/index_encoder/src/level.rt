@@ -7,7 +7,7 @@ ghost use Rattle.output_bytes.specs.OutputBytes.{stored, storedLength};
 ghost use Rattle.layout.specs.Index.{entryBytes, indexBytes};
 ghost use Rattle.index_encoder.specs.Children.{Within};
 ghost use Rattle.index_encoder.specs.Level.{entriesFor, blockFor, levelFor, LevelPut};
-use crate::child::Place;
+use crate::child::Position;
 use crate::entries::Group;
 use crate::entries::measure;
 use crate::entries::put_entries;
@@ -26,7 +26,7 @@ fn put_index_block(
     output: &mut [u8],
     level: u8,
     to: usize,
-    from: Place,
+    from: Position,
     group: Group,
     place: usize,
 ) -> usize
@@ -64,7 +64,7 @@ pub fn put_level(
         offset: 0,
         length: 0,
     };
-    let mut at = Place {
+    let mut at = Position {
         offset: from,
         before: none,
     };
@@ -80,7 +80,12 @@ pub fn put_level(
             return LevelOutcome::Refused;
         }
         end += size;
-        at = group.next;
+        let next = group.next;
+        let before = next.before;
+        at = Position {
+            offset: next.offset,
+            before,
+        };
         blocks += 1;
     }
 }

@@ -25,7 +25,7 @@ use Rattle.theorems_layout.specs.WrittenTree.{Writable}
 use Rattle.theorems_layout.proofs.Levels.{Levels, top, higher, Grouped}
 use Rattle.theorems_layout.proofs.PlacedLaws.{placed-first, index-start, index-level, index-entries, datas-member}
 use Rattle.theorems_layout.proofs.WrittenNames.{Kinds, block-kinds, index-member, written-levels}
-use Rattle.theorems_layout.proofs.WrittenKeys.{leads-entry, keyed-by}
+use Rattle.theorems_layout.proofs.WrittenKeys.{leads-entry}
 use Rattle.theorems_layout.proofs.DataKeys.{KeyHolds, leads-lowest}
 
 -- ---- the first key on each level
@@ -121,10 +121,11 @@ module _ (perIndex from : ℕ) (blocks : List (List (List ℕ))) (good : Writabl
   Holds = KeyHolds perIndex from blocks good
 
   pub written-cut : (b : Block) → List·Memᴰ b (placedBlocks perIndex from blocks) → (e : Entry) → List·Memᴰ e (b .entries)
-      → (first : Text) (rest : List Text) → under (placedBlocks perIndex from blocks) (b .frame .level - 1) (e .offset) ≡ first ∷ rest
-      → begins (e .key .bytes) (first .bytes) ≡ true
-  written-cut b m e n first rest leads =
-      keyed-by perIndex from blocks good Holds (leads-lowest perIndex from blocks good) b m e n first rest leads .cut
+      → (first : Text) × (rest : List Text) × (under (placedBlocks perIndex from blocks) (b .frame .level - 1) (e .offset) ≡ first ∷ rest)
+      × (begins (e .key .bytes) (first .bytes) ≡ true)
+  written-cut b m e n =
+      let leads = leads-entry perIndex from blocks good Holds (leads-lowest perIndex from blocks good) b m e n in
+      (leads .first, leads .rest, leads .under-is, leads .holds .cut)
 
   pub written-shortest : (b : Block) → List·Memᴰ b (placedBlocks perIndex from blocks) → (e : Entry) → List·Memᴰ e (b .entries)
       → (key : List ℕ) → keyFits (placedBlocks perIndex from blocks) key (under (placedBlocks perIndex from blocks) (b .frame .level - 1) (e .offset)) ≡ true

@@ -61,8 +61,8 @@ module _ (perBlock perIndex : ℕ) where
         → (e : Entry) (es : List Entry) → b .entries ≡ e ∷ es → e .key .bytes ≡ []
     -- a key is a beginning of the first record that the block named by its entry leads to
     pub cut : (b : Block) → List·Memᴰ b bs → (e : Entry) → List·Memᴰ e (b .entries)
-        → (first : Text) (rest : List Text) → under bs (b .frame .level - 1) (e .offset) ≡ first ∷ rest
-        → begins (e .key .bytes) (first .bytes) ≡ true
+        → (first : Text) × (rest : List Text) × (under bs (b .frame .level - 1) (e .offset) ≡ first ∷ rest)
+        × (begins (e .key .bytes) (first .bytes) ≡ true)
     -- and no byte string that keeps the key rule there is shorter
     pub shortest : (b : Block) → List·Memᴰ b bs → (e : Entry) → List·Memᴰ e (b .entries)
         → (key : List ℕ) → keyFits bs key (under bs (b .frame .level - 1) (e .offset)) ≡ true → length (e .key .bytes) ≤ length key

@@ -28,7 +28,7 @@ slice-aggregate-text-at c =
     let args = c .before .before .before .before .before .before .args in
     let frame-at = c .before .before .before .before .frame-at in
     let frame2 = c .before .before .frame2 in
-    let f = frame⇒Framed (now (args .s)) (args .place .offset) _ (sym (frame-at .ensures) ∙ ap (frameSaid (args .place .offset))
+    let f = frame⇒Framed (now (args .s)) (args .at .offset) _ (sym (frame-at .ensures) ∙ ap (frameSaid (args .at .offset))
     (frame2 .given .1)) in let sized = f .sized in let within = f .within in sym (length-take-le _ (now (args .s)) (omega arith))
 
 add-text-at : tie.Need-add-text-at
@@ -38,7 +38,7 @@ add-text-at c =
     let frame-at = c .before .before .before .before .before .frame-at in
     let frame2 = c .before .before .before .frame2 in
     let good = c .before .before .before .before .before .before .before .good in
-    let f = frame⇒Framed (now (args .s)) (args .place .offset) _ (sym (frame-at .ensures) ∙ ap (frameSaid (args .place .offset))
+    let f = frame⇒Framed (now (args .s)) (args .at .offset) _ (sym (frame-at .ensures) ∙ ap (frameSaid (args .at .offset))
     (frame2 .given .1)) in let some = f .some in let sized = f .sized in let within = f .within in omega (arith, good)
 
 text-at-requires : tie.Need-text-at-requires
@@ -58,8 +58,8 @@ returns c =
     let frame2 = c .before .before .before .before .before .before .before .before .before .frame2 in
     let text-at = c .before .before .before .before .before .text-at in
     let found2 = c .before .before .before .found2 in
-    index-child-told (now (args .s)) (args .place) _ (sym (frame-at .ensures) ∙ ap (frameSaid (args .place .offset)) (frame2 .given .1)) _
-    (sym (text-at .ensures (args .place .offset)) ∙ ap (textSaid (args .place .offset) _) (found2 .given .1)) (c .if1 .taken)
+    index-child-told (now (args .s)) (args .at) _ (sym (frame-at .ensures) ∙ ap (frameSaid (args .at .offset)) (frame2 .given .1)) _
+    (sym (text-at .ensures (args .at .offset)) ∙ ap (textSaid (args .at .offset) _) (found2 .given .1)) (c .if1 .taken)
 
 key-after-requires : tie.Need-key-after-requires
 unfolding frameSaid textSaid
@@ -71,8 +71,8 @@ key-after-requires c κs =
     let text-at = c .before .before .before .before .before .text-at in
     let found2 = c .before .before .before .found2 in (
       pre,
-      first-within (now (args .s)) (args .place) _ (sym (frame-at .ensures) ∙ ap (frameSaid (args .place .offset)) (frame2 .given .1)) _
-          (sym (text-at .ensures (args .place .offset)) ∙ ap (textSaid (args .place .offset) _) (found2 .given .1)) .0,
+      first-within (now (args .s)) (args .at) _ (sym (frame-at .ensures) ∙ ap (frameSaid (args .at .offset)) (frame2 .given .1)) _
+          (sym (text-at .ensures (args .at .offset)) ∙ ap (textSaid (args .at .offset) _) (found2 .given .1)) .0,
     )
 
 slice-aggregate-last-record : tie.Need-slice-aggregate-last-record
@@ -81,7 +81,7 @@ slice-aggregate-last-record c =
     let args = c .before .before .before .before .before .before .before .before .before .before .before .before .before .before .before .args in
     let frame-at = c .before .before .before .before .before .before .before .before .before .before .before .before .before .frame-at in
     let frame2 = c .before .before .before .before .before .before .before .before .before .before .before .frame2 in
-    let f = frame⇒Framed (now (args .s)) (args .place .offset) _ (sym (frame-at .ensures) ∙ ap (frameSaid (args .place .offset))
+    let f = frame⇒Framed (now (args .s)) (args .at .offset) _ (sym (frame-at .ensures) ∙ ap (frameSaid (args .at .offset))
     (frame2 .given .1)) in let sized = f .sized in let within = f .within in sym (length-take-le _ (now (args .s)) (omega arith))
 
 last-record-requires : tie.Need-last-record-requires
@@ -92,16 +92,16 @@ last-record-requires c κs =
     let frame2 = c .before .before .before .before .before .before .before .before .before .before .before .frame2 in
     let text-at = c .before .before .before .before .before .before .before .text-at in
     let found2 = c .before .before .before .before .before .found2 in
-    first-within (now (args .s)) (args .place) _ (sym (frame-at .ensures) ∙ ap (frameSaid (args .place .offset)) (frame2 .given .1)) _ (sym
-    (text-at .ensures (args .place .offset)) ∙ ap (textSaid (args .place .offset) _) (found2 .given .1)) .1
+    first-within (now (args .s)) (args .at) _ (sym (frame-at .ensures) ∙ ap (frameSaid (args .at .offset)) (frame2 .given .1)) _ (sym
+    (text-at .ensures (args .at .offset)) ∙ ap (textSaid (args .at .offset) _) (found2 .given .1)) .1
 
 returns-2 : tie.Need-returns-2
 unfolding frameSaid childAt childSaid ChildWithin
 returns-2 c =
     let args = c .before .before .before .before .before .args in
     let frame-at = c .before .before .before .frame-at in (
-      sym (child-frameless (now (args .s)) (bytesOf (now (args .s)) (args .place .before)) (args .place .offset) _ _ (sym (frame-at .ensures)
-          ∙ ap (frameSaid (args .place .offset)) (c .before .frame .given .1))),
+      sym (child-frameless (now (args .s)) (bytesOf (now (args .s)) (args .at .before)) (args .at .offset) _ _ (sym (frame-at .ensures)
+          ∙ ap (frameSaid (args .at .offset)) (c .before .frame .given .1))),
       tt,
     )
 
@@ -112,9 +112,9 @@ returns-3 c =
     let frame-at = c .before .before .before .before .before .before .before .before .before .frame-at in
     let frame2 = c .before .before .before .before .before .before .before .frame2 in
     let text-at = c .before .before .before .text-at in (
-      sym (child-keyless (now (args .s)) (bytesOf (now (args .s)) (args .place .before)) (args .place .offset) _ (sym (frame-at .ensures) ∙
-          ap (frameSaid (args .place .offset)) (frame2 .given .1)) _ _ (sym (text-at .ensures (args .place .offset)) ∙ ap (textSaid
-          (args .place .offset) _) (c .before .found .given .1))),
+      sym (child-keyless (now (args .s)) (bytesOf (now (args .s)) (args .at .before)) (args .at .offset) _ (sym (frame-at .ensures) ∙
+          ap (frameSaid (args .at .offset)) (frame2 .given .1)) _ _ (sym (text-at .ensures (args .at .offset)) ∙ ap (textSaid
+          (args .at .offset) _) (c .before .found .given .1))),
       tt,
     )
 
@@ -128,8 +128,8 @@ returns-4 c =
     let found2 = c .before .before .before .before .before .before .found2 in
     let if1 = c .before .before .before .if1 in
     let key-after = c .before .before .key-after in
-    data-child-told (now (args .s)) (args .place) _ (sym (frame-at .ensures) ∙ ap (frameSaid (args .place .offset)) (frame2 .given .1)) _
-    (sym (text-at .ensures (args .place .offset)) ∙ ap (textSaid (args .place .offset) _) (found2 .given .1)) (if1 .left) _ _
+    data-child-told (now (args .s)) (args .at) _ (sym (frame-at .ensures) ∙ ap (frameSaid (args .at .offset)) (frame2 .given .1)) _
+    (sym (text-at .ensures (args .at .offset)) ∙ ap (textSaid (args .at .offset) _) (found2 .given .1)) (if1 .left) _ _
     (key-after .ensures .0) (key-after .ensures .1 .0) (key-after .ensures .1 .1) (c .last-record .ensures .0) (c .last-record .ensures .1)
 
 pub child-at-spec : {M : Type 1} → statement M

@@ -53,7 +53,7 @@ returns c =
     let pre = c .before .before .before .before .before .before .before .before .pre in
     let compare = c .before .before .compare in
     key-all (now (args .s)) (args .before) (args .first) (pre .0) (pre .1) (compared-agreeing _ _ _ (compare .ensures) ∙ ap₂ agreeing
-    (lent-part _ (args .before .offset) (args .before .length)) (lent-part _ (args .first .offset) (args .first .length))) (c .if1 .taken)
+    (lent-part _ (args .before .offset) (args .before .length)) (lent-part _ (args .first .offset) (args .first .length))) (let same = c .if1 .taken in omega arith)
 
 returns-2 : tie.Need-returns-2
 unfolding bytesOf
@@ -63,7 +63,7 @@ returns-2 c =
     let compare = c .before .before .before .before .compare in
     let if1 = c .before .before .if1 in
     key-whole (now (args .s)) (args .before) (args .first) (pre .0) (pre .1) (compared-agreeing _ _ _ (compare .ensures) ∙ ap₂ agreeing
-    (lent-part _ (args .before .offset) (args .before .length)) (lent-part _ (args .first .offset) (args .first .length))) (if1 .left)
+    (lent-part _ (args .before .offset) (args .before .length)) (lent-part _ (args .first .offset) (args .first .length))) (λ e. if1 .left (omega (arith, e)))
     (c .if2 .taken)
 
 add-length : tie.Need-add-length
@@ -79,7 +79,7 @@ add-length c =
       good,
       key-parted (now (args .s)) (args .before) (args .first) (pre .0) (pre .1) (compared-agreeing
           _ _ _ (compare .ensures) ∙ ap₂ agreeing (lent-part _ (args .before .offset) (args .before .length)) (lent-part _ (args .first .offset)
-          (args .first .length))) (if1 .left) (c .if2 .left) .1 .1,
+          (args .first .length))) (λ e. if1 .left (omega (arith, e))) (c .if2 .left) .1 .1,
     )
 
 returns-3 : tie.Need-returns-3
@@ -90,7 +90,7 @@ returns-3 c =
     let compare = c .before .before .before .before .compare in
     let if1 = c .before .before .if1 in
     key-parted (now (args .s)) (args .before) (args .first) (pre .0) (pre .1) (compared-agreeing _ _ _ (compare .ensures) ∙ ap₂ agreeing
-    (lent-part _ (args .before .offset) (args .before .length)) (lent-part _ (args .first .offset) (args .first .length))) (if1 .left)
+    (lent-part _ (args .before .offset) (args .before .length)) (lent-part _ (args .first .offset) (args .first .length))) (λ e. if1 .left (omega (arith, e)))
     (c .if2 .left)
 
 pub key-after-spec : {M : Type 1} → statement M

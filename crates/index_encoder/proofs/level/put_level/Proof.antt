@@ -89,27 +89,28 @@ add-end c =
 
 add-blocks : tie.Need-add-blocks Inv-loop μ-loop
 add-blocks c =
-    let loop = c .before .before .before .before .before .before .before .before .before .before .loop in
-    let pre = c .before .before .before .before .before .before .before .before .before .before .before .before .pre in
+    let loop = c .before .before .before .before .before .before .before .before .before .before .before .loop in
+    let pre = c .before .before .before .before .before .before .before .before .before .before .before .before .before .pre in
     let few = loop .inv .few in let within = loop .inv .within in let short = pre .2 in omega arith
 
 loop-less : tie.Need-loop-less Inv-loop μ-loop
 loop-less c =
-    let loop = c .before .before .before .before .before .before .before .before .before .before .loop in
-    let pre = c .before .before .before .before .before .before .before .before .before .before .before .before .pre in
-    let measure = c .before .before .before .before .before .before .before .before .measure in
-    let if1 = c .before .before .before .before .before .before .if1 in
+    let loop = c .before .before .before .before .before .before .before .before .before .before .before .loop in
+    let pre = c .before .before .before .before .before .before .before .before .before .before .before .before .before .pre in
+    let measure = c .before .before .before .before .before .before .before .before .before .measure in
+    let if1 = c .before .before .before .before .before .before .before .if1 in
     level-falls _ _ _ _ _ _ _ _ _ (loop .inv) (pre .0) _ (measure .ensures) (let some = if1 .left in omega arith)
 
 loop-again : tie.Need-loop-again Inv-loop μ-loop
 loop-again c =
-    let loop = c .before .before .before .before .before .before .before .before .before .before .loop in
-    let pre = c .before .before .before .before .before .before .before .before .before .before .before .before .pre in
-    let measure = c .before .before .before .before .before .before .before .before .measure in
-    let if1 = c .before .before .before .before .before .before .if1 in
-    let put-index-block = c .before .before .before .before .put-index-block in
+    let loop = c .before .before .before .before .before .before .before .before .before .before .before .loop in
+    let pre = c .before .before .before .before .before .before .before .before .before .before .before .before .before .pre in
+    let measure = c .before .before .before .before .before .before .before .before .before .measure in
+    let if1 = c .before .before .before .before .before .before .before .if1 in
+    let put-index-block = c .before .before .before .before .before .put-index-block in
+    let if2 = c .before .before .if2 in
     leveling-more _ _ _ _ _ _ _ _ _ (loop .inv) (pre .0) _ (measure .ensures) (let some = if1 .left in omega arith)
-    (put-index-block .ensures .0) (put-index-block .ensures .1) (c .before .if2 .left)
+    (put-index-block .ensures .0) (put-index-block .ensures .1) (if2 .left)
 
 pub put-level-spec : {M : Type 1} → statement M
 put-level-spec =
