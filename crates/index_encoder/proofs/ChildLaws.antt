@@ -222,8 +222,8 @@ module _ (s : List ℕ) where
     children-refused number place e = after-refused (length s) _ (p .offset) number place e
 
     -- one block, and the position after it
-    pub children-more : (c : Child) → childAt s p ≡ answer c → (next : Position) → next .offset ≡ p .offset + c .entry .size → bytesOf s (next .before) ≡ c .last
-        → childrenFrom s p ≡ c .entry ∷ childrenFrom s next
+    pub children-more : (c : Child) → childAt s p ≡ answer c → (next : Position) → next .offset ≡ p .offset + c .entry .size
+        → bytesOf s (next .before) ≡ c .last → childrenFrom s p ≡ c .entry ∷ childrenFrom s next
     unfolding childAt childrenFrom
     children-more c e next onward last =
         after-fuel (length s) (suc (length s)) _ (p .offset) (omega arith) (omega arith)

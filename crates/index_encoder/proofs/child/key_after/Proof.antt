@@ -53,7 +53,8 @@ returns c =
     let pre = c .before .before .before .before .before .before .before .before .pre in
     let compare = c .before .before .compare in
     key-all (now (args .s)) (args .before) (args .first) (pre .0) (pre .1) (compared-agreeing _ _ _ (compare .ensures) ∙ ap₂ agreeing
-    (lent-part _ (args .before .offset) (args .before .length)) (lent-part _ (args .first .offset) (args .first .length))) (let same = c .if1 .taken in omega arith)
+    (lent-part _ (args .before .offset) (args .before .length)) (lent-part _ (args .first .offset) (args .first .length)))
+    (let same = c .if1 .taken in omega arith)
 
 returns-2 : tie.Need-returns-2
 unfolding bytesOf
