@@ -6,7 +6,7 @@ use mathlib.Core.List.{List, [], _∷_}
 use Prim.Native.Nat.{ℕ, zero, suc, _-_, _≤_, _<_}
 use native.Mathlib.Omega.{arith}
 use lib.Dec.{leb, eqb}
-use lib.ListN.{length, take, drop}
+use lib.ListN.{length, take}
 use lib.Seq.{length-take-le}
 use borrow.Author.Tests.{eq-eqb, ne-eqb, lt-ltb, le-ltb}
 use Rattle.byte_string.specs.Order.{atMost}
@@ -14,7 +14,7 @@ use Rattle.outcome.specs.Outcome.{Outcome, answer, refused}
 use Rattle.items.specs.Items.{Step, soundFrom, whereAnswered}
 use Rattle.part.specs.Part.{part}
 use Rattle.part.specs.declared.Part.{Part}
-use Rattle.part.proofs.PartLaws.{part-take, length-part, lent-part}
+use Rattle.part.proofs.PartLaws.{part-take, length-part}
 use Rattle.framing.specs.Frame.{frameAt}
 use Rattle.payload.specs.Payload.{Text, Entry, textAt, entryAt}
 use Rattle.payload.specs.Answers.{textIn}
@@ -22,7 +22,8 @@ use Rattle.payload.proofs.PayloadLaws.{text⇒Placed}
 use Rattle.check_walk.specs.declared.keys.Span.{Span}
 use Rattle.check_walk.specs.declared.keys.Keys.{Keys}
 use Rattle.check_walk.specs.Lookup.{noPart, bytesIn, payloadPart, entriesIn, recordsIn}
-use Rattle.check_walk.specs.Keys.{noSpan, spanJoined, spanOne, spanOver, Within, earlier, leafKeys, fitsBetween, entryKeys, overKeys, keysEntering, keysOf}
+use Rattle.check_walk.specs.Keys.{noSpan, spanJoined, spanOne, spanOver, Within, earlier, leafKeys, fitsBetween, entryKeys, overKeys}
+use Rattle.check_walk.specs.Keys.{keysEntering, keysOf}
 use Rattle.items.proofs.GoingLaws.{Going, going-start}
 use Rattle.check_walk.proofs.LookupLaws.{endOf, payload-within, items-found}
 
@@ -56,7 +57,8 @@ pub over-record-read : (s : List ℕ) (p : Part) → endOf p ≤ length s → (s
     → (more : List Text) → spanOver (textIn s (p .offset) (p .length) ∷ more) span ≡ spanOver more next
 unfolding spanOver spanOne textIn
 over-record-read s p inside span next e more =
-    ap (λ (k : ℕ). spanOver more (spanJoined span (record { first = record { offset = p .offset; length = k }; last = record { offset = p .offset; length = k } })))
+    ap (λ (k : ℕ). spanOver more
+    (spanJoined span (record { first = record { offset = p .offset; length = k }; last = record { offset = p .offset; length = k } })))
     (length-part s (p .offset) (p .length) inside)
     ∙ ap (spanOver more) (sym e)
 
@@ -72,7 +74,11 @@ leaf-is : (file : List ℕ) (at : ℕ) (before : Keys) (own : Span) (m : ℕ) �
 unfolding leafKeys
 leaf-is file at before own m e k =
     ap (λ (n : ℕ). record { span = own; unordered = n; misfit = before .misfit }) (sym k)
-    ∙ ap (λ (s : Span). record { span = s; unordered = cond (eqb (before .unordered) 0 && not (atMost (bytesIn file (before .span .last)) (bytesIn file (s .first)))) at (before .unordered); misfit = before .misfit }) e
+    ∙ ap (λ (s : Span). record {
+      span = s;
+      unordered = cond (eqb (before .unordered) 0 && not (atMost (bytesIn file (before .span .last)) (bytesIn file (s .first)))) at (before .unordered);
+      misfit = before .misfit;
+    }) e
 
 module _ (file : List ℕ) (at : ℕ) (before : Keys) (own : Span) (e : own ≡ spanOver (recordsIn file at) noSpan) where
   -- an earlier block is out of order
@@ -88,17 +94,6 @@ module _ (file : List ℕ) (at : ℕ) (before : Keys) (own : Span) (e : own ≡ 
   pub leaf-unordered : before .unordered ≡ 0 → (fits : Bool) → fits ≡ atMost (bytesIn file (before .span .last)) (bytesIn file (own .first)) → fits ≡ false
       → record { span = own; unordered = at; misfit = before .misfit } ≡ leafKeys file at before
   leaf-unordered h fits k t = leaf-is file at before own at e (rw (eq-eqb (before .unordered) 0 h, sym k ∙ t))
-
--- ---- parts of the file
-
-pub lent-at-most : (file : List ℕ) (x y : Part) (r : Bool)
-    → r ≡ atMost (take (endOf x - x .offset) (drop (x .offset) file)) (take (endOf y - y .offset) (drop (y .offset) file))
-    → r ≡ atMost (bytesIn file x) (bytesIn file y)
-unfolding bytesIn
-lent-at-most file x y r e =
-    e
-    ∙ ap (λ (l : List ℕ). atMost l (take (endOf y - y .offset) (drop (y .offset) file))) (lent-part file (x .offset) (x .length))
-    ∙ ap (atMost (part file (x .offset) (x .length))) (lent-part file (y .offset) (y .length))
 
 -- ---- an entry
 
@@ -140,7 +135,9 @@ pub keys-index : (file : List ℕ) (level at : ℕ) (before : Keys) → (level �
     → keysOf file level at before ≡ overKeys file at (keysOf file (level - 1)) (entriesIn file at) (keysEntering before)
 unfolding keysOf
 keys-index file zero at before h = absurd (h refl)
-keys-index file (suc level) at before h = let one : level ≡ suc level - 1 = omega arith in ap (λ (l : ℕ). overKeys file at (keysOf file l) (entriesIn file at) (keysEntering before)) one
+keys-index file (suc level) at before h =
+    let one : level ≡ suc level - 1 = omega arith in
+    ap (λ (l : ℕ). overKeys file at (keysOf file l) (entriesIn file at) (keysEntering before)) one
 
 pub keys-start : (file : List ℕ) (level at : ℕ) (met : Keys) (p : Part) → p ≡ payloadPart (frameAt file at)
     → Going (overKeys file at (keysOf file (level - 1))) (entryAt at (take (endOf p) file)) (endOf p)
@@ -161,7 +158,8 @@ over-keys-end file at child met = refl
 pub over-key : (file : List ℕ) (at end : ℕ) (child : ℕ → Keys → Keys) (key : Part) (offset size : ℕ) (met own next : Keys) → endOf key ≤ end
     → own ≡ child offset met → next ≡ entryKeys file at (bytesIn file key) met own
     → (more : List Entry)
-    → overKeys file at child (record { key = textIn (take end file) (key .offset) (key .length); offset = offset; size = size } ∷ more) met ≡ overKeys file at child more next
+    → overKeys file at child (record { key = textIn (take end file) (key .offset) (key .length); offset = offset; size = size } ∷ more) met
+    ≡ overKeys file at child more next
 unfolding overKeys textIn bytesIn
 over-key file at end child key offset size met own next inside walked e more =
     ap (λ (k : List ℕ). overKeys file at child more (entryKeys file at k met (child offset met))) (part-take file end (key .offset) (key .length) inside)
@@ -198,13 +196,15 @@ sound-within : (file : List ℕ) (place end : ℕ) → end ≤ length file → (
     → Within file (spanOver (soundFrom (textAt place (take end file)) end fuel at) s)
 unfolding soundFrom spanOver whereAnswered
 sound-within file place end inside zero at s h = h
-sound-within file place end inside (suc fuel) at s h = go (leb end at) (textAt place (take end file) at) refl (λ (a : ℕ) (t : Span). sound-within file place end inside fuel a t)
+sound-within file place end inside (suc fuel) at s h =
+    go (leb end at) (textAt place (take end file) at) refl (λ (a : ℕ) (t : Span). sound-within file place end inside fuel a t)
   where
     go : (t : Bool) (o : Outcome (Step Text)) → textAt place (take end file) at ≡ o
         → ((a : ℕ) (t : Span) → Within file t → Within file (spanOver (soundFrom (textAt place (take end file)) end fuel a) t))
         → Within file (spanOver (cond t [] (whereAnswered o (λ x. x .item ∷ soundFrom (textAt place (take end file)) end fuel (x .next)))) s)
     go true o e ih = h
-    go false (answer x) e ih = ih (x .next) (spanJoined s (spanOne (x .item))) (joined-within file s (spanOne (x .item)) h (one-within file place end at x inside e))
+    go false (answer x) e ih =
+        ih (x .next) (spanJoined s (spanOne (x .item))) (joined-within file s (spanOne (x .item)) h (one-within file place end at x inside e))
     go false (refused number place) e ih = h
 
 none-within : (file : List ℕ) → Within file noSpan
@@ -223,7 +223,8 @@ over-within : (file : List ℕ) (at : ℕ) (child : ℕ → Keys → Keys) → (
 unfolding overKeys
 over-within file at child h [] met k = k
 over-within file at child h (e ∷ es) met k =
-    over-within file at child h es (entryKeys file at (e .key .bytes) met (child (e .offset) met)) (entry-keys-within file at (e .key .bytes) met (child (e .offset) met) k (h (e .offset) met k))
+    over-within file at child h es (entryKeys file at (e .key .bytes) met (child (e .offset) met))
+    (entry-keys-within file at (e .key .bytes) met (child (e .offset) met) k (h (e .offset) met k))
 
 -- what the walk hands back lies within the file
 pub keys-within : (file : List ℕ) (level at : ℕ) (before : Keys) → Within file (before .span) → Within file (keysOf file level at before .span)

@@ -9,6 +9,7 @@ use crate::lookup::payload_at;
 use part::Part;
 use payload::EntryOutcome;
 use payload::TextOutcome;
+use payload::compare_parts;
 use payload::entry_at;
 use payload::text_at;
 
@@ -76,11 +77,7 @@ fn part_at_most(file: &[u8], x: Part, y: Part) -> bool
     requires { ⌜ (x .offset + x .length ≤ length (now file)) × (y .offset + y .length ≤ length (now file)) ⌝ }
     ensures { λ r. ⌜ r ≡ atMost (bytesIn (now (file .entry)) x) (bytesIn (now (file .entry)) y) ⌝ }
 {
-    let a = x.offset;
-    let b = a + x.length;
-    let c = y.offset;
-    let d = c + y.length;
-    byte_string::compare(&file[a..b], &file[c..d]).at_most()
+    compare_parts(file, x, y).at_most()
 }
 
 // A data block: it is out of order where its first record is below the last one before.

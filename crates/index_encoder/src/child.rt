@@ -8,6 +8,7 @@ use framing::FrameOutcome;
 use framing::frame_at;
 use part::Part;
 use payload::TextOutcome;
+use payload::compare_parts;
 use payload::text_at;
 
 // Where a run goes on: the offset of the next block, and the record before it, an empty part where there is none. Only a data block's key is
@@ -30,15 +31,11 @@ fn key_after(s: &[u8], before: Part, first: Part) -> Part
         ≡ keyFor (some (children.bytesOf (now (s .entry)) before)) (children.bytesOf (now (s .entry)) first) ⌝ }
     ensures { λ r. ⌜ (r .offset ≡ first .offset) × (r .length ≤ first .length) ⌝ }
 {
-    let a = before.offset;
-    let b = a + before.length;
-    let c = first.offset;
-    let d = c + first.length;
-    let comparison = byte_string::compare(&s[a..b], &s[c..d]);
+    let comparison = compare_parts(s, before, first);
     let agreeing = comparison.agreeing;
     if agreeing == before.length {
         return Part {
-            offset: c,
+            offset: first.offset,
             length: agreeing,
         };
     }
@@ -47,7 +44,10 @@ fn key_after(s: &[u8], before: Part, first: Part) -> Part
         return first;
     }
     let length = agreeing + 1;
-    Part { offset: c, length }
+    Part {
+        offset: first.offset,
+        length,
+    }
 }
 
 // The last of the records that stand one after the other in `s`, from `first` to the end.

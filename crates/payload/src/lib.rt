@@ -4,10 +4,11 @@ ghost use Prim.Native.Nat.{ℕ, _+_, _≤_};
 ghost use mathlib.Core.Path.{_≡_};
 ghost use mathlib.Core.Bool.{_&&_};
 ghost use lib.ListN.{length};
-ghost use Rattle.byte_string.specs.Order.{atMost};
+ghost use Rattle.byte_string.specs.Order.{atMost, comparison};
 ghost use Rattle.part.specs.Part.{part};
 ghost use Rattle.payload.specs.Payload as payloads;
 ghost use Rattle.payload.specs.Answers as answers;
+use byte_string::Comparison;
 use framing::NumberOutcome;
 use framing::number_at;
 use part::Part;
@@ -92,17 +93,25 @@ pub enum PayloadOutcome {
     Refused(u64),
 }
 
+// Compares two byte strings that stand in `s`.
+pub fn compare_parts(s: &[u8], x: Part, y: Part) -> Comparison
+    requires { ⌜ (x .offset + x .length ≤ length (now s)) × (y .offset + y .length ≤ length (now s)) ⌝ }
+    ensures { λ r. ⌜ r ≡ comparison (part (now (s .entry)) (x .offset) (x .length)) (part (now (s .entry)) (y .offset) (y .length)) ⌝ }
+{
+    let a = x.offset;
+    let b = a + x.length;
+    let c = y.offset;
+    let d = c + y.length;
+    byte_string::compare(&s[a..b], &s[c..d])
+}
+
 // Whether the byte strings rise up to here: they did so far, and the last one is at most the next.
 fn still_rising(s: &[u8], rising: bool, last: Part, next: Part) -> bool
     requires { ⌜ (last .offset + last .length ≤ length (now s)) × (next .offset + next .length ≤ length (now s)) ⌝ }
     ensures { λ r. ⌜ r ≡ (rising && atMost (part (now (s .entry)) (last .offset) (last .length)) (part (now (s .entry)) (next .offset) (next .length))) ⌝ }
 {
-    let a = last.offset;
-    let b = a + last.length;
-    let c = next.offset;
-    let d = c + next.length;
     if rising {
-        return byte_string::compare(&s[a..b], &s[c..d]).at_most();
+        return compare_parts(s, last, next).at_most();
     }
     false
 }

@@ -26,7 +26,8 @@ module _ (bs : List Block) (root : ℕ) (t : Tree bs root) where
   -- two entries of the file that name the same offset stand in the same block, at the same place
   pub one-entry : (b c : Block) → List·Memᴰ b bs → List·Memᴰ c bs
       → (front : List Entry) (e : Entry) (back : List Entry) (front′ : List Entry) (e′ : Entry) (back′ : List Entry)
-      → b .entries ≡ front ++ (e ∷ back) → c .entries ≡ front′ ++ (e′ ∷ back′) → e .offset ≡ e′ .offset → (b ≡ c) × (front ≡ front′) × (e ≡ e′) × (back ≡ back′)
+      → b .entries ≡ front ++ (e ∷ back) → c .entries ≡ front′ ++ (e′ ∷ back′) → e .offset ≡ e′ .offset
+      → (b ≡ c) × (front ≡ front′) × (e ≡ e′) × (back ≡ back′)
   unfolding namings
   one-entry b c m n front e back front′ e′ back′ p q same = (block, place .0, place .1, place .2)
     where
@@ -77,7 +78,8 @@ module _ (bs : List Block) (root : ℕ) (t : Tree bs root) where
   turns-same level level′ at at′ same (at-root p q) (at-root p′ q′) = refl
   turns-same level level′ at at′ same (at-root p q) (by-entry upper front e back w p′ q′) =
       absurd (below level′ upper front e back w p′ (sym q′ ∙ sym same ∙ q))
-  turns-same level level′ at at′ same (by-entry upper front e back v p q) (at-root p′ q′) = absurd (below level upper front e back v p (sym q ∙ same ∙ q′))
+  turns-same level level′ at at′ same (by-entry upper front e back v p q) (at-root p′ q′) =
+      absurd (below level upper front e back v p (sym q ∙ same ∙ q′))
   turns-same level level′ at at′ same (by-entry upper front e back v p q) (by-entry upper′ front′ e′ back′ w p′ q′) =
       let m = way-block bs root t (suc level) upper v in
       let n = way-block bs root t (suc level′) upper′ w in
@@ -89,5 +91,6 @@ module _ (bs : List Block) (root : ℕ) (t : Tree bs root) where
       joined front e back front′ e′ back′ (turnsOf bs root (suc level) upper v) (turnsOf bs root (suc level′) upper′ w) (one .1) (one .2) (one .3)
       (turns-same (suc level) (suc level′) upper upper′ above v w)
 
-  pub turns-unique : (level level′ at : ℕ) (v : Way bs root level at) (w : Way bs root level′ at) → turnsOf bs root level at v ≡ turnsOf bs root level′ at w
+  pub turns-unique : (level level′ at : ℕ) (v : Way bs root level at) (w : Way bs root level′ at)
+      → turnsOf bs root level at v ≡ turnsOf bs root level′ at w
   turns-unique level level′ at v w = turns-same level level′ at at refl v w
