@@ -7,9 +7,7 @@ use Rattle.payload.proofs.still_rising.Statement.{statement}
 use Rattle.payload.proofs.still_rising.Tie as tie
 
 compare-parts-requires : tie.Need-compare-parts-requires
-compare-parts-requires c κs =
-    let pre = c .before .before .pre in
-    pre
+compare-parts-requires c κs = search needs
 
 at-most-requires : tie.Need-at-most-requires
 at-most-requires c κs = search needs

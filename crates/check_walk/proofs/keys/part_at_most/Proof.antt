@@ -7,7 +7,7 @@ use Rattle.check_walk.proofs.keys.part_at_most.Statement.{statement}
 use Rattle.check_walk.proofs.keys.part_at_most.Tie as tie
 
 compare-parts-requires : tie.Need-compare-parts-requires
-compare-parts-requires c κs = c .before .pre
+compare-parts-requires c κs = search needs
 
 at-most-requires : tie.Need-at-most-requires
 at-most-requires c κs = search needs
