@@ -1,2 +1,4 @@
 -- Laws of the CRC-64 checksum.
 pub mod Crc64Laws
+pub mod LinearLaws
+pub mod TableLaws

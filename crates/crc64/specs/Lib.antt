@@ -1,2 +1,3 @@
 -- The meaning of the CRC-64 checksum.
 pub mod Crc64
+pub mod Table

@@ -1,12 +1,12 @@
--- `crc64::absorb` meets its contract. The loop's invariant: r is the register with the first i bytes gone in.
+-- `crc64::absorb_by_bits` meets its contract. The loop's invariant: r is the register with the first i bytes gone in.
 -- Assumes nothing.
 use Prim.Native.Nat.{_-_}
 use native.Mathlib.Omega.{arith}
 use borrow.Author.Needs.{needs}
 use lib.ListN.{length}
 use Rattle.crc64.proofs.Crc64Laws.{Taken, taken-none, taken-more, taken-all}
-use Rattle.crc64.proofs.absorb.Statement.{statement}
-use Rattle.crc64.proofs.absorb.Tie as tie
+use Rattle.crc64.proofs.absorb_by_bits.Statement.{statement}
+use Rattle.crc64.proofs.absorb_by_bits.Tie as tie
 
 abbrev Inv-loop : tie.InvT-loop
 Inv-loop register bytes r₀ i₀ r i = Taken register bytes i r
@@ -37,8 +37,8 @@ loop-again c =
 returns : tie.Need-returns Inv-loop μ-loop
 returns c = taken-all _ _ _ _ (c .before .loop .inv) (omega arith)
 
-pub absorb-spec : {M : Type 1} → statement M
-absorb-spec =
+pub absorb-by-bits-spec : {M : Type 1} → statement M
+absorb-by-bits-spec =
     tie.close
     (tie.spec
     Inv-loop
