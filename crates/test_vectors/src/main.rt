@@ -1,5 +1,5 @@
 // Runs the stored vectors of CRC-64, SHA-256 and uleb128 and prints what the proved code gives. The file `stdout` beside
-// src/ has the values they must give: published ones, and five CRCs made with liblzma (docs/DECISIONS.md).
+// src/ has the values they must give: published ones, and eight CRCs made with liblzma (docs/DECISIONS.md).
 ghost use mathlib.Core.Path.{_≡_};
 ghost use Prim.Native.Nat.{min};
 use libc::STDOUT_FILENO;
@@ -38,6 +38,10 @@ fn checksums() {
     crc_line(b"00", b"\x00");
     crc_line(b"8 x ff", b"\xff\xff\xff\xff\xff\xff\xff\xff");
     crc_line(b"a", b"a");
+    let many = [b'a'; 513];
+    crc_line(b"511 x a", &many[..511]);
+    crc_line(b"512 x a", &many[..512]);
+    crc_line(b"513 x a", &many);
     let mut buffer = io::large_buffer();
     fill(&mut buffer, b'a');
     crc_line(b"65536 x a", &buffer);
