@@ -1,6 +1,7 @@
 # test: everything that must hold, as the gate runs it.   demo: build and run the main job.
 # fuzz: compare both implementations until stopped; ARGS="--seed 7 --cases 1000000" repeats a run.
-# bench: measure, and write docs/PERFORMANCE.md.   lint: look at scripts and Rust with shellcheck, rustfmt and clippy.
+# bench: measure, and write docs/PERFORMANCE.md; BEFORE=PATH also measures the zs of an earlier build.
+# lint: look at scripts and Rust with shellcheck, rustfmt and clippy.
 .PHONY: test demo fuzz bench lint
 
 test:
@@ -13,7 +14,7 @@ fuzz:
 	@scripts/fuzz.sh $(ARGS)
 
 bench:
-	@scripts/bench.sh
+	@scripts/bench.sh $(if $(BEFORE),--before "$(BEFORE)")
 
 lint:
 	@scripts/lint.sh

@@ -7,6 +7,7 @@ use std::ptr::null_mut;
 
 extern "C" {
     fn bench_crc64(bytes: *const u8, length: usize) -> u64;
+    fn bench_crc64_by_bits(bytes: *const u8, length: usize) -> u64;
     fn bench_sha256(bytes: *const u8, length: usize) -> u64;
     fn lzma_crc64(bytes: *const u8, length: usize, before: u64) -> u64;
     fn SHA256(bytes: *const u8, length: usize, digest: *mut u8) -> *mut u8;
@@ -22,6 +23,12 @@ pub fn keep<T: Copy>(value: T) {
 pub fn proved_crc64(bytes: &[u8]) -> u64 {
     // SAFETY: pointer and length are those of a slice, which is only read.
     unsafe { bench_crc64(bytes.as_ptr(), bytes.len()) }
+}
+
+/// The proved CRC-64 with eight one-bit steps for every byte, however many there are.
+pub fn proved_crc64_by_bits(bytes: &[u8]) -> u64 {
+    // SAFETY: pointer and length are those of a slice, which is only read.
+    unsafe { bench_crc64_by_bits(bytes.as_ptr(), bytes.len()) }
 }
 
 /// The first eight bytes of the proved SHA-256, as a little-endian number.

@@ -1,9 +1,9 @@
 //! Measures the proved library against others, all in one run, and prints the tables in Markdown.
 //!
-//!     zs-bench --zs PATH --portable PATH --accelerated PATH [--quick | --write DOCS]
+//!     zs-bench --zs PATH --portable PATH --accelerated PATH [--before PATH] [--quick | --write DOCS]
 //!
 //! `--quick` uses small sizes, to see that everything runs. `--write` puts the tables into DOCS/PERFORMANCE.md, between its two marks,
-//! and the growth curves into DOCS/growth.svg.
+//! and the growth curves into DOCS/growth.svg. `--before` names the `zs` of an earlier build, whose commands are then measured too.
 //!
 //! * [`records`], [`shapes`], [`archive`]: what is measured on, made by the independent reader's maker.
 //! * [`input`]: what the proved writer is given.
@@ -26,6 +26,7 @@ mod report;
 mod sections;
 mod shapes;
 
+use std::collections::HashMap;
 use std::path::{Path, PathBuf};
 
 use archive::Archive;
@@ -33,8 +34,8 @@ use chart::Panel;
 use others::Programs;
 use report::Report;
 use sections::{
-    block_sizes, checking, checksums, growth, keys, lookups, metadata, writing, Setting, FULL,
-    QUICK,
+    block_sizes, checking, checksums, crc_lengths, earlier_build, growth, keys, lookups, metadata,
+    writing, Setting, FULL, QUICK,
 };
 use shapes::Shape;
 
@@ -79,39 +80,29 @@ fn main() -> Result<(), String> {
 }
 
 fn arguments(mut words: impl Iterator<Item = String>) -> Result<Arguments, String> {
-    let (mut zs, mut portable, mut accelerated) = (None, None, None);
-    let (mut quick, mut write) = (false, None);
+    let mut quick = false;
+    let mut paths = HashMap::new();
     while let Some(word) = words.next() {
-        let path = match word.as_str() {
-            "--quick" => {
-                quick = true;
-                continue;
+        match word.as_str() {
+            "--quick" => quick = true,
+            "--zs" | "--before" | "--portable" | "--accelerated" | "--write" => {
+                let path = words.next().ok_or(format!("{word} what?"))?;
+                paths.insert(word, PathBuf::from(path));
             }
-            "--zs" => &mut zs,
-            "--portable" => &mut portable,
-            "--accelerated" => &mut accelerated,
-            "--write" => &mut write,
             _ => return Err(format!("{word}: not understood")),
-        };
-        *path = Some(
-            words
-                .next()
-                .map(PathBuf::from)
-                .ok_or(format!("{word} what?"))?,
-        );
+        }
     }
-    match (zs, portable, accelerated) {
-        (Some(zs), Some(portable), Some(accelerated)) => Ok(Arguments {
-            programs: Programs {
-                zs,
-                portable,
-                accelerated,
-            },
-            quick,
-            write,
-        }),
-        _ => Err("--zs, --portable and --accelerated are needed".to_string()),
-    }
+    let needed = |name| paths.get(name).cloned().ok_or(format!("{name} is needed"));
+    Ok(Arguments {
+        programs: Programs {
+            zs: needed("--zs")?,
+            before: paths.get("--before").cloned(),
+            portable: needed("--portable")?,
+            accelerated: needed("--accelerated")?,
+        },
+        quick,
+        write: paths.get("--write").cloned(),
+    })
 }
 
 /// Measures everything. A wrong answer on any side ends the program.
@@ -134,9 +125,11 @@ fn measure(programs: Programs, quick: bool, folder: &Path) -> (Report, [Panel; 2
     checking::measure(&setting, &mut archive, &file, &mut report);
     lookups::measure(&setting, &archive, &file, &mut report);
     checksums::measure(&setting, &archive.bytes, &mut report);
+    crc_lengths::measure(&setting, &archive.bytes, &mut report);
     drop(archive);
     metadata::measure(&setting, &mut report);
     writing::measure(&setting, &mut report);
+    earlier_build::measure(&setting, &file, &mut report);
     block_sizes::measure(&setting, &mut report);
     keys::measure(&setting, &mut report);
     let panels = growth::measure(&setting, &mut report);

@@ -5,10 +5,12 @@ use std::io::{BufRead, BufReader, Write};
 use std::path::{Path, PathBuf};
 use std::process::{Child, ChildStdin, ChildStdout, Command, Stdio};
 
-/// Where the programs are that this bench was built with.
+/// Where the programs are that were built for this bench.
 pub struct Programs {
     /// The command `zs`.
     pub zs: PathBuf,
+    /// `zs` of an earlier build, if one is named.
+    pub before: Option<PathBuf>,
     /// `reference` with portable checksums.
     pub portable: PathBuf,
     /// `reference` with the processor's instructions for SHA.

@@ -1,6 +1,7 @@
 //! What was measured: tables in Markdown, and the goals with their verdicts.
 
 use std::fmt::Write;
+use std::path::Path;
 
 /// What a ratio should be.
 #[derive(Debug, Clone, Copy)]
@@ -23,7 +24,10 @@ impl Goal {
     }
 
     fn verdict(self, ratio: f64) -> String {
-        let missed = |part: f64| format!("**missed by {:.0} %**", 100.0 * part);
+        let missed = |part: f64| match 100.0 * part {
+            percent if percent < 0.5 => "**missed by less than 1 %**".to_string(),
+            percent => format!("**missed by {percent:.0} %**"),
+        };
         match self {
             Goal::AtMost(limit) if ratio > limit => missed(ratio / limit - 1.0),
             Goal::AtLeast(limit) if ratio < limit => missed(1.0 - ratio / limit),
@@ -135,6 +139,11 @@ pub fn speed(bytes: usize, seconds: f64) -> String {
 /// A size in megabytes.
 pub fn size(bytes: usize) -> String {
     format!("{:.1} MB", bytes as f64 / 1e6)
+}
+
+/// The size of a file; 0 where there is none.
+pub fn file_size(file: &Path) -> String {
+    size(std::fs::metadata(file).map_or(0, |about| about.len() as usize))
 }
 
 /// A ratio.

@@ -8,7 +8,7 @@ use crate::clock::{run_in_turn, side, Side};
 use crate::foreign::{proved_crc64, proved_sha256};
 use crate::others::{Call, Reference};
 use crate::records::key;
-use crate::report::{ratio, size, speed, time, Goal, Report, Table};
+use crate::report::{file_size, ratio, size, speed, time, Goal, Report, Table};
 
 /// Measures all of it on the archive at `file`, which stands in memory too.
 pub fn measure(setting: &Setting, archive: &mut Archive, file: &Path, report: &mut Report) {
@@ -103,11 +103,16 @@ fn large_file_table(setting: &Setting, times: &[f64], length: usize, hashed: usi
     table
 }
 
+/// The check by a build of `zs`.
+pub fn validate(zs: &Path, file: &Path) -> Call {
+    Call::new(zs, &["validate", &file.to_string_lossy()])
+}
+
 fn measure_as_processes(setting: &Setting, length: usize, file: &Path, report: &mut Report) {
     let path = file.to_string_lossy();
     let packed = PathBuf::from(format!("{path}.xz"));
     Call::new("xz", &["--keep", "--check=crc64", &path]).run();
-    let validate = Call::new(&setting.programs.zs, &["validate", &path]);
+    let validate = validate(&setting.programs.zs, file);
     let sum = Call::new("sha256sum", &[&path]);
     let test = Call::new("xz", &["-t", &packed.to_string_lossy()]);
     let times = run_in_turn(
@@ -120,7 +125,7 @@ fn measure_as_processes(setting: &Setting, length: usize, file: &Path, report: &
     );
     let about = format!(
         "The same file on disk, read before, each program started anew. The packed file has {}; its check is CRC-64 too.",
-        size(std::fs::metadata(&packed).map_or(0, |about| about.len() as usize))
+        file_size(&packed)
     );
     let mut table = Table::new(
         "Check as a process",

@@ -8,7 +8,7 @@ use crate::clock::{measure_time, median, run_in_turn, side, Side};
 use crate::foreign::{proved_crc64, Lmdb};
 use crate::others::{import_lines, Call};
 use crate::records::{draw, key};
-use crate::report::{ratio, size, time, Goal, Report, Table};
+use crate::report::{file_size, ratio, time, Goal, Report, Table};
 
 /// Measures all of it on the archive at `file`, which stands in memory too.
 pub fn measure(setting: &Setting, archive: &Archive, file: &Path, report: &mut Report) {
@@ -199,13 +199,12 @@ fn process_table(setting: &Setting, files: &Files, times: &[f64]) -> Table {
         ("`look` in sorted lines", &files.lines),
     ];
     for ((what, path), seconds) in rows.iter().zip(times) {
-        let length = std::fs::metadata(path).map_or(0, |about| about.len());
-        let cells = (
-            size(length as usize),
-            time(*seconds),
-            ratio(times[0] / seconds),
-        );
-        table.add_row(&[what, &cells.0, &cells.1, &cells.2]);
+        table.add_row(&[
+            what,
+            &file_size(path),
+            &time(*seconds),
+            &ratio(times[0] / seconds),
+        ]);
     }
     table
 }

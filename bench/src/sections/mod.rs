@@ -3,6 +3,8 @@
 pub mod block_sizes;
 pub mod checking;
 pub mod checksums;
+pub mod crc_lengths;
+pub mod earlier_build;
 pub mod growth;
 pub mod keys;
 pub mod lookups;

@@ -10,7 +10,7 @@ use crate::clock::{measure_time, run_in_turn, side, Side};
 use crate::foreign::{proved_crc64, proved_sha256};
 use crate::input::{Input, METADATA};
 use crate::others::{import_lines, Call, Reference};
-use crate::report::{ratio, size, speed, time, Goal, Report, Table};
+use crate::report::{file_size, ratio, size, speed, time, Goal, Report, Table};
 use crate::shapes::{FAN_OUT, TO_A_BLOCK};
 
 /// Those of the large archive.
@@ -135,46 +135,52 @@ fn large_file_table(setting: &Setting, times: &[f64], length: usize) -> Table {
 }
 
 /// A call that makes a file, and the file.
-struct Making {
-    call: Call,
-    made: PathBuf,
+pub struct Making {
+    /// The call.
+    pub call: Call,
+    /// The file.
+    pub made: PathBuf,
 }
 
 impl Making {
     /// A side that makes the file anew each time.
-    fn side(&self) -> Side<'_> {
+    pub fn side(&self) -> Side<'_> {
         Box::new(|| {
             // The first time there is none.
             let _ = std::fs::remove_file(&self.made);
             measure_time(|| self.call.run())
         })
     }
-
-    fn length(&self) -> usize {
-        std::fs::metadata(&self.made).map_or(0, |about| about.len() as usize)
-    }
 }
 
-/// `zs make`, `sqlite3` and `xz -0`, each of the same lines.
-fn makings(setting: &Setting) -> [Making; 3] {
-    let lines = setting.lines.to_string_lossy();
-    let made = ["made.zs", "made.db"].map(|name| setting.folder.join(name));
-    let [archive, database] = made;
+/// A build of `zs` makes an archive of the lines, under this name.
+pub fn make(setting: &Setting, zs: &Path, name: &str) -> Making {
+    let made = setting.folder.join(name);
     let words = [
         "make",
         METADATA,
-        &lines,
-        &archive.to_string_lossy(),
+        &setting.lines.to_string_lossy(),
+        &made.to_string_lossy(),
         "--records-per-block",
         &COUNTS.per_block.to_string(),
         "--entries-per-block",
         &COUNTS.per_index.to_string(),
     ];
-    let make = Call::new(&setting.programs.zs, &words);
-    let import = import_lines(setting.lines, &database);
-    let pack = Call::new("xz", &["-0", "--keep", &lines]);
-    let packed = PathBuf::from(format!("{lines}.xz"));
-    [(make, archive), (import, database), (pack, packed)].map(|(call, made)| Making { call, made })
+    let call = Call::new(zs, &words);
+    Making { call, made }
+}
+
+/// `zs make`, `sqlite3` and `xz -0`, each of the same lines.
+fn makings(setting: &Setting) -> [Making; 3] {
+    let lines = setting.lines.to_string_lossy();
+    let archive = make(setting, &setting.programs.zs, "made.zs");
+    let made = setting.folder.join("made.db");
+    let call = import_lines(setting.lines, &made);
+    let database = Making { call, made };
+    let call = Call::new("xz", &["-0", "--keep", &lines]);
+    let made = PathBuf::from(format!("{lines}.xz"));
+    let packed = Making { call, made };
+    [archive, database, packed]
 }
 
 /// The archive is the file that the writer makes in memory, and the two others give the lines back.
@@ -214,17 +220,17 @@ fn process_table(setting: &Setting, makings: &[Making; 3], times: &[f64]) -> Tab
         "{} sorted lines of {} together, read before; each program started anew, without the file that it makes. The database has the lines \
          as its primary key and nothing else. `zs make` and `sqlite3` wait until their file is on the disk; `xz` doesn't.",
         setting.records.len(),
-        size(std::fs::metadata(setting.lines).map_or(0, |about| about.len() as usize))
+        file_size(setting.lines)
     );
     let head = ["what", "file", "time", "time of zs / this"];
     let mut table = Table::new("Making an archive as a process", &about, &head);
-    let lengths = [0, 1, 2].map(|number| size(makings[number].length()));
+    let sizes = [0, 1, 2].map(|number| file_size(&makings[number].made));
     let rows = [
-        ("`zs make`", lengths[0].as_str(), times[0]),
-        ("`sqlite3`, `.import`", &lengths[1], times[1]),
+        ("`zs make`", sizes[0].as_str(), times[0]),
+        ("`sqlite3`, `.import`", &sizes[1], times[1]),
         ("`sort -c`", "-", times[3]),
-        ("`xz -0`", &lengths[2], times[2]),
-        ("`sort -c` and `xz -0`", &lengths[2], times[3] + times[2]),
+        ("`xz -0`", &sizes[2], times[2]),
+        ("`sort -c` and `xz -0`", &sizes[2], times[3] + times[2]),
     ];
     for (what, file, seconds) in rows {
         table.add_row(&[what, file, &time(seconds), &ratio(times[0] / seconds)]);
