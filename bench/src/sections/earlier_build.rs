@@ -64,7 +64,7 @@ fn empty_table(builds: [&Path; 2]) -> Table {
     let [before, now] = builds.map(|zs| version(&zs.to_string_lossy(), "--version"));
     // A version that both have doesn't tell them apart.
     let before = if before == now || before == "unknown" {
-        "the `zs` given".to_string()
+        "the `zs` that `BEFORE` named".to_string()
     } else {
         format!("`{before}`")
     };

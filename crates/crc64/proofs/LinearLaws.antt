@@ -1,13 +1,13 @@
 -- The one-bit steps of the register are linear over exclusive or.
 -- Assumes nothing.
 use mathlib.Core.Path.{_≡_, refl, sym, ap, ap₂, _∙_}
-use Prim.Native.Nat.{ℕ, zero, suc, _+_, _*_, _/_, _%_, _^_, _<_}
+use Prim.Native.Nat.{ℕ, zero, suc, _*_, _/_, _%_, _^_, _<_}
 use native.Mathlib.Nat.{div-add-mod', le-of-suc-le-suc, mod-lt, mul-assoc, mul-div-cancel, mul-mod-left, mul-one, not-suc-le-zero, pow-suc, zero-mul}
 use native.Mathlib.Omega.{arith}
 use lib.Arith.{bin-ind}
 use lib.Dec.{lit<}
 use lib.Pow.{pow-pos}
-use lib.Bits.{bitXor, differ, xor-comm, xor-self, xor-shifted, xor-shr, xor-step, xor-zero-r}
+use lib.Bits.{bitXor, xor-comm, xor-mod, xor-self, xor-shifted, xor-shr, xor-zero-r}
 use Rattle.crc64.specs.Crc64.{polynomial, bitStep, bitSteps}
 
 -- ---- exclusive or of digits
@@ -24,43 +24,40 @@ digit-cases P p0 p1 zero h = p0
 digit-cases P p0 p1 (suc zero) h = p1
 digit-cases P p0 p1 (suc (suc x)) h = absurd (not-suc-le-zero (le-of-suc-le-suc (le-of-suc-le-suc h)))
 
-differ-lt : (x y : ℕ) → x < 2 → y < 2 → differ x y < 2
-differ-lt x y hx hy =
-    digit-cases (λ x. differ x y < 2) hy (digit-cases (λ y. differ 1 y < 2) (lit< tt) (lit< tt) y hy) x hx
+digit-assoc : (x y z : ℕ) → x < 2 → y < 2 → z < 2 → bitXor (bitXor x y) z ≡ bitXor x (bitXor y z)
+digit-assoc x y z hx hy hz =
+    digit-cases (λ x. bitXor (bitXor x y) z ≡ bitXor x (bitXor y z)) refl
+    (digit-cases (λ y. bitXor (bitXor 1 y) z ≡ bitXor 1 (bitXor y z)) refl
+    (digit-cases (λ z. bitXor (bitXor 1 1) z ≡ bitXor 1 (bitXor 1 z)) refl refl z hz) y hy) x hx
 
-differ-assoc : (x y z : ℕ) → x < 2 → y < 2 → z < 2 → differ (differ x y) z ≡ differ x (differ y z)
-differ-assoc x y z hx hy hz =
-    digit-cases (λ x. differ (differ x y) z ≡ differ x (differ y z)) refl
-    (digit-cases (λ y. differ (differ 1 y) z ≡ differ 1 (differ y z)) refl
-    (digit-cases (λ z. differ (differ 1 1) z ≡ differ 1 (differ 1 z)) refl refl z hz) y hy) x hx
-
--- a digit as a factor
-differ-times : (x y p : ℕ) → x < 2 → y < 2 → differ x y * p ≡ bitXor (x * p) (y * p)
-differ-times x y p hx hy =
-    digit-cases (λ x. differ x y * p ≡ bitXor (x * p) (y * p)) (ap (λ (z : ℕ). bitXor z (y * p)) (sym (zero-mul p)))
-    (digit-cases (λ y. differ 1 y * p ≡ bitXor (1 * p) (y * p)) (rw (zero-mul, xor-zero-r)) (rw (zero-mul, xor-self)) y hy) x hx
+-- digits as factors
+digit-times : (x y p : ℕ) → x < 2 → y < 2 → bitXor x y * p ≡ bitXor (x * p) (y * p)
+digit-times x y p hx hy =
+    digit-cases (λ x. bitXor x y * p ≡ bitXor (x * p) (y * p)) (ap (λ (z : ℕ). bitXor z (y * p)) (sym (zero-mul p)))
+    (digit-cases (λ y. bitXor 1 y * p ≡ bitXor (1 * p) (y * p)) (sym (ap (bitXor (1 * p)) (zero-mul p) ∙ xor-zero-r (1 * p)))
+    (zero-mul p ∙ sym (xor-self (1 * p))) y hy) x hx
 
 -- ---- exclusive or of numbers
 
 half : (a b : ℕ) → bitXor a b / 2 ≡ bitXor (a / 2) (b / 2)
 half a b = xor-shr a b 1
 
-odd : (a b : ℕ) → bitXor a b % 2 ≡ differ (a % 2) (b % 2)
-odd a b =
-    let d : differ (a % 2) (b % 2) < 2 = differ-lt (a % 2) (b % 2) (digit-lt a) (digit-lt b) in
-    let s : bitXor a b ≡ bitXor (a / 2) (b / 2) * 2 + differ (a % 2) (b % 2) = xor-step a b in
-    omega (arith, d, s)
+odd : (a b : ℕ) → bitXor a b % 2 ≡ bitXor (a % 2) (b % 2)
+odd a b = xor-mod a b 1
+
+-- the halves associate, and the digits do
+assoc-step : (n b c : ℕ) → bitXor (bitXor (n / 2) (b / 2)) (c / 2) ≡ bitXor (n / 2) (bitXor (b / 2) (c / 2))
+    → bitXor (bitXor n b) c ≡ bitXor n (bitXor b c)
+assoc-step n b c e =
+    let halves : bitXor (bitXor n b) c / 2 ≡ bitXor n (bitXor b c) / 2 = rw (half (bitXor n b) c, half n b, half n (bitXor b c), half b c) e in
+    let digits : bitXor (bitXor n b) c % 2 ≡ bitXor n (bitXor b c) % 2 =
+    rw (odd (bitXor n b) c, odd n b, odd n (bitXor b c), odd b c) (digit-assoc (n % 2) (b % 2) (c % 2) (digit-lt n) (digit-lt b) (digit-lt c)) in
+    omega arith
 
 pub xor-assoc : (a b c : ℕ) → bitXor (bitXor a b) c ≡ bitXor a (bitXor b c)
 xor-assoc =
     bin-ind (λ (n : ℕ). (b c : ℕ) → bitXor (bitXor n b) c ≡ bitXor n (bitXor b c)) (λ b c. refl)
-    (λ n ih b c.
-    xor-step (bitXor n b) c
-    ∙ ap₂ (λ (x y : ℕ). x * 2 + y)
-    (ap (λ (x : ℕ). bitXor x (c / 2)) (half n b) ∙ ih (b / 2) (c / 2) ∙ ap (bitXor (n / 2)) (sym (half b c)))
-    (ap (λ (x : ℕ). differ x (c % 2)) (odd n b) ∙ differ-assoc (n % 2) (b % 2) (c % 2) (digit-lt n) (digit-lt b) (digit-lt c)
-    ∙ ap (differ (n % 2)) (sym (odd b c)))
-    ∙ sym (xor-step n (bitXor b c)))
+    (λ n ih b c. assoc-step n b c (ih (b / 2) (c / 2)))
 
 -- the two inner ones change places
 xor-cross : (a b c d : ℕ) → bitXor (bitXor a b) (bitXor c d) ≡ bitXor (bitXor a c) (bitXor b d)
@@ -74,7 +71,7 @@ xor-cross a b c d =
 bitStep-xor : (a b : ℕ) → bitStep (bitXor a b) ≡ bitXor (bitStep a) (bitStep b)
 unfolding bitStep
 bitStep-xor a b =
-    ap₂ bitXor (half a b) (ap (λ (x : ℕ). x * polynomial) (odd a b) ∙ differ-times (a % 2) (b % 2) polynomial (digit-lt a) (digit-lt b))
+    ap₂ bitXor (half a b) (ap (λ (x : ℕ). x * polynomial) (odd a b) ∙ digit-times (a % 2) (b % 2) polynomial (digit-lt a) (digit-lt b))
     ∙ xor-cross (a / 2) (b / 2) (a % 2 * polynomial) (b % 2 * polynomial)
 
 -- the steps of an exclusive or
@@ -89,7 +86,7 @@ unfolding bitStep
 bitStep-even x = rw (mul-mod-left, mul-div-cancel x two-pos, zero-mul, xor-zero-r)
 
 -- n zero bits leave
-pub bitSteps-low : (n x : ℕ) → bitSteps n (x * 2 ^ n) ≡ x
+bitSteps-low : (n x : ℕ) → bitSteps n (x * 2 ^ n) ≡ x
 unfolding bitSteps
 bitSteps-low zero x = mul-one x
 bitSteps-low (suc n) x =

@@ -1,14 +1,14 @@
 -- The table of the CRC-64 register: from the test of the whole to the rule at each entry, to a step, to the loop over the bytes.
 -- Assumes nothing.
-use mathlib.Core.Path.{_≡_, refl, sym, ap, subst, _∙_}
-use mathlib.Core.Bool.{Bool, true, false, _&&_}
+use mathlib.Core.Path.{_≡_, sym, ap, _∙_}
+use mathlib.Core.Bool.{Bool, true, and-eq-true-iff}
 use mathlib.Core.List.{List, [], _∷_}
-use Prim.Native.Nat.{ℕ, zero, suc, _+_, _*_, _/_, _%_, _^_, _≤_, _<_}
+use Prim.Native.Nat.{ℕ, zero, suc, _+_, _/_, _%_, _≤_, _<_}
 use native.Mathlib.Nat.{add-suc, add-zero, le-of-suc-le-suc, mod-lt, not-suc-le-zero, suc-add, zero-add}
-use native.Mathlib.Numerals.{add-one}
 use native.Mathlib.Omega.{arith}
+use borrow.Author.Tests.{eqb-true}
 use lib.Bits.{bitXor, xor-zero-r}
-use lib.Dec.{T, eqb, eqb→eq, lit<}
+use lib.Dec.{eqb, lit<}
 use lib.ListN.{length, getD, take}
 use lib.Seq.{take-all}
 use Rattle.crc64.specs.Crc64.{bitSteps, byteStep, register}
@@ -18,37 +18,30 @@ use Rattle.crc64.proofs.LinearLaws.{xor-assoc, bitSteps-split}
 
 -- ---- from the test to the rule
 
-first : (a b : Bool) → T (a && b) → T a
-first true b t = tt
-first false b t = t
-
-second : (a b : Bool) → T (a && b) → T b
-second true b t = t
-second false b t = absurd t
-
 -- a test that passes at every entry, counted from i, passes at each
-every-from : (test : ℕ → ℕ → Bool) (xs : List ℕ) (i : ℕ) → T (every test i xs) → (k : ℕ) → k < length xs → T (test (i + k) (getD xs k 0))
+every-from : (test : ℕ → ℕ → Bool) (xs : List ℕ) (i : ℕ) → every test i xs ≡ true → (k : ℕ) → k < length xs → test (i + k) (getD xs k 0) ≡ true
 unfolding every
-every-from test [] i t k h = absurd (not-suc-le-zero h)
-every-from test (x ∷ xs) i t zero h = rw (add-zero i) (first (test i x) (every test (suc i) xs) t)
-every-from test (x ∷ xs) i t (suc k) h =
+every-from test [] i e k h = absurd (not-suc-le-zero h)
+every-from test (x ∷ xs) i e zero h = rw (add-zero i) (and-eq-true-iff (test i x) (every test (suc i) xs) .0 e .0)
+every-from test (x ∷ xs) i e (suc k) h =
     let place : i + suc k ≡ suc i + k = add-suc i k ∙ sym (suc-add i k) in
-    rw place (every-from test xs (suc i) (second (test i x) (every test (suc i) xs) t) k (le-of-suc-le-suc h))
+    rw place (every-from test xs (suc i) (and-eq-true-iff (test i x) (every test (suc i) xs) .0 e .1) k (le-of-suc-le-suc h))
 
-pub every-at : (test : ℕ → ℕ → Bool) (xs : List ℕ) → T (every test 0 xs) → (k : ℕ) → k < length xs → T (test k (getD xs k 0))
-every-at test xs t k h = subst (λ (m : ℕ). T (test m (getD xs k 0))) (zero-add k) (every-from test xs 0 t k h)
+pub every-at : (test : ℕ → ℕ → Bool) (xs : List ℕ) → every test 0 xs ≡ true → (k : ℕ) → k < length xs → test k (getD xs k 0) ≡ true
+every-at test xs e k h = ap (λ (m : ℕ). test m (getD xs k 0)) (sym (zero-add k)) ∙ every-from test xs 0 e k h
 
 -- each entry of the table is its place taken through eight one-bit steps
-pub table-at : (t : List ℕ) → T (isTable t) → (k : ℕ) → k < 256 → getD t k 0 ≡ bitSteps 8 k
+pub table-at : (t : List ℕ) → isTable t ≡ true → (k : ℕ) → k < 256 → getD t k 0 ≡ bitSteps 8 k
 unfolding isTable isEntry
 table-at t right k h =
-    let long : length t ≡ 256 = eqb→eq (length t) 256 (first (eqb (length t) 256) (every isEntry 0 t) right) in
-    eqb→eq (getD t k 0) (bitSteps 8 k) (every-at isEntry t (second (eqb (length t) 256) (every isEntry 0 t) right) k (omega arith))
+    let parts = and-eq-true-iff (eqb (length t) 256) (every isEntry 0 t) .0 right in
+    let long : length t ≡ 256 = eqb-true (length t) 256 (parts .0) in
+    eqb-true (getD t k 0) (bitSteps 8 k) (every-at isEntry t (parts .1) k (omega arith))
 
 -- ---- a step
 
 -- eight bits leave by one entry, and a byte goes in
-pub table-step : (t : List ℕ) → T (isTable t) → (r next : ℕ)
+pub table-step : (t : List ℕ) → isTable t ≡ true → (r next : ℕ)
     → bitXor (getD t (r % 256) 0) (bitXor (r / 256) next) ≡ bitXor (bitSteps 8 r) next
 table-step t right r next =
     sym (xor-assoc (getD t (r % 256) 0) (r / 256) next)

@@ -4,11 +4,11 @@
 // pieces absorbed one after the other give what they give joined.
 //
 // The bytes of a long piece go in by a table of 256 numbers. A constant array is written to the stack wherever it is used,
-// which would take longer than a short piece itself: those take eight one-bit steps for each byte.
+// which would take longer than a short piece itself; so short pieces take eight one-bit steps for each byte.
 ghost use mathlib.Core.Path.{_≡_};
+ghost use mathlib.Core.Bool.{true};
 ghost use Prim.Native.Nat.{_<_};
 ghost use lib.Bits.{bitXor};
-ghost use lib.Dec.{T};
 ghost use lib.ListN.{length};
 ghost use Rattle.crc64.specs.Crc64.{bitSteps, byteStep, registerStart, crcOf, crc64};
 ghost use Rattle.crc64.specs.Crc64 as crc;
@@ -51,7 +51,7 @@ pub fn begin() -> u64
     ALL_ONES
 }
 
-// The register after a piece more, eight one-bit steps for each byte.
+// The register after a piece more, eight one-bit steps for each byte. Public for the benchmark, which compares both ways.
 pub fn absorb_by_bits(register: u64, bytes: &[u8]) -> u64
     ensures { λ r. ⌜ r ≡ crc.register register (now (bytes .entry)) ⌝ }
 {
@@ -67,7 +67,7 @@ pub fn absorb_by_bits(register: u64, bytes: &[u8]) -> u64
 // Eight bits leave the register by one entry of the table, and the next byte is put in. It is added to the bits that stay,
 // before the entry: so a step waits for the entry alone.
 fn table_step(table: &[u64; 256], register: u64, next: u8) -> u64
-    requires { ⌜ T (isTable (now table)) ⌝ }
+    requires { ⌜ isTable (now table) ≡ true ⌝ }
     ensures { λ r. ⌜ r ≡ bitXor (bitSteps 8 register) next ⌝ }
 {
     table[(register % 256) as usize] ^ ((register / 256) ^ (next as u64))

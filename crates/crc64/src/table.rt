@@ -1,5 +1,6 @@
 // The table by which bytes go into the register.
-ghost use lib.Dec.{T};
+ghost use mathlib.Core.Path.{_≡_};
+ghost use mathlib.Core.Bool.{true};
 ghost use Rattle.crc64.specs.Table.{isTable};
 
 // Entry k is k taken through eight one-bit steps.
@@ -264,7 +265,7 @@ const TABLE: [u64; 256] = [
 
 // The table, for a local of the caller.
 pub fn table() -> [u64; 256]
-    ensures { λ r. ⌜ T (isTable r) ⌝ }
+    ensures { λ r. ⌜ isTable r ≡ true ⌝ }
 {
     TABLE
 }

@@ -1,17 +1,17 @@
 -- `absorb_by_table` meets its contract. The loop's invariant: the table is right, and r is the register with the first i bytes gone in
 -- and the next one put in. Assumes nothing.
-use mathlib.Core.Path.{refl}
+use mathlib.Core.Path.{_≡_, refl}
+use mathlib.Core.Bool.{true}
 use Prim.Native.Nat.{_-_}
 use native.Mathlib.Omega.{arith}
 use borrow.Author.Needs.{needs}
-use lib.Dec.{T}
 use Rattle.crc64.specs.Table.{isTable}
 use Rattle.crc64.proofs.TableLaws.{Ahead, ahead-first, ahead-more, ahead-all}
 use Rattle.crc64.proofs.absorb_by_table.Statement.{statement}
 use Rattle.crc64.proofs.absorb_by_table.Tie as tie
 
 abbrev Inv-loop : tie.InvT-loop
-Inv-loop register bytes table last r₀ i₀ r i = T (isTable table) × Ahead register bytes i r
+Inv-loop register bytes table last r₀ i₀ r i = (isTable table ≡ true) × Ahead register bytes i r
 
 abbrev μ-loop : tie.MeasureT-loop
 μ-loop register bytes table last r₀ i₀ r i = last - i

@@ -1,6 +1,5 @@
 -- `table_step` meets its contract: the entry is the low byte taken through eight one-bit steps, and the steps are linear.
 -- Assumes nothing.
-use native.Mathlib.Omega.{arith}
 use borrow.Author.Needs.{needs}
 use Rattle.crc64.proofs.TableLaws.{table-step}
 use Rattle.crc64.proofs.table_step.Statement.{statement}

@@ -1,5 +1,6 @@
 -- `table` meets its contract: one test over the whole table, which is computed here.
 -- Assumes nothing.
+use mathlib.Core.Path.{refl}
 use Rattle.crc64.specs.Crc64.{reversed, polynomial, bitStep, bitSteps}
 use Rattle.crc64.specs.Table.{every, isEntry, isTable}
 use Rattle.crc64.proofs.table.table.Statement.{statement}
@@ -7,7 +8,7 @@ use Rattle.crc64.proofs.table.table.Tie as tie
 
 returns : tie.Need-returns
 unfolding isTable every isEntry bitSteps bitStep polynomial reversed
-returns c = tt
+returns c = refl
 
 pub table-spec : {M : Type 1} → statement M
 table-spec = tie.close (tie.spec returns)
