@@ -25,16 +25,19 @@ pub fn side<'a, T: Copy>(mut call: impl FnMut() -> T + 'a) -> Side<'a> {
     Box::new(move || measure_time(&mut call))
 }
 
-/// Runs every side once in each round, one after the other, and gives the median of each. One round before them isn't counted.
+/// Runs every side once in each round, in turn, and gives the median of each. Every other round goes from the last side to the first, so
+/// that no side always comes after the same one. One round before them isn't counted.
 pub fn run_in_turn(rounds: usize, mut sides: Vec<Side>) -> Vec<f64> {
     let mut times = vec![Vec::new(); sides.len()];
+    let mut order: Vec<usize> = (0..sides.len()).collect();
     for round in 0..=rounds {
-        for (side, times) in sides.iter_mut().zip(&mut times) {
-            let time = side();
+        for &number in &order {
+            let time = sides[number]();
             if round > 0 {
-                times.push(time);
+                times[number].push(time);
             }
         }
+        order.reverse();
     }
     times.into_iter().map(median).collect()
 }

@@ -74,7 +74,7 @@ pub fn measure(setting: &Setting, file: &[u8], report: &mut Report) {
     let pieces: Vec<Pieces> = pieces.collect();
     pieces.iter().for_each(Pieces::compare);
     let sides = pieces.iter().flat_map(Pieces::sides).collect();
-    let times = run_in_turn(setting.sizes.rounds, sides);
+    let times = run_in_turn(setting.sizes.close_rounds, sides);
     let mut table = empty_table();
     for ((row, pieces), pair) in lengths.iter().zip(&pieces).zip(times.chunks(2)) {
         let [before, now] = [pair[0], pair[1]].map(|turn| turn / pieces.count() as f64);

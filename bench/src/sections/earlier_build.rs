@@ -28,7 +28,7 @@ fn measure_builds(setting: &Setting, builds: [&Path; 2], files: [&Path; 2]) -> T
     compare(setting, &makings);
     let checks = checks.iter().flatten().map(|call| side(|| call.run()));
     let sides: Vec<Side> = checks.chain(makings.iter().map(Making::side)).collect();
-    let times = run_in_turn(setting.sizes.rounds, sides);
+    let times = run_in_turn(setting.sizes.close_rounds, sides);
     let validated =
         [Shape::Plain, Shape::Tiny].map(|shape| format!("`zs validate`, {}", shape.name()));
     let rows = [

@@ -27,6 +27,8 @@ pub struct Sizes {
     pub records: usize,
     /// Rounds of a comparison.
     pub rounds: usize,
+    /// Rounds where both sides are builds or forms of the same code, which differ by little.
+    pub close_rounds: usize,
     /// Long records.
     pub notes: usize,
     /// Lookups within this process.
@@ -42,6 +44,7 @@ pub const FULL: Sizes = Sizes {
     records: 1_000_000,
     notes: 10_000,
     rounds: 9,
+    close_rounds: 27,
     lookups: 2000,
     processes: 60,
     growth: &[1_000, 10_000, 100_000, 1_000_000],
@@ -52,6 +55,7 @@ pub const QUICK: Sizes = Sizes {
     records: 20_000,
     notes: 200,
     rounds: 3,
+    close_rounds: 3,
     lookups: 100,
     processes: 5,
     growth: &[1_000, 10_000],
