@@ -10,7 +10,7 @@ use lib.Bits.{bitXor, xor-lt, xor-zero-r}
 use lib.Dec.{lit<}
 use lib.ListN.{length, getD, take, drop, take-append-drop}
 use lib.Seq.{take-suc, take-all}
-use Rattle.byte_string.specs.Order.{AreBytes}
+use Rattle.part.specs.Bytes.{AreBytes}
 use Rattle.crc64.specs.Crc64.{reversed, polynomial, allOnes, bitStep, bitSteps, byteStep, registerStart, register, crcOf, crc64}
 
 -- ---- the constants

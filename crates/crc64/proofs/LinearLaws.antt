@@ -1,8 +1,9 @@
 -- The one-bit steps of the register are linear over exclusive or.
 -- Assumes nothing.
 use mathlib.Core.Path.{_≡_, refl, sym, ap, ap₂, _∙_}
-use Prim.Native.Nat.{ℕ, zero, suc, _*_, _/_, _%_, _^_, _<_}
-use native.Mathlib.Nat.{div-add-mod', le-of-suc-le-suc, mod-lt, mul-assoc, mul-div-cancel, mul-mod-left, mul-one, not-suc-le-zero, pow-suc, zero-mul}
+use Prim.Native.Nat.{ℕ, zero, suc, _+_, _*_, _/_, _%_, _^_, _<_}
+use native.Mathlib.Nat.{add-comm, div-add-mod', le-of-suc-le-suc, mod-lt, mul-assoc, mul-div-cancel, mul-mod-left, mul-one, not-suc-le-zero}
+use native.Mathlib.Nat.{pow-suc, suc-add, zero-add, zero-mul}
 use native.Mathlib.Omega.{arith}
 use lib.Arith.{bin-ind}
 use lib.Dec.{lit<}
@@ -15,11 +16,11 @@ use Rattle.crc64.specs.Crc64.{polynomial, bitStep, bitSteps}
 two-pos : 0 < 2
 two-pos = lit< tt
 
-digit-lt : (a : ℕ) → a % 2 < 2
+pub digit-lt : (a : ℕ) → a % 2 < 2
 digit-lt a = mod-lt a two-pos
 
 -- what holds of 0 and of 1 holds of every digit
-digit-cases : (P : ℕ → Type 0) → P 0 → P 1 → (x : ℕ) → x < 2 → P x
+pub digit-cases : (P : ℕ → Type 0) → P 0 → P 1 → (x : ℕ) → x < 2 → P x
 digit-cases P p0 p1 zero h = p0
 digit-cases P p0 p1 (suc zero) h = p1
 digit-cases P p0 p1 (suc (suc x)) h = absurd (not-suc-le-zero (le-of-suc-le-suc (le-of-suc-le-suc h)))
@@ -80,18 +81,30 @@ unfolding bitSteps
 bitSteps-xor zero a b = refl
 bitSteps-xor (suc n) a b = ap (bitSteps n) (bitStep-xor a b) ∙ bitSteps-xor n (bitStep a) (bitStep b)
 
+-- m bits leave, then n
+pub bitSteps-add : (m n r : ℕ) → bitSteps (m + n) r ≡ bitSteps n (bitSteps m r)
+unfolding bitSteps
+bitSteps-add zero n r = rw (zero-add n)
+bitSteps-add (suc m) n r = rw (suc-add m n) (bitSteps-add m n (bitStep r))
+
+pub bitSteps-swap : (m n r : ℕ) → bitSteps m (bitSteps n r) ≡ bitSteps n (bitSteps m r)
+bitSteps-swap m n r = sym (bitSteps-add n m r) ∙ ap (λ (k : ℕ). bitSteps k r) (add-comm n m) ∙ bitSteps-add m n r
+
 -- a zero bit leaves: the register is halved
 bitStep-even : (x : ℕ) → bitStep (x * 2) ≡ x
 unfolding bitStep
 bitStep-even x = rw (mul-mod-left, mul-div-cancel x two-pos, zero-mul, xor-zero-r)
 
 -- n zero bits leave
-bitSteps-low : (n x : ℕ) → bitSteps n (x * 2 ^ n) ≡ x
+pub bitSteps-low : (n x : ℕ) → bitSteps n (x * 2 ^ n) ≡ x
 unfolding bitSteps
 bitSteps-low zero x = mul-one x
 bitSteps-low (suc n) x =
     let even : x * 2 ^ suc n ≡ x * 2 ^ n * 2 = rw (pow-suc 2 n, ← mul-assoc) in
     rw (even, bitStep-even) (bitSteps-low n x)
+
+pub bitSteps-zero : (n : ℕ) → bitSteps n 0 ≡ 0
+bitSteps-zero n = ap (bitSteps n) (sym (zero-mul (2 ^ n))) ∙ bitSteps-low n 0
 
 -- n bits leave: the steps of the low n bits, and the bits above them, moved down
 pub bitSteps-split : (n r : ℕ) → bitXor (bitSteps n (r % 2 ^ n)) (r / 2 ^ n) ≡ bitSteps n r

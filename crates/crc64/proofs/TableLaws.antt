@@ -1,20 +1,18 @@
--- The table of the CRC-64 register: from the test of the whole to the rule at each entry, to a step, to the loop over the bytes.
+-- The table of the CRC-64 register: from the test of the whole to the rule at each entry, to a step.
 -- Assumes nothing.
 use mathlib.Core.Path.{_≡_, sym, ap, _∙_}
 use mathlib.Core.Bool.{Bool, true, and-eq-true-iff}
 use mathlib.Core.List.{List, [], _∷_}
-use Prim.Native.Nat.{ℕ, zero, suc, _+_, _/_, _%_, _≤_, _<_}
+use Prim.Native.Nat.{ℕ, zero, suc, _+_, _/_, _%_, _<_}
 use native.Mathlib.Nat.{add-suc, add-zero, le-of-suc-le-suc, mod-lt, not-suc-le-zero, suc-add, zero-add}
 use native.Mathlib.Omega.{arith}
 use borrow.Author.Tests.{eqb-true}
-use lib.Bits.{bitXor, xor-zero-r}
+use lib.Bits.{bitXor}
 use lib.Dec.{eqb, lit<}
-use lib.ListN.{length, getD, take}
-use lib.Seq.{take-all}
-use Rattle.crc64.specs.Crc64.{bitSteps, byteStep, register}
+use lib.ListN.{length, getD}
+use Rattle.crc64.specs.Crc64.{bitSteps}
 use Rattle.crc64.specs.Table.{every, isEntry, isTable}
-use Rattle.crc64.proofs.Crc64Laws.{register-take}
-use Rattle.crc64.proofs.LinearLaws.{xor-assoc, bitSteps-split}
+use Rattle.crc64.proofs.LinearLaws.{bitSteps-split}
 
 -- ---- from the test to the rule
 
@@ -40,36 +38,6 @@ table-at t right k h =
 
 -- ---- a step
 
--- eight bits leave by one entry, and a byte goes in
-pub table-step : (t : List ℕ) → isTable t ≡ true → (r next : ℕ)
-    → bitXor (getD t (r % 256) 0) (bitXor (r / 256) next) ≡ bitXor (bitSteps 8 r) next
-table-step t right r next =
-    sym (xor-assoc (getD t (r % 256) 0) (r / 256) next)
-    ∙ ap (λ (x : ℕ). bitXor x next) (ap (λ (x : ℕ). bitXor x (r / 256)) (table-at t right (r % 256) (mod-lt r (lit< tt))) ∙ bitSteps-split 8 r)
-
--- ---- the loop over the bytes
-
--- r is the register `start` with the first i bytes of s gone in and the next one put in
-pub record Ahead (start : ℕ) (s : List ℕ) (i r : ℕ) : Type 0 where
-  pub within : i < length s
-  pub holds : r ≡ bitXor (register start (take i s)) (getD s i 0)
-
--- at first the first byte is put in
-pub ahead-first : (start : ℕ) (s : List ℕ) (i r : ℕ) → i ≡ 0 → 0 < length s → r ≡ bitXor start (getD s 0 0) → Ahead start s i r
-unfolding register
-ahead-first start s i r e some h = record { within = omega arith; holds = rw (e, h) }
-
--- eight bits leave: the byte that was put in has gone in
-gone-in : (start : ℕ) (s : List ℕ) (i r : ℕ) → Ahead start s i r → bitSteps 8 r ≡ register start (take (i + 1) s)
-unfolding byteStep
-gone-in start s i r done = ap (bitSteps 8) (done .holds) ∙ sym (register-take start s i (done .within))
-
--- the next byte is put in
-pub ahead-more : (start : ℕ) (s : List ℕ) (i r next : ℕ) → Ahead start s i r → i + 1 < length s
-    → next ≡ bitXor (bitSteps 8 r) (getD s (i + 1) 0) → Ahead start s (i + 1) next
-ahead-more start s i r next done h e =
-    record { within = h; holds = e ∙ ap (λ (x : ℕ). bitXor x (getD s (i + 1) 0)) (gone-in start s i r done) }
-
--- with no byte left, the register is the one after the string
-pub ahead-all : (start : ℕ) (s : List ℕ) (i r end : ℕ) → Ahead start s i r → length s ≤ i + 1 → end ≡ bitXor (bitSteps 8 r) 0 → end ≡ register start s
-ahead-all start s i r end done h e = e ∙ xor-zero-r (bitSteps 8 r) ∙ gone-in start s i r done ∙ ap (register start) (take-all (i + 1) s h)
+-- eight bits leave by one entry
+pub table-step : (t : List ℕ) → isTable t ≡ true → (r : ℕ) → bitXor (getD t (r % 256) 0) (r / 256) ≡ bitSteps 8 r
+table-step t right r = ap (λ (x : ℕ). bitXor x (r / 256)) (table-at t right (r % 256) (mod-lt r (lit< tt))) ∙ bitSteps-split 8 r

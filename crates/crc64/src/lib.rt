@@ -3,27 +3,25 @@
 // The register is a number, and every public function is total, on any register; the law `register-append` says that
 // pieces absorbed one after the other give what they give joined.
 //
-// The bytes of a long piece go in by a table of 256 numbers. A constant array is written to the stack wherever it is used,
-// which would take longer than a short piece itself; so short pieces take eight one-bit steps for each byte.
+// The bytes of a long piece go in by a table of 256 numbers, in eight lanes side by side. A constant array is written to the stack wherever
+// it is used, and lanes have to be joined, which would take longer than a short piece itself; so short pieces take eight one-bit steps for
+// each byte.
 ghost use mathlib.Core.Path.{_≡_};
-ghost use mathlib.Core.Bool.{true};
-ghost use Prim.Native.Nat.{_<_};
-ghost use lib.Bits.{bitXor};
-ghost use lib.ListN.{length};
-ghost use Rattle.crc64.specs.Crc64.{bitSteps, byteStep, registerStart, crcOf, crc64};
+ghost use Rattle.crc64.specs.Crc64.{byteStep, registerStart, crcOf, crc64};
 ghost use Rattle.crc64.specs.Crc64 as crc;
-ghost use Rattle.crc64.specs.Table.{isTable};
 
+mod lanes;
+mod product;
 mod table;
 
-use crate::table::table;
+use crate::lanes::absorb_by_lanes;
 
 // The polynomial 42f0e1eba9ea3693 hex with its 64 bits in reverse order.
 const POLYNOMIAL: u64 = 0xc96c_5795_d787_0f42;
 
 const ALL_ONES: u64 = 0xffff_ffff_ffff_ffff;
 
-// Pieces of so many bytes and more go by the table.
+// Pieces of so many bytes and more go in lanes.
 const LONG: usize = 512;
 
 // The register after one byte more. The choice is an `if` and no product: in this form the compiler replaces the eight
@@ -64,31 +62,6 @@ pub fn absorb_by_bits(register: u64, bytes: &[u8]) -> u64
     r
 }
 
-// Eight bits leave the register by one entry of the table, and the next byte is put in. It is added to the bits that stay,
-// before the entry: so a step waits for the entry alone.
-fn table_step(table: &[u64; 256], register: u64, next: u8) -> u64
-    requires { ⌜ isTable (now table) ≡ true ⌝ }
-    ensures { λ r. ⌜ r ≡ bitXor (bitSteps 8 register) next ⌝ }
-{
-    table[(register % 256) as usize] ^ ((register / 256) ^ (next as u64))
-}
-
-// The register after a piece of at least one byte more, one entry of the table for each byte.
-fn absorb_by_table(register: u64, bytes: &[u8]) -> u64
-    requires { ⌜ 0 < length (now bytes) ⌝ }
-    ensures { λ r. ⌜ r ≡ crc.register register (now (bytes .entry)) ⌝ }
-{
-    let table = table();
-    let last = bytes.len() - 1;
-    let mut r = register ^ (bytes[0] as u64);
-    let mut i = 0;
-    while i < last {
-        i += 1;
-        r = table_step(&table, r, bytes[i]);
-    }
-    table_step(&table, r, 0)
-}
-
 // The register after a piece more.
 pub fn absorb(register: u64, bytes: &[u8]) -> u64
     ensures { λ r. ⌜ r ≡ crc.register register (now (bytes .entry)) ⌝ }
@@ -96,7 +69,7 @@ pub fn absorb(register: u64, bytes: &[u8]) -> u64
     if bytes.len() < LONG {
         return absorb_by_bits(register, bytes);
     }
-    absorb_by_table(register, bytes)
+    absorb_by_lanes(register, bytes)
 }
 
 // The CRC that a register gives.

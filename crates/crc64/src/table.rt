@@ -1,6 +1,8 @@
-// The table by which bytes go into the register.
+// The table by which bytes go into the register, one entry for each byte.
 ghost use mathlib.Core.Path.{_≡_};
 ghost use mathlib.Core.Bool.{true};
+ghost use Rattle.crc64.specs.Crc64.{bitSteps};
+ghost use Rattle.crc64.specs.Crc64 as crc;
 ghost use Rattle.crc64.specs.Table.{isTable};
 
 // Entry k is k taken through eight one-bit steps.
@@ -268,4 +270,26 @@ pub fn table() -> [u64; 256]
     ensures { λ r. ⌜ isTable r ≡ true ⌝ }
 {
     TABLE
+}
+
+// Eight bits leave the register by one entry of the table.
+pub fn table_step(table: &[u64; 256], register: u64) -> u64
+    requires { ⌜ isTable (now table) ≡ true ⌝ }
+    ensures { λ r. ⌜ r ≡ bitSteps 8 register ⌝ }
+{
+    table[(register % 256) as usize] ^ (register / 256)
+}
+
+// The register after some bytes more.
+pub fn absorb_by_table(table: &[u64; 256], register: u64, bytes: &[u8]) -> u64
+    requires { ⌜ isTable (now table) ≡ true ⌝ }
+    ensures { λ r. ⌜ r ≡ crc.register register (now (bytes .entry)) ⌝ }
+{
+    let mut r = register;
+    let mut i = 0;
+    while i < bytes.len() {
+        r = table_step(table, r ^ (bytes[i] as u64));
+        i += 1;
+    }
+    r
 }

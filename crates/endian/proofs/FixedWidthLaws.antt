@@ -12,8 +12,8 @@ use lib.Arith.{mod-mul}
 use lib.Dec.{lit<}
 use lib.ListN.{length, getD, take, drop, length-take, length-drop, length-reverse}
 use lib.Seq.{take-suc, drop-cons}
-use Rattle.byte_string.specs.Order.{AreBytes}
-use Rattle.byte_string.proofs.BytesLaws.{bytes-take, bytes-drop, bytes-reverse}
+use Rattle.part.specs.Bytes.{AreBytes}
+use Rattle.part.proofs.BytesLaws.{bytes-take, bytes-drop, bytes-reverse}
 use Rattle.endian.specs.FixedWidth.{littleEndian, bigEndian, littleBytes, bigBytes}
 
 -- The number of a list of bytes

@@ -1,6 +1,6 @@
 // Numbers of a fixed width, read from a byte slice and written as an array of bytes.
 //
-// A function that reads takes the bytes from a position on. Where fewer are there than the width, it reads those that
+// A function that reads takes the bytes from a position on, or from the front. Where fewer are there than the width, it reads those that
 // are: it is total, and a caller that wants the whole width tests the length itself.
 ghost use mathlib.Core.Path.{_≡_};
 ghost use Prim.Native.Nat.{_≤_};
@@ -41,6 +41,16 @@ fn big(part: &[u8]) -> u64
     value
 }
 
+// The first 8 bytes as a little-endian number.
+pub fn le64(bytes: &[u8]) -> u64
+    ensures { λ r. ⌜ r ≡ littleEndian (take 8 (now (bytes .entry))) ⌝ }
+{
+    if 8 <= bytes.len() {
+        return little(&bytes[0..8]);
+    }
+    little(bytes)
+}
+
 // The 8 bytes from `at` on as a little-endian number.
 pub fn le64_at(s: &[u8], at: usize) -> u64
     ensures { λ r. ⌜ r ≡ littleEndian (take 8 (drop at (now (s .entry)))) ⌝ }
@@ -48,10 +58,7 @@ pub fn le64_at(s: &[u8], at: usize) -> u64
     if s.len() <= at {
         return 0;
     }
-    if 8 <= s.len() - at {
-        return little(&s[at..at + 8]);
-    }
-    little(&s[at..])
+    le64(&s[at..])
 }
 
 // The 4 bytes from `at` on as a big-endian number.

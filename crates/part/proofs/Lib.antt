@@ -1,2 +1,3 @@
--- Laws of parts.
+-- Laws of byte strings and of their parts.
+pub mod BytesLaws
 pub mod PartLaws

@@ -1,2 +1,3 @@
--- A part of a byte string.
+-- Byte strings, and their parts.
+pub mod Bytes
 pub mod Part

@@ -1,4 +1,4 @@
--- `crc64::absorb` meets its contract: a piece that goes by the table has a byte at least.
+-- `crc64::absorb` meets its contract: both ways give the register after the piece.
 -- Assumes nothing.
 use borrow.Author.Needs.{needs}
 use Rattle.crc64.proofs.absorb.Statement.{statement}
@@ -10,11 +10,11 @@ absorb-by-bits-requires c κs = search needs
 returns : tie.Need-returns
 returns c = search needs
 
-absorb-by-table-requires : tie.Need-absorb-by-table-requires
-absorb-by-table-requires c κs = search needs
+absorb-by-lanes-requires : tie.Need-absorb-by-lanes-requires
+absorb-by-lanes-requires c κs = search needs
 
 returns-2 : tie.Need-returns-2
 returns-2 c = search needs
 
 pub absorb-spec : {M : Type 1} → statement M
-absorb-spec = tie.close (tie.spec absorb-by-bits-requires returns absorb-by-table-requires returns-2)
+absorb-spec = tie.close (tie.spec absorb-by-bits-requires returns absorb-by-lanes-requires returns-2)

@@ -4,7 +4,7 @@ use Prim.Native.Nat.{ℕ}
 use native.Mathlib.Omega.{arith}
 use borrow.Author.Needs.{needs}
 use lib.ListN.{take, drop}
-use Rattle.byte_string.proofs.BytesLaws.{bytes-of-below}
+use Rattle.part.proofs.BytesLaws.{bytes-of-below}
 use Rattle.endian.specs.FixedWidth.{littleEndian, bigEndian}
 use Rattle.endian.proofs.FixedWidthLaws.{bigEndian-part-lt}
 use Rattle.part.specs.Part.{part}

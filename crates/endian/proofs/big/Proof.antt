@@ -5,7 +5,7 @@ use native.Mathlib.Omega.{arith}
 use borrow.Author.Needs.{needs}
 use lib.ListN.{length, take}
 use lib.Seq.{take-all}
-use Rattle.byte_string.proofs.BytesLaws.{bytes-of-below}
+use Rattle.part.proofs.BytesLaws.{bytes-of-below}
 use Rattle.endian.specs.FixedWidth.{littleEndian, bigEndian}
 use Rattle.endian.proofs.FixedWidthLaws.{bigEndian-take-lt, bigEndian-take-more}
 use Rattle.endian.proofs.big.Statement.{statement}

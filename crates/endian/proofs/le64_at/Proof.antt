@@ -1,10 +1,13 @@
--- The part that is lent to `little` is the 8 bytes from `at` on, or those that are there.
+-- The part that is lent to `le64` is what stands from `at` on.
 use mathlib.Core.Path.{ap, _∙_}
+use mathlib.Core.List.{List}
 use native.Mathlib.Omega.{arith}
 use borrow.Author.Needs.{needs}
+use Prim.Native.Nat.{ℕ}
+use lib.ListN.{take}
 use Rattle.endian.specs.FixedWidth.{littleEndian}
 use Rattle.part.specs.Part.{part}
-use Rattle.part.proofs.PartLaws.{part-past, lent-part, lent-rest}
+use Rattle.part.proofs.PartLaws.{part-past, lent-drop}
 use Rattle.endian.proofs.le64_at.Statement.{statement}
 use Rattle.endian.proofs.le64_at.Tie as tie
 
@@ -14,62 +17,23 @@ returns c =
     let args = c .before .before .args in
     rw (part-past (args .s .now) (args .at) 8 (omega arith))
 
-sub-if2 : tie.Need-sub-if2
-sub-if2 c = search needs
+sub-le64 : tie.Need-sub-le64
+sub-le64 c = search needs
 
-add-little : tie.Need-add-little
-add-little c = search needs
+part-le64-start : tie.Need-part-le64-start
+part-le64-start c = search needs
 
-sub-little : tie.Need-sub-little
-sub-little c = search needs
+part-le64-end : tie.Need-part-le64-end
+part-le64-end c = search needs
 
-part-little-start : tie.Need-part-little-start
-part-little-start c = search needs
-
-part-little-end : tie.Need-part-little-end
-part-little-end c = search needs
-
-little-requires : tie.Need-little-requires
-little-requires c κs = search needs
+le64-requires : tie.Need-le64-requires
+le64-requires c κs = search needs
 
 returns-2 : tie.Need-returns-2
-unfolding part
 returns-2 c =
-    let a = c .before .before .before .before .before .args in
-    c .little .ensures ∙ ap littleEndian (lent-part (a .s .now) (a .at) 8)
-
-sub-little-2 : tie.Need-sub-little-2
-sub-little-2 c = search needs
-
-part-little-start-2 : tie.Need-part-little-start-2
-part-little-start-2 c = search needs
-
-part-little-end-2 : tie.Need-part-little-end-2
-part-little-end-2 c = search needs
-
-little-requires-2 : tie.Need-little-requires-2
-little-requires-2 c κs = search needs
-
-returns-3 : tie.Need-returns-3
-unfolding part
-returns-3 c =
-    let a = c .before .before .before .before .before .args in
-    c .little2 .ensures ∙ ap littleEndian (lent-rest (a .s .now) (a .at) 8 (omega arith))
+    let args = c .before .before .before .before .args in
+    c .le64 .ensures ∙ ap (λ (l : List ℕ). littleEndian (take 8 l)) (lent-drop (args .s .now) (args .at))
 
 pub le64-at-spec : {M : Type 1} → statement M
 le64-at-spec =
-    tie.close
-    (tie.spec
-    returns
-    sub-if2
-    add-little
-    sub-little
-    part-little-start
-    part-little-end
-    little-requires
-    returns-2
-    sub-little-2
-    part-little-start-2
-    part-little-end-2
-    little-requires-2
-    returns-3)
+    tie.close (tie.spec returns sub-le64 part-le64-start part-le64-end le64-requires returns-2)

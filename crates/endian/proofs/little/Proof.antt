@@ -6,7 +6,7 @@ use native.Mathlib.Nat.{le-refl}
 use borrow.Author.Needs.{needs}
 use lib.Arith.{le-zero}
 use lib.ListN.{length, drop, drop-of-length-le}
-use Rattle.byte_string.proofs.BytesLaws.{bytes-of-below}
+use Rattle.part.proofs.BytesLaws.{bytes-of-below}
 use Rattle.endian.specs.FixedWidth.{littleEndian}
 use Rattle.endian.proofs.FixedWidthLaws.{littleEndian-drop-lt, littleEndian-drop-less}
 use Rattle.endian.proofs.little.Statement.{statement}

@@ -2,8 +2,8 @@
 -- Assumes nothing.
 use borrow.Author.Needs.{needs}
 use Rattle.crc64.proofs.TableLaws.{table-step}
-use Rattle.crc64.proofs.table_step.Statement.{statement}
-use Rattle.crc64.proofs.table_step.Tie as tie
+use Rattle.crc64.proofs.table.table_step.Statement.{statement}
+use Rattle.crc64.proofs.table.table_step.Tie as tie
 
 mul-result : tie.Need-mul-result
 mul-result c = search needs
@@ -12,7 +12,7 @@ element-copy-out-result : tie.Need-element-copy-out-result
 element-copy-out-result c = search needs
 
 returns : tie.Need-returns
-returns c = table-step _ (c .before .pre) _ _
+returns c = table-step _ (c .before .pre) _
 
 pub table-step-spec : {M : Type 1} → statement M
 table-step-spec = tie.close (tie.spec mul-result element-copy-out-result returns)
