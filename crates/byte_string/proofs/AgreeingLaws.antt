@@ -1,7 +1,7 @@
 -- The laws of `agreeing`: where two lists part, and what the answers are by what stands there.
 -- Assumes nothing.
-use Prim.Native.Nat.{ℕ, suc, _+_, _≤_, _<_, zero-le, suc-le-suc, Ordering·lt, Ordering·eq, Ordering·gt}
-use native.Mathlib.Nat.{zero-add}
+use Prim.Native.Nat.{ℕ, zero, suc, _+_, _≤_, _<_, zero-le, suc-le-suc, Ordering·lt, Ordering·eq, Ordering·gt}
+use native.Mathlib.Nat.{zero-add, not-suc-le-zero}
 use native.Mathlib.Numerals.{add-one}
 use native.Mathlib.Omega.{arith}
 use mathlib.Core.Path.{_≡_, refl, sym, ap, _∙_}
@@ -10,7 +10,7 @@ use mathlib.Core.Bool.{_&&_}
 use mathlib.Core.List.{List, [], _∷_}
 use lib.Dec.{eqb, leb, leb·zero, leb·suc-zero, leb·suc-suc}
 use lib.ListN.{length, getD, take, drop, drop-of-length-le}
-use lib.Seq.{drop-cons, getD-take}
+use lib.Seq.{drop-cons, drop-drop, getD-take}
 use borrow.Author.Tests.{eq-eqb, ne-eqb}
 use Rattle.byte_string.specs.Order.{order, begins, agreeing}
 use Rattle.byte_string.proofs.OrderLaws.{Ways, ways, order-below, order-same, order-above}
@@ -35,7 +35,7 @@ agreeing-nil-right [] = refl
 agreeing-nil-right (a ∷ x) = refl
 
 -- the same or not
-same-or-not : (a b : ℕ) → (a ≡ b) ⊎ (a ≡ b → ⊥)
+pub same-or-not : (a b : ℕ) → (a ≡ b) ⊎ (a ≡ b → ⊥)
 same-or-not a b = go (ways a b)
   where
     go : Ways a b → (a ≡ b) ⊎ (a ≡ b → ⊥)
@@ -177,3 +177,41 @@ agreed-right-ended x y n h = agreed-end x y n (rw (drop-of-length-le y h) (agree
 
 pub agreed-differ : (x y : List ℕ) (n : ℕ) → n < length x → n < length y → (getD x n 0 ≡ getD y n 0 → ⊥) → Agreed x y n → n ≡ agreeing x y
 agreed-differ x y n h k d = agreed-end x y n (rw (drop-cons x n 0 h, drop-cons y n 0 k) (agreeing-differ _ _ _ _ d))
+
+-- A front of each: where the fronts part, the lists do; where the fronts agree throughout, so far the lists do.
+
+front-parted : (m : ℕ) (x y : List ℕ) → agreeing (take m x) (take m y) < m → agreeing x y ≡ agreeing (take m x) (take m y)
+front-parted zero x y h = absurd (not-suc-le-zero h)
+front-parted (suc m) [] y h = agreeing-nil-left y ∙ sym (agreeing-nil-left (take (suc m) y))
+front-parted (suc m) (a ∷ x) [] h = agreeing-nil-right (a ∷ x) ∙ sym (agreeing-nil-right (take (suc m) (a ∷ x)))
+front-parted (suc m) (a ∷ x) (b ∷ y) h = go (front-parted m x y) (same-or-not a b)
+  where
+    go : (agreeing (take m x) (take m y) < m → agreeing x y ≡ agreeing (take m x) (take m y)) → (a ≡ b) ⊎ (a ≡ b → ⊥)
+        → agreeing (a ∷ x) (b ∷ y) ≡ agreeing (a ∷ take m x) (b ∷ take m y)
+    go ih (inl e) =
+        let front = agreeing-same a b (take m x) (take m y) e in
+        agreeing-same a b x y e ∙ ap suc (ih (omega arith)) ∙ sym front
+    go ih (inr n) = agreeing-differ a b x y n ∙ sym (agreeing-differ a b (take m x) (take m y) n)
+
+front-agreed : (m : ℕ) (x y : List ℕ) → m ≤ agreeing (take m x) (take m y) → agreeing x y ≡ m + agreeing (drop m x) (drop m y)
+front-agreed zero x y h = sym (zero-add (agreeing x y))
+front-agreed (suc m) [] y h = absurd (omega (arith, agreeing-nil-left (take (suc m) y)))
+front-agreed (suc m) (a ∷ x) [] h = absurd (omega (arith, agreeing-nil-right (take (suc m) (a ∷ x))))
+front-agreed (suc m) (a ∷ x) (b ∷ y) h = go (front-agreed m x y) (same-or-not a b)
+  where
+    go : (m ≤ agreeing (take m x) (take m y) → agreeing x y ≡ m + agreeing (drop m x) (drop m y)) → (a ≡ b) ⊎ (a ≡ b → ⊥)
+        → agreeing (a ∷ x) (b ∷ y) ≡ suc m + agreeing (drop m x) (drop m y)
+    go ih (inl e) =
+        let front = agreeing-same a b (take m x) (take m y) e in
+        let rest = ih (omega arith) in
+        omega (arith, agreeing-same a b x y e)
+    go ih (inr n) = absurd (omega (arith, agreeing-differ a b (take m x) (take m y) n))
+
+-- The loop that finds the place m elements at a time: k is how many of the m from n on agree.
+
+pub agreed-parted : (x y : List ℕ) (n m k : ℕ) → k ≡ agreeing (take m (drop n x)) (take m (drop n y)) → k < m → Agreed x y n → n + k ≡ agreeing x y
+agreed-parted x y n m k e h i = omega (arith, front-parted m (drop n x) (drop n y) (rw e at h))
+
+pub agreed-front : (x y : List ℕ) (n m k : ℕ) → k ≡ agreeing (take m (drop n x)) (take m (drop n y)) → m ≤ k → Agreed x y n
+    → (next : ℕ) → next ≡ n + m → Agreed x y next
+agreed-front x y n m k e h i next s = rw (s, ← drop-drop m n x, ← drop-drop m n y) (omega (arith, front-agreed m (drop n x) (drop n y) (rw e at h)))

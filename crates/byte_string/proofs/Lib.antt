@@ -4,3 +4,4 @@ pub mod PrefixLaws
 pub mod BytesLaws
 pub mod AgreeingLaws
 pub mod ComparisonLaws
+mod WordLaws

@@ -1,16 +1,12 @@
 -- The order of byte strings: unsigned bytes are compared one after the other, and a proper beginning comes first.
-use Prim.Native.Nat.{ℕ, suc, _<_, compare, Ordering, Ordering·lt, Ordering·eq, Ordering·gt}
+use Prim.Native.Nat.{ℕ, suc, compare, Ordering, Ordering·lt, Ordering·eq, Ordering·gt}
 use mathlib.Core.Bool.{Bool, true, false, not, _&&_, cond}
 use mathlib.Core.List.{List, [], _∷_}
 use lib.Dec.{eqb, leb}
 use lib.IntN.{ℤ, pos, negsuc}
 use lib.Signed.{ltZ, leZ}
 use Rattle.byte_string.specs.declared.Comparison.{Comparison}
-
--- every element is a byte
-unfoldable pub AreBytes : List ℕ → Type 0
-AreBytes [] = Unit {0}
-AreBytes (b ∷ s) = (b < 256) × AreBytes s
+unfoldable pub use Rattle.part.specs.Bytes.{AreBytes}
 
 -- the first comparison decides; where it finds no difference, the second does
 unfoldable pub orElse : Ordering → Ordering → Ordering

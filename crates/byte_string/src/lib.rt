@@ -1,7 +1,9 @@
 // The order of byte strings: unsigned bytes, a proper beginning first.
 //
 // `compare` is the one comparison: it answers the sign and how many leading bytes agree, and every yes or no is taken of that answer.
+ghost use Prim.Native.Nat.{_+_, _≤_};
 ghost use mathlib.Core.Path.{_≡_};
+ghost use lib.ListN.{length, drop};
 ghost use Rattle.byte_string.specs.Order.{agreeing, comparison, saysLess, saysAtMost, saysEqual, saysBegins};
 
 // A byte string x compared with another, y.
@@ -42,11 +44,20 @@ impl Comparison {
     }
 }
 
-// How many leading bytes agree.
-fn agreement(x: &[u8], y: &[u8]) -> usize
+// How many leading bytes of eight and eight agree: the lowest bit that differs stands in the first byte that differs.
+fn agreement_of_eight(x: &[u8], y: &[u8]) -> usize
+    requires { ⌜ (length (now x) ≡ 8) × (length (now y) ≡ 8) ⌝ }
     ensures { λ r. ⌜ r ≡ agreeing (now (x .entry)) (now (y .entry)) ⌝ }
 {
-    let mut n = 0;
+    u64::trailing_zeros(endian::le64(x) ^ endian::le64(y)) as usize / 8
+}
+
+// How many leading bytes agree, where the first `from` do.
+fn agreement_by_bytes(x: &[u8], y: &[u8], from: usize) -> usize
+    requires { ⌜ agreeing (now x) (now y) ≡ from + agreeing (drop from (now x)) (drop from (now y)) ⌝ }
+    ensures { λ r. ⌜ r ≡ agreeing (now (x .entry)) (now (y .entry)) ⌝ }
+{
+    let mut n = from;
     while n < x.len() {
         if y.len() <= n {
             return n;
@@ -57,6 +68,48 @@ fn agreement(x: &[u8], y: &[u8]) -> usize
         n += 1;
     }
     n
+}
+
+// How many leading bytes agree, by eights while both have eight more. Both have at least `both` bytes.
+fn agreement_by_eights(x: &[u8], y: &[u8], both: usize) -> usize
+    requires { ⌜ (both ≤ length (now x)) × (both ≤ length (now y)) ⌝ }
+    ensures { λ r. ⌜ r ≡ agreeing (now (x .entry)) (now (y .entry)) ⌝ }
+{
+    let mut n = 0;
+    while 8 <= both - n {
+        let more = agreement_of_eight(&x[n..n + 8], &y[n..n + 8]);
+        if more < 8 {
+            return n + more;
+        }
+        n += 8;
+    }
+    agreement_by_bytes(x, y, n)
+}
+
+// The lesser of two lengths.
+fn lesser(a: usize, b: usize) -> usize
+    ensures { λ r. ⌜ (r ≤ a) × (r ≤ b) ⌝ }
+{
+    if a < b {
+        return a;
+    }
+    b
+}
+
+// How many leading bytes agree. Often it is none, so that the first byte is looked at alone; fewer than eight bytes go one by one.
+fn agreement(x: &[u8], y: &[u8]) -> usize
+    ensures { λ r. ⌜ r ≡ agreeing (now (x .entry)) (now (y .entry)) ⌝ }
+{
+    let both = lesser(x.len(), y.len());
+    if 0 < both {
+        if x[0] != y[0] {
+            return 0;
+        }
+        if both < 8 {
+            return agreement_by_bytes(x, y, 1);
+        }
+    }
+    agreement_by_eights(x, y, both)
 }
 
 // Compares x with y.

@@ -4,15 +4,17 @@ use mathlib.Core.Path.{_≡_, refl, sym, ap, _∙_, subst⁻¹}
 use mathlib.Core.Bool.{true, false}
 use mathlib.Core.List.{List, []}
 use Prim.Native.Nat.{ℕ, _+_, _-_, _^_, _≤_, _<_}
+use native.Mathlib.Nat.{add-zero}
 use native.Mathlib.Omega.{arith}
 use lib.Dec.{leb}
 use lib.ListN.{length, take, drop, getD, drop-of-length-le, length-drop}
+use lib.Seq.{getD-drop}
 use borrow.Author.Tests.{le-leb, lt-leb, leb-true}
 use Rattle.uleb128.specs.Number.{Reading, number, cutOff, reading, continuing, readingSaid}
 use Rattle.uleb128.specs.declared.Number.{Number}
 use Rattle.uleb128.specs.declared.Number.the-variants.{Value}
 use Rattle.uleb128.specs.Number.{refused as badNumber}
-use Rattle.uleb128.proofs.NumberLaws.{number-used, number-lt, reading-cut}
+use Rattle.uleb128.proofs.NumberLaws.{number-used, number-lt, reading-cut, reading-first}
 use Rattle.outcome.specs.Outcome.{answer, refused}
 use Rattle.items.specs.Items.{Step}
 use Rattle.outcome.proofs.OutcomeLaws.{answer-injective, refused-not-answer, kept, broken, kept⁻¹, bind-answer, bind⁻¹}
@@ -41,6 +43,15 @@ unfolding numberAt readAs continuing
 number-past cut place s at h =
     ap (λ (l : List ℕ). readAs cut place at (reading l)) (drop-of-length-le s h)
     ∙ ap (readAs cut place at) (reading-cut [] 0 (omega arith) (omega arith) refl)
+
+-- a byte below 80 hex is a number
+pub number-of-byte : (cut place : ℕ) (s : List ℕ) (at value next : ℕ) → at < length s → value < 128 → value ≡ getD s at 0 → next ≡ at + 1
+    → numberAt cut place s at ≡ answer (record { item = value; next = next })
+unfolding numberAt readAs
+number-of-byte cut place s at value next h low e f =
+    let first : getD (drop at s) 0 0 ≡ getD s at 0 = getD-drop at s 0 0 ∙ ap (λ (k : ℕ). getD s k 0) (add-zero at) in
+    let read = reading-first (drop at s) (rw length-drop (omega arith)) (rw (first, ← e) low) in
+    rw (e, f) (ap (readAs cut place at) (read ∙ ap (λ (v : ℕ). number v 1) first))
 
 -- a number at an offset, taken apart: what reading the rest finds
 pub number-read : (cut place : ℕ) (s : List ℕ) (at : ℕ) (n : Step ℕ) → numberAt cut place s at ≡ answer n

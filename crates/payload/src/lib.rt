@@ -19,8 +19,26 @@ pub enum TextOutcome {
     Refused(u64),
 }
 
-// The record, or the key of an entry, at an offset: a number and that many bytes.
+// The record, or the key of an entry, at an offset: a number and that many bytes. Most numbers are of one byte, which is looked at here.
 pub fn text_at(s: &[u8], at: usize) -> TextOutcome
+    ensures { λ r. ⌜ ((place : ℕ) → answers.textSaid place (now (s .entry)) r ≡ payloads.textAt place (now (s .entry)) at) ⌝ }
+{
+    if at < s.len() {
+        let first = s[at] as usize;
+        if first < 128 {
+            if first < s.len() - at {
+                return TextOutcome::Answer(Part {
+                    offset: at + 1,
+                    length: first,
+                });
+            }
+        }
+    }
+    text_by_number(s, at)
+}
+
+// Likewise, with any number.
+fn text_by_number(s: &[u8], at: usize) -> TextOutcome
     ensures { λ r. ⌜ ((place : ℕ) → answers.textSaid place (now (s .entry)) r ≡ payloads.textAt place (now (s .entry)) at) ⌝ }
 {
     let number = number_at(s, at, 15);
@@ -55,7 +73,7 @@ pub fn entry_at(s: &[u8], at: usize) -> EntryOutcome
     ensures { λ r. ⌜ ((place : ℕ) → answers.entrySaid place (now (s .entry)) r ≡ payloads.entryAt place (now (s .entry)) at) ⌝ }
     ensures { λ r. ⌜ answers.KeyWithin (now (s .entry)) r ⌝ }
 {
-    let text = text_at(s, at);
+    let text = text_by_number(s, at);
     match text {
         TextOutcome::Refused(n) => EntryOutcome::Refused(n),
         TextOutcome::Answer(key) => {

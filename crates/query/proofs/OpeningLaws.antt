@@ -50,6 +50,9 @@ pub reaches-last : (x : List ℕ) (upper stop : Option (List ℕ)) → upTo x up
 unfolding reaches
 reaches-last x upper stop u = rw u
 
+pub reaches-both : (x : List ℕ) (upper stop : Option (List ℕ)) → upTo x upper ≡ true → before x stop ≡ true → reaches x upper stop ≡ true
+reaches-both x upper stop u b = reaches-last x upper stop u ∙ b
+
 pub reaches-parts : (x : List ℕ) (upper stop : Option (List ℕ)) → reaches x upper stop ≡ true → (upTo x upper ≡ true) × (before x stop ≡ true)
 unfolding reaches
 reaches-parts x upper stop r = and-eq-true-iff (upTo x upper) (before x stop) .0 r

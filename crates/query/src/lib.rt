@@ -3,7 +3,7 @@
 // A stop or an upper bound that isn't given is passed as `false` and any slice; the bytes of that slice have no influence.
 ghost use mathlib.Core.Path.{_≡_};
 ghost use Rattle.query.specs.Query.{queryOf, given, before, matches};
-ghost use Rattle.query.specs.Opening.{mayMatch, reaches, admitsPrefix};
+ghost use Rattle.query.specs.Opening.{mayMatch, upTo, admitsPrefix};
 
 // Whether x is less than the stop, where there is one.
 fn before_stop(x: &[u8], stop_given: bool, stop: &[u8]) -> bool
@@ -28,16 +28,14 @@ pub fn matches(x: &[u8], start: &[u8], stop_given: bool, stop: &[u8], prefix: &[
     byte_string::compare(prefix, x).begins(prefix.len())
 }
 
-// Whether x is neither past the upper bound nor at or past the stop.
-fn reaches(x: &[u8], upper_given: bool, upper: &[u8], stop_given: bool, stop: &[u8]) -> bool
-    ensures { λ r. ⌜ r ≡ reaches (now (x .entry)) (given «upper_given» (now (upper .entry))) (given «stop_given» (now (stop .entry))) ⌝ }
+// Whether x is at most the upper bound, where there is one.
+fn up_to(x: &[u8], upper_given: bool, upper: &[u8]) -> bool
+    ensures { λ r. ⌜ r ≡ upTo (now (x .entry)) (given «upper_given» (now (upper .entry))) ⌝ }
 {
     if upper_given {
-        if !byte_string::compare(x, upper).at_most() {
-            return false;
-        }
+        return byte_string::compare(x, upper).at_most();
     }
-    before_stop(x, stop_given, stop)
+    true
 }
 
 // Whether some byte string from `from` on begins with the prefix.
@@ -64,13 +62,22 @@ pub fn may_match(
     ensures { λ r. ⌜ r ≡ mayMatch (now (lower .entry)) (given «upper_given» (now (upper .entry)))
         (queryOf (now (start .entry)) «stop_given» (now (stop .entry)) (now (prefix .entry))) ⌝ }
 {
-    if !reaches(lower, upper_given, upper, stop_given, stop) {
+    if !up_to(lower, upper_given, upper) {
         return false;
     }
-    if !reaches(start, upper_given, upper, stop_given, stop) {
+    if !before_stop(lower, stop_given, stop) {
         return false;
     }
-    if !reaches(prefix, upper_given, upper, stop_given, stop) {
+    if !up_to(start, upper_given, upper) {
+        return false;
+    }
+    if !before_stop(start, stop_given, stop) {
+        return false;
+    }
+    if !up_to(prefix, upper_given, upper) {
+        return false;
+    }
+    if !before_stop(prefix, stop_given, stop) {
         return false;
     }
     if !admits_prefix(lower, prefix) {

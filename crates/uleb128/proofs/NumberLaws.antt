@@ -97,6 +97,16 @@ pub reading-number : (s : List ℕ) (n : ℕ) → n < 9 → n < length s → (lt
 unfolding reading
 reading-number s n few h shortest e = rw (e, lt-leb 9 n few, lt-leb (length s) n h, shortest)
 
+-- a first byte below 80 hex is the number
+pub reading-first : (s : List ℕ) → 0 < length s → getD s 0 0 < 128 → reading s ≡ number (getD s 0 0) 1
+unfolding sevens
+reading-first s h low =
+    let value : sevens (take 1 s) ≡ getD s 0 0 = sevens-more s 0 h ∙ sum (getD s 0 0) low in
+    reading-number s 0 (omega arith) h (shortest-one s 0 (omega arith)) (passed-ends s 0 h low (passed-none s)) ∙ ap (λ (v : ℕ). number v 1) value
+  where
+    sum : (b : ℕ) → b < 128 → 0 + b % 128 * 1 ≡ b
+    sum b l = omega arith
+
 -- ---- what a number that was read says
 
 -- the number at the front of s has the value v and takes u bytes
