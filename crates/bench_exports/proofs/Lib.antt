@@ -1,2 +1,3 @@
 -- Laws of what the benchmark calls.
 pub mod DigestLaws
+pub mod ItemsLaws
