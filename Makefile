@@ -1,6 +1,6 @@
 # test: everything that must hold, as the gate runs it.   demo: build and run the main job.
 # fuzz: compare both implementations until stopped; ARGS="--seed 7 --cases 1000000" repeats a run.
-# bench: measure, and write docs/PERFORMANCE.md; BEFORE=PATH also measures the zs of an earlier build.
+# bench: measure, and write docs/PERFORMANCE.md; BEFORE=FOLDER holds it against an earlier revision that was built there.
 # lint: look at scripts and Rust with shellcheck, rustfmt and clippy.
 .PHONY: test demo fuzz bench lint
 

@@ -101,8 +101,10 @@ fn prefix_query(prefix: &[u8]) -> Query<'_> {
 
 /// The lists that a lookup is lent.
 pub struct Lists {
-    opened: Vec<u64>,
-    results: Vec<u64>,
+    /// The blocks opened.
+    pub opened: Vec<u64>,
+    /// Offset and length of each match.
+    pub results: Vec<u64>,
 }
 
 impl Default for Lists {

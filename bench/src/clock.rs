@@ -25,9 +25,15 @@ pub fn side<'a, T: Copy>(mut call: impl FnMut() -> T + 'a) -> Side<'a> {
     Box::new(move || measure_time(&mut call))
 }
 
-/// Runs every side once in each round, in turn, and gives the median of each. Every other round goes from the last side to the first, so
-/// that no side always comes after the same one. One round before them isn't counted.
-pub fn run_in_turn(rounds: usize, mut sides: Vec<Side>) -> Vec<f64> {
+/// Runs every side once in each round, in turn, and gives the median of each.
+pub fn run_in_turn(rounds: usize, sides: Vec<Side>) -> Vec<f64> {
+    let times = time_in_turn(rounds, sides);
+    times.into_iter().map(median).collect()
+}
+
+/// The same, and gives all times of each side. Every other round goes from the last side to the first, so that no side always comes after
+/// the same one. One round before them isn't counted.
+pub fn time_in_turn(rounds: usize, mut sides: Vec<Side>) -> Vec<Vec<f64>> {
     let mut times = vec![Vec::new(); sides.len()];
     let mut order: Vec<usize> = (0..sides.len()).collect();
     for round in 0..=rounds {
@@ -39,5 +45,12 @@ pub fn run_in_turn(rounds: usize, mut sides: Vec<Side>) -> Vec<f64> {
         }
         order.reverse();
     }
-    times.into_iter().map(median).collect()
+    times
+}
+
+/// How two sides compare: the median over the rounds of one's time by the other's in the same round. What slows the machine for a while
+/// slows both.
+pub fn median_ratio(one: &[f64], other: &[f64]) -> f64 {
+    let ratios = one.iter().zip(other).map(|(x, y)| x / y);
+    median(ratios.collect())
 }

@@ -1,4 +1,4 @@
-//! Safe calls of C libraries: the proved checksums alone, and what they are compared with. The only unsafe code of the bench.
+//! Safe calls of C libraries: the parts of the proved library alone, and what they are compared with.
 
 use std::ffi::CString;
 use std::os::raw::{c_char, c_int, c_uint, c_void};
@@ -7,8 +7,22 @@ use std::ptr::null_mut;
 
 extern "C" {
     fn bench_crc64(bytes: *const u8, length: usize) -> u64;
-    fn bench_crc64_by_bits(bytes: *const u8, length: usize) -> u64;
     fn bench_sha256(bytes: *const u8, length: usize) -> u64;
+    fn bench_records(bytes: *const u8, length: usize) -> u64;
+    fn bench_entries(bytes: *const u8, length: usize) -> u64;
+    fn bench_matches(
+        bytes: *const u8,
+        length: usize,
+        start: *const u8,
+        start_length: usize,
+        stop_given: bool,
+        stop: *const u8,
+        stop_length: usize,
+        prefix: *const u8,
+        prefix_length: usize,
+        results: *mut u64,
+        results_length: usize,
+    ) -> u64;
     fn lzma_crc64(bytes: *const u8, length: usize, before: u64) -> u64;
     fn SHA256(bytes: *const u8, length: usize, digest: *mut u8) -> *mut u8;
 }
@@ -25,16 +39,43 @@ pub fn proved_crc64(bytes: &[u8]) -> u64 {
     unsafe { bench_crc64(bytes.as_ptr(), bytes.len()) }
 }
 
-/// The proved CRC-64 with eight one-bit steps for every byte, however many there are.
-pub fn proved_crc64_by_bits(bytes: &[u8]) -> u64 {
-    // SAFETY: pointer and length are those of a slice, which is only read.
-    unsafe { bench_crc64_by_bits(bytes.as_ptr(), bytes.len()) }
-}
-
 /// The first eight bytes of the proved SHA-256, as a little-endian number.
 pub fn proved_sha256(bytes: &[u8]) -> u64 {
     // SAFETY: pointer and length are those of a slice, which is only read.
     unsafe { bench_sha256(bytes.as_ptr(), bytes.len()) }
+}
+
+/// The proved tests of a data block's payload: the number of the refusal, or 0.
+pub fn proved_records(payload: &[u8]) -> u64 {
+    // SAFETY: pointer and length are those of a slice, which is only read.
+    unsafe { bench_records(payload.as_ptr(), payload.len()) }
+}
+
+/// The proved tests of an index block's payload: the number of the refusal, or 0.
+pub fn proved_entries(payload: &[u8]) -> u64 {
+    // SAFETY: pointer and length are those of a slice, which is only read.
+    unsafe { bench_entries(payload.as_ptr(), payload.len()) }
+}
+
+/// How many records of a data block's payload begin with `prefix`, by the proved comparison with a query.
+pub fn proved_matches(payload: &[u8], prefix: &[u8], results: &mut [u64]) -> u64 {
+    let none: &[u8] = &[];
+    // SAFETY: each pointer comes with the length of the slice it is taken from, and `results` is borrowed alone.
+    unsafe {
+        bench_matches(
+            payload.as_ptr(),
+            payload.len(),
+            none.as_ptr(),
+            0,
+            false,
+            none.as_ptr(),
+            0,
+            prefix.as_ptr(),
+            prefix.len(),
+            results.as_mut_ptr(),
+            results.len(),
+        )
+    }
 }
 
 /// liblzma's CRC-64.

@@ -1,13 +1,16 @@
 //! Measures the proved library against others, all in one run, and prints the tables in Markdown.
 //!
-//!     zs-bench --zs PATH --portable PATH --accelerated PATH [--before PATH] [--quick | --write DOCS]
+//!     zs-bench --zs PATH --library PATH --portable PATH --accelerated PATH [--before-zs PATH --before-library PATH]
+//!         [--quick | --write DOCS]
 //!
 //! `--quick` uses small sizes, to see that everything runs. `--write` puts the tables into DOCS/PERFORMANCE.md, between its two marks,
-//! and the growth curves into DOCS/growth.svg. `--before` names the `zs` of an earlier build, whose commands are then measured too.
+//! and the growth curves into DOCS/growth.svg. `--library` names a shared object of the library, `--before-zs` and `--before-library` the
+//! command and the library of an earlier build, which are then measured too.
 //!
 //! * [`records`], [`shapes`], [`archive`]: what is measured on, made by the independent reader's maker.
 //! * [`input`]: what the proved writer is given.
 //! * [`clock`], [`others`], [`foreign`], [`idiomatic`]: time, other programs, other libraries, the same in plain Rust.
+//! * [`loaded`]: the library and an earlier build of it, loaded side by side.
 //! * [`sections`]: one module for each group of rows. Each compares answers before it measures.
 //! * [`report`], [`chart`], [`machine`]: tables, goals, curves and the machine.
 #![deny(unsafe_code)]
@@ -19,6 +22,8 @@ mod clock;
 mod foreign;
 mod idiomatic;
 mod input;
+#[allow(unsafe_code)]
+mod loaded;
 mod machine;
 mod others;
 mod records;
@@ -31,11 +36,12 @@ use std::path::{Path, PathBuf};
 
 use archive::Archive;
 use chart::Panel;
+use loaded::{Libraries, Library};
 use others::Programs;
 use report::Report;
 use sections::{
-    block_sizes, checking, checksums, crc_lengths, earlier_build, growth, keys, lookups, metadata,
-    writing, Setting, FULL, QUICK,
+    block_sizes, checking, checksums, crc_lengths, earlier_build, earlier_library, growth, keys,
+    lookups, metadata, profile, writing, Setting, FULL, QUICK,
 };
 use shapes::Shape;
 
@@ -45,6 +51,7 @@ const LAST_MARK: &str = "<!-- end of what is measured -->\n";
 /// What is asked for.
 struct Arguments {
     programs: Programs,
+    libraries: Libraries,
     quick: bool,
     write: Option<PathBuf>,
 }
@@ -70,10 +77,11 @@ impl Drop for Folder {
 fn main() -> Result<(), String> {
     let arguments = arguments(std::env::args().skip(1))?;
     let folder = Folder::new().map_err(|error| error.to_string())?;
-    let (report, panels) = measure(arguments.programs, arguments.quick, &folder.0);
+    let write_to = arguments.write.clone();
+    let (report, panels) = measure(arguments, &folder.0);
     drop(folder);
     println!("{}", report.markdown());
-    match arguments.write {
+    match write_to {
         Some(docs) => write(&docs, &report, &panels),
         None => Ok(()),
     }
@@ -85,7 +93,8 @@ fn arguments(mut words: impl Iterator<Item = String>) -> Result<Arguments, Strin
     while let Some(word) = words.next() {
         match word.as_str() {
             "--quick" => quick = true,
-            "--zs" | "--before" | "--portable" | "--accelerated" | "--write" => {
+            "--zs" | "--library" | "--before-zs" | "--before-library" | "--portable"
+            | "--accelerated" | "--write" => {
                 let path = words.next().ok_or(format!("{word} what?"))?;
                 paths.insert(word, PathBuf::from(path));
             }
@@ -96,9 +105,16 @@ fn arguments(mut words: impl Iterator<Item = String>) -> Result<Arguments, Strin
     Ok(Arguments {
         programs: Programs {
             zs: needed("--zs")?,
-            before: paths.get("--before").cloned(),
+            before: paths.get("--before-zs").cloned(),
             portable: needed("--portable")?,
             accelerated: needed("--accelerated")?,
+        },
+        libraries: Libraries {
+            now: Library::load(&needed("--library")?)?,
+            before: match paths.get("--before-library") {
+                Some(path) => Some(Library::load(path)?),
+                None => None,
+            },
         },
         quick,
         write: paths.get("--write").cloned(),
@@ -106,14 +122,15 @@ fn arguments(mut words: impl Iterator<Item = String>) -> Result<Arguments, Strin
 }
 
 /// Measures everything. A wrong answer on any side ends the program.
-fn measure(programs: Programs, quick: bool, folder: &Path) -> (Report, [Panel; 2]) {
-    let sizes = if quick { QUICK } else { FULL };
+fn measure(arguments: Arguments, folder: &Path) -> (Report, [Panel; 2]) {
+    let sizes = if arguments.quick { QUICK } else { FULL };
     let records = records::records(sizes.records);
     let lines = folder.join("records.txt");
     std::fs::write(&lines, records::lines(&records)).expect("room for the lines");
     let setting = Setting {
         sizes,
-        programs,
+        programs: arguments.programs,
+        libraries: arguments.libraries,
         folder,
         records: &records,
         lines: &lines,
@@ -122,10 +139,12 @@ fn measure(programs: Programs, quick: bool, folder: &Path) -> (Report, [Panel; 2
     let mut archive = Archive::new(Shape::Plain.archive(&records), records.len());
     let file = folder.join("records.zs");
     std::fs::write(&file, &archive.bytes).expect("room for the archive");
+    crc_lengths::measure(&setting, &archive.bytes, &mut report);
+    earlier_library::measure(&setting, &archive, &mut report);
+    profile::measure(&setting, &mut archive, &mut report);
     checking::measure(&setting, &mut archive, &file, &mut report);
     lookups::measure(&setting, &archive, &file, &mut report);
     checksums::measure(&setting, &archive.bytes, &mut report);
-    crc_lengths::measure(&setting, &archive.bytes, &mut report);
     drop(archive);
     metadata::measure(&setting, &mut report);
     writing::measure(&setting, &mut report);

@@ -41,17 +41,17 @@ impl Goal {
 pub struct Table {
     title: String,
     about: String,
-    head: Vec<&'static str>,
+    head: Vec<String>,
     rows: Vec<Vec<String>>,
 }
 
 impl Table {
     /// A table without rows.
-    pub fn new(title: &str, about: &str, head: &[&'static str]) -> Self {
+    pub fn new(title: &str, about: &str, head: &[&str]) -> Self {
         Table {
             title: title.to_string(),
             about: about.to_string(),
-            head: head.to_vec(),
+            head: head.iter().map(|cell| cell.to_string()).collect(),
             rows: Vec::new(),
         }
     }
@@ -67,7 +67,7 @@ impl Table {
             format!("| {} |\n", cells.collect::<Vec<_>>().join(" | "))
         };
         let mut out = format!("### {}\n\n{}\n\n", self.title, self.about);
-        out += &line(&mut self.head.iter().copied());
+        out += &line(&mut self.head.iter().map(String::as_str));
         out += &"|---".repeat(self.head.len());
         out += "|\n";
         for row in &self.rows {
@@ -95,13 +95,15 @@ impl Report {
         }
     }
 
-    /// Adds a ratio and what it should be.
-    pub fn add_goal(&mut self, what: &str, ratio: f64, goal: Goal) {
+    /// Adds a ratio, if it was measured, and what it should be.
+    pub fn add_goal(&mut self, what: &str, measured: impl Into<Option<f64>>, goal: Goal) {
+        let measured = measured.into();
+        let or_none = |cell: Option<String>| cell.unwrap_or_else(|| "-".to_string());
         self.goals.add_row(&[
             what,
-            &format!("{ratio:.2}"),
+            &or_none(measured.map(ratio)),
             &goal.words(),
-            &goal.verdict(ratio),
+            &or_none(measured.map(|ratio| goal.verdict(ratio))),
         ]);
     }
 
@@ -124,6 +126,7 @@ impl Report {
 /// A time in the unit that suits it.
 pub fn time(seconds: f64) -> String {
     match seconds {
+        s if s < 0.0 => format!("-{}", time(-s)),
         s if s < 1e-6 => format!("{:.0} ns", s * 1e9),
         s if s < 1e-3 => format!("{:.1} µs", s * 1e6),
         s if s < 1.0 => format!("{:.1} ms", s * 1e3),

@@ -10,9 +10,9 @@ use crate::records::without_addresses;
 use crate::report::{size, time, Report, Table};
 
 /// How many entries index blocks have.
-const ENTRIES: [u64; 6] = [16, 32, 64, 128, 256, 512];
+const ENTRIES: [u64; 6] = [8, 16, 32, 64, 128, 256];
 /// Those of the files whose length and check are shown.
-const USUAL_ENTRIES: u64 = 32;
+const USUAL_ENTRIES: u64 = 16;
 
 /// Records, and how many of them make data blocks of 1 to 32 KiB.
 struct Kind<'a> {
@@ -118,17 +118,11 @@ fn empty_table(kind: &Kind, archive: &Archive) -> Table {
         kibibytes(ENTRIES[ENTRIES.len() - 1], entry)
     );
     let title = format!("Data blocks of 1 to 32 KiB, records of {record:.0} bytes");
-    let head = [
-        "records to a data block",
-        "data block",
-        "file",
-        "check",
-        "lookup, 16 entries",
-        "32 entries",
-        "64 entries",
-        "128 entries",
-        "256 entries",
-        "512 entries",
-    ];
+    let columns = ["records to a data block", "data block", "file", "check"];
+    let lookups = ENTRIES.map(|entries| format!("lookup, {entries} entries"));
+    let head: Vec<&str> = columns
+        .into_iter()
+        .chain(lookups.iter().map(String::as_str))
+        .collect();
     Table::new(&title, &about, &head)
 }

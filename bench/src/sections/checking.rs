@@ -56,7 +56,7 @@ fn add_goals(times: &[f64], report: &mut Report) {
     report.add_goal(
         "check of a large file: time against its CRC and SHA alone",
         check / alone,
-        Goal::AtMost(1.15),
+        Goal::AtMost(1.2),
     );
     report.add_goal(
         &format!("{against}, portable checksums"),
@@ -115,13 +115,12 @@ fn measure_as_processes(setting: &Setting, length: usize, file: &Path, report: &
     let validate = validate(&setting.programs.zs, file);
     let sum = Call::new("sha256sum", &[&path]);
     let test = Call::new("xz", &["-t", &packed.to_string_lossy()]);
-    let times = run_in_turn(
-        setting.sizes.rounds,
-        vec![
-            side(|| validate.run()),
-            side(|| sum.run()),
-            side(|| test.run()),
-        ],
+    let sides = [&validate, &sum, &test].map(|call| side(|| call.run()));
+    let times = run_in_turn(setting.sizes.rounds, sides.into());
+    report.add_goal(
+        "`zs validate` as a process: time against `sha256sum`",
+        times[0] / times[1],
+        Goal::AtMost(1.0),
     );
     let about = format!(
         "The same file on disk, read before, each program started anew. The packed file has {}; its check is CRC-64 too.",

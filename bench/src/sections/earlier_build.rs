@@ -5,7 +5,7 @@ use std::path::Path;
 use super::checking::validate;
 use super::writing::{make, Making};
 use super::Setting;
-use crate::clock::{run_in_turn, side, Side};
+use crate::clock::{median, median_ratio, side, time_in_turn, Side};
 use crate::others::{version, Call};
 use crate::report::{file_size, ratio, time, Report, Table};
 use crate::shapes::Shape;
@@ -28,7 +28,7 @@ fn measure_builds(setting: &Setting, builds: [&Path; 2], files: [&Path; 2]) -> T
     compare(setting, &makings);
     let checks = checks.iter().flatten().map(|call| side(|| call.run()));
     let sides: Vec<Side> = checks.chain(makings.iter().map(Making::side)).collect();
-    let times = run_in_turn(setting.sizes.close_rounds, sides);
+    let times = time_in_turn(setting.sizes.close_rounds, sides);
     let validated =
         [Shape::Plain, Shape::Tiny].map(|shape| format!("`zs validate`, {}", shape.name()));
     let rows = [
@@ -41,9 +41,9 @@ fn measure_builds(setting: &Setting, builds: [&Path; 2], files: [&Path; 2]) -> T
         table.add_row(&[
             what,
             &file_size(file),
-            &time(pair[0]),
-            &time(pair[1]),
-            &ratio(pair[0] / pair[1]),
+            &time(median(pair[0].clone())),
+            &time(median(pair[1].clone())),
+            &ratio(median_ratio(&pair[0], &pair[1])),
         ]);
     }
     table
@@ -64,7 +64,7 @@ fn empty_table(builds: [&Path; 2]) -> Table {
     let [before, now] = builds.map(|zs| version(&zs.to_string_lossy(), "--version"));
     // A version that both have doesn't tell them apart.
     let before = if before == now || before == "unknown" {
-        "the `zs` that `BEFORE` named".to_string()
+        "the `zs` in the folder that `BEFORE` named".to_string()
     } else {
         format!("`{before}`")
     };
@@ -73,5 +73,5 @@ fn empty_table(builds: [&Path; 2]) -> Table {
          with a block for each, both read before. `zs make` is called as above, and both builds' files give the same lines back."
     );
     let head = ["what", "file", "before", "now", "speed now / before"];
-    Table::new("Against an earlier build", &about, &head)
+    Table::new("Against an earlier build, as processes", &about, &head)
 }

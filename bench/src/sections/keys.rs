@@ -11,7 +11,7 @@ use crate::records::notes;
 use crate::report::{ratio, size, time, Goal, Report, Table};
 
 /// Entries to an index block, as usual.
-const ENTRIES: u64 = 32;
+const ENTRIES: u64 = 16;
 /// How much notes begin alike with in the last rows.
 const HEAD: usize = 1024;
 
@@ -28,7 +28,7 @@ pub fn measure(setting: &Setting, report: &mut Report) {
     let alike = notes(setting.sizes.notes, &"-".repeat(HEAD));
     // As many to a block as `zs make` puts there; of notes also sixteen, the least it put there before.
     let kinds = [
-        ("records", setting.records, 32),
+        ("records", setting.records, 64),
         ("notes", &plain, 1),
         ("notes", &plain, 16),
         ("notes that begin alike", &alike, 4),

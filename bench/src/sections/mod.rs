@@ -5,16 +5,19 @@ pub mod checking;
 pub mod checksums;
 pub mod crc_lengths;
 pub mod earlier_build;
+pub mod earlier_library;
 pub mod growth;
 pub mod keys;
 pub mod lookups;
 pub mod metadata;
+pub mod profile;
 pub mod writing;
 
 use std::path::Path;
 
 use crate::archive::{Archive, Lists};
 use crate::clock::{measure_time, median};
+use crate::loaded::Libraries;
 use crate::others::Programs;
 use crate::records::{draw, key};
 
@@ -29,6 +32,8 @@ pub struct Sizes {
     pub rounds: usize,
     /// Rounds where both sides are builds or forms of the same code, which differ by little.
     pub close_rounds: usize,
+    /// Rounds of the same where a turn takes little time.
+    pub short_rounds: usize,
     /// Long records.
     pub notes: usize,
     /// Lookups within this process.
@@ -45,6 +50,7 @@ pub const FULL: Sizes = Sizes {
     notes: 10_000,
     rounds: 9,
     close_rounds: 27,
+    short_rounds: 101,
     lookups: 2000,
     processes: 60,
     growth: &[1_000, 10_000, 100_000, 1_000_000],
@@ -56,6 +62,7 @@ pub const QUICK: Sizes = Sizes {
     notes: 200,
     rounds: 3,
     close_rounds: 3,
+    short_rounds: 5,
     lookups: 100,
     processes: 5,
     growth: &[1_000, 10_000],
@@ -67,6 +74,8 @@ pub struct Setting<'a> {
     pub sizes: Sizes,
     /// The programs that were built for this.
     pub programs: Programs,
+    /// The library, loaded, and an earlier build of it, if one is named.
+    pub libraries: Libraries,
     /// A folder that is removed afterwards.
     pub folder: &'a Path,
     /// The records of the large archive, in order.

@@ -14,7 +14,7 @@ use crate::report::{file_size, ratio, size, speed, time, Goal, Report, Table};
 use crate::shapes::{FAN_OUT, TO_A_BLOCK};
 
 /// Those of the large archive.
-const COUNTS: Counts = Counts {
+pub const COUNTS: Counts = Counts {
     per_block: TO_A_BLOCK as u64,
     per_index: FAN_OUT as u64,
 };
@@ -155,17 +155,25 @@ impl Making {
 
 /// A build of `zs` makes an archive of the lines, under this name.
 pub fn make(setting: &Setting, zs: &Path, name: &str) -> Making {
-    let made = setting.folder.join(name);
-    let words = [
-        "make",
-        METADATA,
-        &setting.lines.to_string_lossy(),
-        &made.to_string_lossy(),
+    let counts = [COUNTS.per_block, COUNTS.per_index].map(|count| count.to_string());
+    let counts = [
         "--records-per-block",
-        &COUNTS.per_block.to_string(),
+        &counts[0],
         "--entries-per-block",
-        &COUNTS.per_index.to_string(),
+        &counts[1],
     ];
+    make_with(setting, zs, name, &counts)
+}
+
+/// The same with the counts that `zs make` chooses.
+pub fn make_usual(setting: &Setting, zs: &Path, name: &str) -> Making {
+    make_with(setting, zs, name, &[])
+}
+
+fn make_with(setting: &Setting, zs: &Path, name: &str, counts: &[&str]) -> Making {
+    let made = setting.folder.join(name);
+    let (lines, path) = (setting.lines.to_string_lossy(), made.to_string_lossy());
+    let words = [&["make", METADATA, &lines, &path], counts].concat();
     let call = Call::new(zs, &words);
     Making { call, made }
 }
