@@ -1,19 +1,18 @@
 //! The library's answers, with lists that grow until they are long enough.
 //!
-//! A short list is refused (18, 27) and the call is made again with a longer one. How many blocks a search opens is known beforehand
-//! (26). So a person never sees these numbers, except 27 where `--max-results` sets the limit.
+//! A short list is refused (18, 27) and the call is made again with a longer one. How many blocks a file has (18) and how many a search
+//! opens (26) is counted beforehand. So a person never sees these numbers, except 27 where `--max-results` sets the limit.
 
 use zs_library::Query;
 
 use crate::failure::Failure;
 use crate::input::LONGEST;
+use crate::layout::count_blocks;
 use crate::refusals::Refusal;
 use crate::walk::measure;
 
 /// The least full size of an ordinary block: a number, a level, one byte of payload and the checksum.
 const SMALLEST_BLOCK: usize = 11;
-/// Blocks of a usual file are longer than this, so its work list is long enough at once.
-const USUAL_BLOCK: usize = 512;
 /// Places of a first list: a lookup finds few records.
 const FIRST_PLACES: usize = 1024;
 /// Besides, a first list has a place for so many bytes that may be searched.
@@ -60,7 +59,8 @@ impl Places {
     /// Makes the list longer, unless it is as long as it may become.
     fn grow(&mut self) -> bool {
         let before = self.now;
-        self.now = before.saturating_mul(8).min(self.most);
+        let longer = before.saturating_mul(8).max(FIRST_PLACES);
+        self.now = longer.min(self.most);
         self.now > before
     }
 
@@ -80,18 +80,32 @@ fn zeros(places: usize) -> Result<Vec<u64>, Failure> {
     Ok(list)
 }
 
-/// Checks a file.
+/// Checks a file. Its blocks are counted first: that the work list is too short (18) is found only after every block was looked at. Where
+/// the header is refused, no block is.
 pub fn check(file: &[u8]) -> Result<Contents, Failure> {
-    let length = readable(file).len();
-    let mut work = Places::new(length / USUAL_BLOCK + 64, length / SMALLEST_BLOCK);
+    let header = zs_library::metadata(file);
+    let first = header.map_or(0, |_| count_blocks(readable(file)));
+    check_with(file, first)
+}
+
+/// Checks a file with a work list of so many places at first.
+fn check_with(file: &[u8], first: usize) -> Result<Contents, Failure> {
+    let mut work = Places::new(first, readable(file).len() / SMALLEST_BLOCK);
     loop {
-        let answer = zs_library::check(file, &mut work.zeros()?);
+        // Without memory for the list, what is wrong with the header or a block is still found.
+        let list = work.zeros();
+        let is_lacking = list.is_err();
+        let answer = zs_library::check(file, &mut list.unwrap_or_default());
         match answer.number {
             0 => {
                 return Ok(Contents {
                     blocks: answer.blocks,
                     records: answer.records,
                 })
+            }
+            18 if is_lacking => {
+                let words = "there isn't enough memory to check it";
+                return Err(Failure::Trouble(words.into()));
             }
             18 if work.grow() => {}
             number => return refuse(file, number, answer.place),
@@ -221,4 +235,38 @@ fn cut_lists(mut opened: Vec<u64>, blocks: u64, mut results: Vec<u64>, matches: 
     opened.truncate(places(blocks));
     results.truncate(places(matches.saturating_mul(2)));
     Answer { opened, results }
+}
+
+#[cfg(test)]
+mod tests {
+    use super::*;
+    use zs_reference::maker::{Image, Plan};
+
+    /// A file of so many data blocks, each of one empty record, and their root.
+    fn file_of_tiny_blocks(number: usize) -> Vec<u8> {
+        let mut blocks = vec![Plan::data(&[""]); number];
+        let entries: Vec<_> = (0..number).map(|block| ("", block)).collect();
+        blocks.push(Plan::index(1, &entries));
+        Image::new(blocks).bytes()
+    }
+
+    #[test]
+    fn a_work_list_that_is_too_short_grows() {
+        let file = file_of_tiny_blocks(2 * FIRST_PLACES);
+        for first in [0, 1, FIRST_PLACES, usize::MAX] {
+            let contents = check_with(&file, first).expect("a sound file");
+            let counts = (contents.blocks as usize, contents.records as usize);
+            assert_eq!(counts, (2 * FIRST_PLACES + 1, 2 * FIRST_PLACES));
+        }
+    }
+
+    #[test]
+    fn the_first_work_list_suffices() {
+        let file = file_of_tiny_blocks(2000);
+        assert_eq!(count_blocks(&file), 2001);
+        let answer = zs_library::check(&file, &mut [0; 2001]);
+        assert_eq!((answer.number, answer.blocks), (0, 2001));
+        let answer = zs_library::check(&file, &mut [0; 2000]);
+        assert_eq!(answer.number, 18);
+    }
 }

@@ -1,8 +1,11 @@
 //! The records of an input, in the form that the library takes.
 
+use std::io::Write;
+
 use crate::arguments::Length;
 use crate::escapes::quote;
 use crate::failure::Failure;
+use crate::memory::Memory;
 use crate::records::{Flaw, Form};
 
 /// The form in which the library takes records.
@@ -12,7 +15,7 @@ const CUT_OFF: u8 = 0x80;
 
 /// Records, each after its length.
 pub struct Encoded {
-    pub bytes: Vec<u8>,
+    pub bytes: Memory,
     /// How many records there are.
     pub number: u64,
     /// What is wrong with the record after them, if anything is.
@@ -23,7 +26,7 @@ pub struct Encoded {
 
 impl Encoded {
     /// Takes the records of an input, in their order or sorted.
-    pub fn new(input: Vec<u8>, form: Form, sort: bool) -> Result<Self, Failure> {
+    pub fn new(input: Memory, form: Form, sort: bool) -> Result<Self, Failure> {
         let (mut number, mut flaw) = (0, None);
         for record in form.split(&input) {
             match record {
@@ -31,39 +34,21 @@ impl Encoded {
                 Err(found) => flaw = Some(found),
             }
         }
-        let mut encoded = Encoded {
-            bytes: Vec::new(),
+        let end: &[u8] = if flaw.is_some() { &[CUT_OFF] } else { &[] };
+        let bytes = match sort {
+            false if form == LIBRARY_FORM => input,
+            false => encode(form.split(&input).flatten(), end, input.len())?,
+            true => {
+                let sorted = sort_records(&input, form, number)?;
+                encode(sorted.into_iter(), end, input.len())?
+            }
+        };
+        Ok(Encoded {
+            bytes,
             number: number as u64,
             flaw,
             noun: form.noun(),
-        };
-        match sort {
-            false if form == LIBRARY_FORM => encoded.bytes = input,
-            false => encoded.put(form.split(&input).flatten(), input.len())?,
-            true => {
-                let sorted = sort_records(&input, form, number)?;
-                encoded.put(sorted.into_iter(), input.len())?;
-            }
-        }
-        Ok(encoded)
-    }
-
-    /// Puts the records of an input of this length.
-    fn put<'a>(
-        &mut self,
-        mut records: impl Iterator<Item = &'a [u8]>,
-        length: usize,
-    ) -> Result<(), Failure> {
-        // In the input a byte or more stands beside each record but the last. Its length takes more than one only from 128 bytes on.
-        let most = length + length / 128 + 16;
-        let bytes = &mut self.bytes;
-        bytes.try_reserve_exact(most).map_err(lack_memory)?;
-        let outcome = records.try_for_each(|record| LIBRARY_FORM.write(record, bytes));
-        outcome.map_err(lack_memory)?;
-        if self.flaw.is_some() {
-            self.bytes.push(CUT_OFF);
-        }
-        Ok(())
+        })
     }
 
     pub fn records(&self) -> impl Iterator<Item = &[u8]> {
@@ -87,6 +72,24 @@ impl Encoded {
             "{noun} {next}, {record}, is less than {noun} {at}, {before}"
         ))
     }
+}
+
+/// Puts the records of an input of this length one after the other, and `end` after them.
+fn encode<'a>(
+    mut records: impl Iterator<Item = &'a [u8]>,
+    end: &[u8],
+    length: usize,
+) -> Result<Memory, Failure> {
+    // In the input a byte or more stands beside each record but the last. Its length takes more than one only from 128 bytes on.
+    let most = length + length / 128 + 16;
+    let mut bytes = Memory::zeros(most).map_err(lack_memory)?;
+    let mut room: &mut [u8] = &mut bytes;
+    let outcome = records.try_for_each(|record| LIBRARY_FORM.write(record, &mut room));
+    outcome.map_err(lack_memory)?;
+    room.write_all(end).map_err(lack_memory)?;
+    let left = room.len();
+    bytes.truncate(most - left);
+    Ok(bytes)
 }
 
 /// A key tells its block's first record from the one before it. It has at most one byte more than these begin with alike.

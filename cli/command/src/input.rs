@@ -10,6 +10,7 @@ use zs_library::Mapping;
 use crate::cut_files::report_cut_files;
 use crate::escapes::escape_name;
 use crate::failure::Failure;
+use crate::memory::Memory;
 use crate::refusals::Refusal;
 use crate::system::lend_descriptor;
 
@@ -21,7 +22,7 @@ const FIRST_BYTES: u64 = 8;
 /// The bytes of a file.
 pub enum Input {
     /// Read, so that a verdict and the answer after it are of the same bytes, even if the file is changed meanwhile.
-    Read(Vec<u8>),
+    Read(Memory),
     /// Mapped, under the assumption that nobody changes the file while the command runs.
     Mapped(Mapping),
 }
@@ -46,14 +47,13 @@ pub fn map(path: &Path) -> Result<Input, Failure> {
 }
 
 /// Reads what needn't be an archive; nothing where it is longer than `longest`.
-pub fn read_any(path: &Path, longest: u64) -> Result<Option<Vec<u8>>, Failure> {
+pub fn read_any(path: &Path, longest: u64) -> Result<Option<Memory>, Failure> {
     let name_fault = |error: io::Error| Failure::of_file(path, &error);
     let (file, length) = open(path).map_err(name_fault)?;
     if length.map_or(false, |length| length > longest) {
         return Ok(None);
     }
-    let mut bytes = Vec::new();
-    read_rest(&file, length, longest, &mut bytes).map_err(name_fault)?;
+    let bytes = read_whole(&file, length, longest, Vec::new()).map_err(name_fault)?;
     Ok((bytes.len() as u64 <= longest).then_some(bytes))
 }
 
@@ -102,7 +102,7 @@ fn load(path: &Path, longest_read: u64) -> Result<Input, Failure> {
         let number = if is_long { 1 } else { number };
         return Err(Failure::Refused(Refusal::of_file(number, 0, &bytes)));
     }
-    read_rest(&file, length, LONGEST as u64, &mut bytes).map_err(name_fault)?;
+    let bytes = read_whole(&file, length, LONGEST as u64, bytes).map_err(name_fault)?;
     Ok(Input::Read(bytes))
 }
 
@@ -137,20 +137,117 @@ pub fn begins_as_archive(path: &Path) -> bool {
     read.is_err() || refused_by_first_bytes(&first) != Some(3)
 }
 
-/// Reads what follows. One byte more than the longest is enough to be refused.
-fn read_rest(
+/// Reads what follows the first bytes, and gives the whole. One byte more than the longest is enough to be refused.
+fn read_whole(
     file: &File,
     length: Option<u64>,
     longest: u64,
-    bytes: &mut Vec<u8>,
-) -> io::Result<()> {
-    let expected = usize::try_from(length.unwrap_or(0).min(longest)).unwrap_or(usize::MAX);
-    let room = bytes.try_reserve_exact(expected.saturating_add(1));
-    room.map_err(|_| {
-        let words = "there isn't enough memory to read it";
-        io::Error::new(io::ErrorKind::OutOfMemory, words)
-    })?;
+    first: Vec<u8>,
+) -> io::Result<Memory> {
+    let mut bytes = first;
+    if let Some(length) = length {
+        let expected = usize::try_from(length.min(longest)).unwrap_or(usize::MAX);
+        let room = expected.max(bytes.len()).saturating_add(1);
+        let mut memory = Memory::zeros(room).map_err(lack_memory)?;
+        memory[..bytes.len()].copy_from_slice(&bytes);
+        let filled = fill(&mut memory, bytes.len(), file)?;
+        memory.truncate(filled);
+        if filled < room || filled as u64 > longest {
+            return Ok(memory);
+        }
+        // The file has grown meanwhile, and its length isn't known any more.
+        bytes = memory.to_vec();
+    }
     let most = longest.saturating_add(1) - bytes.len() as u64;
-    file.take(most).read_to_end(bytes)?;
-    Ok(())
+    file.take(most).read_to_end(&mut bytes)?;
+    Ok(Memory::from(bytes))
+}
+
+/// Reads on into memory that is filled so far, until the file or the memory ends. Gives how far it is filled then.
+fn fill(memory: &mut [u8], so_far: usize, mut file: &File) -> io::Result<usize> {
+    let mut filled = so_far;
+    loop {
+        match file.read(&mut memory[filled..]) {
+            Ok(0) => return Ok(filled),
+            Ok(more) => filled += more,
+            Err(error) if error.kind() == io::ErrorKind::Interrupted => {}
+            Err(error) => return Err(error),
+        }
+    }
+}
+
+fn lack_memory<E>(_: E) -> io::Error {
+    let words = "there isn't enough memory to read it";
+    io::Error::new(io::ErrorKind::OutOfMemory, words)
+}
+
+#[cfg(test)]
+mod tests {
+    use super::*;
+    use std::fs::OpenOptions;
+    use std::os::unix::fs::FileExt;
+    use std::sync::atomic::{AtomicUsize, Ordering};
+
+    /// Longer than a huge page, and not a whole number of them.
+    const LONG: usize = (5 << 20) + 7;
+
+    /// A file of these bytes that has no name, and stands at its start.
+    fn file_of(bytes: &[u8]) -> File {
+        static NEXT: AtomicUsize = AtomicUsize::new(0);
+        let number = NEXT.fetch_add(1, Ordering::Relaxed);
+        let name = format!("zs-input-{}-{number}", std::process::id());
+        let path = std::env::temp_dir().join(name);
+        fs::write(&path, bytes).expect("a temporary file");
+        let file = OpenOptions::new().read(true).write(true).open(&path);
+        fs::remove_file(path).expect("the temporary file");
+        file.expect("the temporary file")
+    }
+
+    fn some_bytes(length: usize) -> Vec<u8> {
+        (0..length).map(|at| ((at * at) >> 7) as u8).collect()
+    }
+
+    /// Reads a file that was said to have this length, after its first bytes.
+    fn read_said(file: &File, length: Option<usize>, longest: usize) -> Memory {
+        let mut first = Vec::new();
+        let read = file.take(FIRST_BYTES).read_to_end(&mut first);
+        read.expect("the first bytes");
+        let length = length.map(|length| length as u64);
+        read_whole(file, length, longest as u64, first).expect("the file")
+    }
+
+    #[test]
+    fn a_file_is_read_whole_whatever_length_it_was_said_to_have() {
+        for length in [0, 3, 8, 9, 5000, LONG] {
+            let bytes = some_bytes(length);
+            let said = [0, 3, 8, 9, 5000, 1 << 20, 2 << 20, LONG - 1, LONG, LONG + 1];
+            for said in said.map(Some).into_iter().chain([None]) {
+                let read = read_said(&file_of(&bytes), said, LONG);
+                assert!(*read == *bytes, "{length} bytes, said to be {said:?}");
+            }
+        }
+    }
+
+    #[test]
+    fn of_a_file_that_is_too_long_one_byte_more_is_read() {
+        let bytes = some_bytes(LONG);
+        for longest in [8, 5000, 2 << 20, LONG - 2, LONG - 1] {
+            for said in [Some(10), Some(longest), Some(LONG), None] {
+                let read = read_said(&file_of(&bytes), said, longest);
+                assert!(*read == bytes[..=longest], "{longest}, said to be {said:?}");
+            }
+        }
+    }
+
+    #[test]
+    fn what_was_read_stays_when_the_file_changes() {
+        for length in [5000, LONG] {
+            let bytes = some_bytes(length);
+            let file = file_of(&bytes);
+            let read = read_said(&file, Some(length), LONG);
+            file.write_all_at(&vec![b'x'; length], 0).expect("a change");
+            file.set_len(10).expect("a cut");
+            assert!(*read == *bytes);
+        }
+    }
 }

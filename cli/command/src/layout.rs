@@ -1,7 +1,9 @@
-//! Fields of a file for display only: what the header says, and what stands in blocks.
+//! Fields of a file as they stand, for display and for the lengths of lists: what the header says, and what stands in blocks.
 //!
 //! Nothing here decides anything. Verdicts, matches and opened blocks are the proved library's; what can't be made out is left out.
 
+/// Levels of index blocks. Greater ones are reserved.
+pub const INDEX: std::ops::RangeInclusive<u8> = 1..=63;
 /// How long a block's checksum is.
 const CHECKSUM: u64 = 8;
 
@@ -78,6 +80,18 @@ pub fn block(file: &[u8], offset: u64) -> Option<Block<'_>> {
     })
 }
 
+/// How many data and index blocks follow one another after the header, up to the first block that can't be made out. Only the front of
+/// each is looked at.
+pub fn count_blocks(file: &[u8]) -> usize {
+    let mut count = 0;
+    let mut next = header_end(file);
+    while let Some(found) = next.and_then(|offset| block(file, offset)) {
+        count += usize::from(found.level <= *INDEX.end());
+        next = Some(found.end);
+    }
+    count
+}
+
 /// Offset and length of each record of a data block, up to the first that can't be made out.
 pub fn records<'a>(block: &Block<'a>) -> impl Iterator<Item = (u64, u64)> + 'a {
     let payload_end = block.end - CHECKSUM;
@@ -117,4 +131,80 @@ pub fn take_number(rest: &mut &[u8]) -> Option<u64> {
 fn u64_at(file: &[u8], at: usize) -> Option<u64> {
     let eight = file.get(at..)?.get(..8)?;
     Some(u64::from_le_bytes(eight.try_into().ok()?))
+}
+
+#[cfg(test)]
+mod tests {
+    use super::*;
+    use zs_reference::maker::random::{tree, Random};
+    use zs_reference::maker::{Image, Plan};
+
+    /// No frame is shorter: a number, a level and a checksum.
+    const SHORTEST_FRAME: usize = 10;
+
+    /// Two data blocks and their root, with reserved blocks between them.
+    fn file_with_reserved_blocks() -> Vec<u8> {
+        let blocks = vec![
+            Plan::data(&["a", "b"]),
+            Plan::bytes(64, b""),
+            Plan::data(&["c"]),
+            Plan::bytes(255, b"\x05any"),
+            Plan::index(1, &[("", 0), ("c", 2)]),
+        ];
+        Image::new(blocks).bytes()
+    }
+
+    #[test]
+    fn the_blocks_counted_are_those_of_the_check() {
+        let mut random = Random::new(5);
+        for _ in 0..200 {
+            let file = tree(&mut random, 200).bytes();
+            let checked = zs_library::check(&file, &mut vec![0; file.len() / 11]);
+            assert_eq!(checked.number, 0);
+            assert_eq!(count_blocks(&file) as u64, checked.blocks);
+        }
+    }
+
+    #[test]
+    fn reserved_blocks_are_not_counted() {
+        assert_eq!(count_blocks(&file_with_reserved_blocks()), 3);
+    }
+
+    #[test]
+    fn a_cut_takes_blocks_from_the_count() {
+        let mut file = tree(&mut Random::new(6), 50).bytes();
+        let mut count = count_blocks(&file);
+        while file.pop().is_some() {
+            let left = count_blocks(&file);
+            assert!(left <= count);
+            count = left;
+        }
+        assert_eq!(count, 0);
+    }
+
+    #[test]
+    fn damaged_bytes_are_counted_within_their_length() {
+        let mut random = Random::new(7);
+        let mut file = file_with_reserved_blocks();
+        for _ in 0..100_000 {
+            let at = random.below(file.len());
+            file[at] = random.next() as u8;
+            assert!(count_blocks(&file) <= file.len() / SHORTEST_FRAME);
+        }
+    }
+
+    #[test]
+    fn bytes_of_no_file_are_counted_within_their_length() {
+        for byte in 0..=u8::MAX {
+            for length in [0, 7, 15, 16, 17, 1000] {
+                let mut file = vec![byte; length];
+                assert!(count_blocks(&file) <= length / SHORTEST_FRAME);
+                // Blocks from 24 on, and a header whose length is the greatest number.
+                for header in [[0; 8], [0xff; 8]] {
+                    file.splice(8.min(length)..16.min(length), header);
+                    assert!(count_blocks(&file) <= file.len() / SHORTEST_FRAME);
+                }
+            }
+        }
+    }
 }

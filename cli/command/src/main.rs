@@ -4,14 +4,14 @@
 //! prints the answers.
 //!
 //! * [`arguments`], [`escapes`] and [`usage`]: what a person asks for.
-//! * [`input`], [`cut_files`], [`archive`], [`answers`], [`refusals`]: bytes, checked or not, the library's answers with lists that
-//!   grow, and refusals in words.
+//! * [`input`], [`memory`], [`cut_files`], [`archive`], [`answers`], [`refusals`]: bytes, checked or not, the library's answers with
+//!   lists that grow, and refusals in words.
 //! * [`records`], [`encoding`], [`writing`]: records one after the other in an input, and the archive that the library makes of them.
 //! * [`make`], [`validate`], [`dump`], [`info`], [`explain`]: one module for each command.
 //! * [`output`], [`target`], [`temporary`], [`signals`], [`system`]: where answers are written, and how a file appears only when it is
 //!   whole.
 //! * [`terminal`], [`progress`], [`failure`]: text and progress on a terminal, and what went wrong.
-//! * [`layout`], [`walk`], [`metadata`]: fields, bounds and faults for display, and what a search would cost.
+//! * [`layout`], [`walk`], [`metadata`]: fields, bounds and faults for display, and what a check or a search would take.
 #![deny(unsafe_code)]
 
 mod answers;
@@ -29,6 +29,7 @@ mod info;
 mod input;
 mod layout;
 mod make;
+mod memory;
 mod metadata;
 mod output;
 mod progress;

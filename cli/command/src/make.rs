@@ -11,6 +11,7 @@ use crate::encoding::Encoded;
 use crate::escapes::escape_name;
 use crate::failure::Failure;
 use crate::input::{is_standard_input, read_any, LONGEST};
+use crate::memory::Memory;
 use crate::output::{format_count, Output};
 use crate::progress::show_while;
 use crate::records::Form;
@@ -145,7 +146,7 @@ fn metadata_file(given: &OsStr) -> Option<&Path> {
 fn read_metadata(asked: &Make) -> Result<Vec<u8>, Failure> {
     let text = match metadata_file(&asked.metadata) {
         Some(file) => read(file, "metadata", 1)?,
-        None => asked.metadata.as_bytes().to_vec(),
+        None => Memory::from(asked.metadata.as_bytes().to_vec()),
     };
     let is_other = |byte: &u8| !b" \t\n\r".contains(byte);
     let first = text.iter().position(is_other).unwrap_or(text.len());
@@ -157,7 +158,7 @@ fn read_metadata(asked: &Make) -> Result<Vec<u8>, Failure> {
 }
 
 /// Reads what goes into the archive. What is so many times as long as any archive is refused by its length.
-fn read(path: &Path, what: &str, times: u64) -> Result<Vec<u8>, Failure> {
+fn read(path: &Path, what: &str, times: u64) -> Result<Memory, Failure> {
     let longest = times.saturating_mul(LONGEST as u64);
     read_any(path, longest)?.ok_or_else(|| {
         let detail = format!("the {what} alone has more than {longest} bytes");

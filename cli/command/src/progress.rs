@@ -14,7 +14,7 @@ const TURN: Duration = Duration::from_millis(100);
 
 /// Does the work, and shows meanwhile what is done.
 pub fn show_while<T>(what: &str, path: &Path, length: usize, work: impl FnOnce() -> T) -> T {
-    if length < LONG {
+    if length < LONG || !console::user_attended_stderr() {
         return work();
     }
     let spinner = ProgressBar::new_spinner();

@@ -7,10 +7,7 @@
 use zs_library::Query;
 
 use crate::answers::Contents;
-use crate::layout::{block, header, take_entry, Block, Entry};
-
-/// Levels of index blocks.
-const INDEX: std::ops::RangeInclusive<u8> = 1..=63;
+use crate::layout::{block, header, take_entry, Block, Entry, INDEX};
 
 /// A block that the search opens.
 pub struct Opened<'a> {

@@ -5,13 +5,14 @@ use zs_library::Counts;
 use crate::encoding::{lack_memory, Encoded};
 use crate::failure::Failure;
 use crate::input::LONGEST;
+use crate::memory::Memory;
 use crate::metadata::describe_fault;
 use crate::refusals::Refusal;
 
 /// About so many bytes of records make a data block, where nobody says how many records.
-pub const BLOCK_BYTES: u64 = 2048;
+pub const BLOCK_BYTES: u64 = 4096;
 /// Entries of an index block, where nobody says how many.
-pub const ENTRIES_PER_BLOCK: u64 = 32;
+pub const ENTRIES_PER_BLOCK: u64 = 16;
 /// More records make a data block where the keys would otherwise take more than one of so many bytes of the records: long records that
 /// begin alike have long keys.
 pub const KEY_SHARE: u64 = 16;
@@ -33,7 +34,7 @@ pub struct Draft<'a> {
 
 /// An archive, and how many blocks it has.
 pub struct Made {
-    pub file: Vec<u8>,
+    pub file: Memory,
     pub blocks: u64,
 }
 
@@ -63,11 +64,8 @@ impl Draft<'_> {
     pub fn make(&self) -> Result<Made, Failure> {
         refuse_early(self.metadata, self.counts)?;
         let Size { blocks, longest } = self.measure();
-        let mut file = Vec::new();
-        let room = longest.min(LONGEST);
-        file.try_reserve_exact(room).map_err(lack_memory)?;
-        file.resize(room, 0);
-        let records = self.records.bytes.as_slice();
+        let mut file = Memory::zeros(longest.min(LONGEST)).map_err(lack_memory)?;
+        let records = &self.records.bytes;
         let written = zs_library::write(self.metadata, records, self.counts, &mut file);
         if written.number != 0 {
             let detail = self.find_detail(written.number);

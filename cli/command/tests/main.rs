@@ -16,5 +16,6 @@ mod refusals;
 mod signals;
 mod support;
 mod targets;
+mod tiny_blocks;
 mod tour;
 mod unchecked;

@@ -219,20 +219,27 @@ fn a_hundred_thousand_records() {
     }
 }
 
+/// About so many bytes of records make a data block, and so many entries an index block, where nobody says how many.
+const USUAL_BYTES: usize = 4 << 10;
+const USUAL_ENTRIES: u64 = 16;
+
 #[test]
-fn usual_blocks_have_about_two_kilobytes() {
+fn usual_blocks_are_as_long_as_the_help_says() {
     let folder = Folder::new();
     let line = |number: usize| format!("Ada Blank {number:05}\t201-555-0123\n");
     let input: String = (0..20_000).map(line).collect();
     let file = make(&folder, input.as_bytes(), LINES);
     let blocks = reader::check(&file, file.len()).blocks as usize;
-    assert!(
-        (1 << 10..4 << 10).contains(&(file.len() / blocks)),
-        "{blocks}"
-    );
+    let due = USUAL_BYTES / 2..2 * USUAL_BYTES;
+    assert!(due.contains(&(file.len() / blocks)), "{blocks}");
+    let kilobytes = USUAL_BYTES >> 10;
     let help = zs(&["make", "--help"]).text();
-    let says = "about 2 KiB of them, more where long records begin alike";
-    assert!(help.contains(says), "{help}");
+    for says in [
+        format!("about {kilobytes} KiB of them, more where long records begin alike"),
+        format!("[default: {USUAL_ENTRIES}]"),
+    ] {
+        assert!(help.contains(&says), "{help}");
+    }
 }
 
 /// Notes of twenty thousand bytes that part early, and such that part late.
@@ -246,9 +253,11 @@ fn notes() -> [String; 2] {
 #[test]
 fn long_records_make_a_block_each_unless_they_begin_alike() {
     let folder = Folder::new();
-    // 200 data blocks, 7 index blocks over them, and the root; thirteen data blocks of 16 records and less, and the root. By a hundredth
-    // and by a tenth the file is longer than its records.
-    for ((input, blocks), part) in notes().iter().zip([208, 14]).zip([100, 10]) {
+    // 200 data blocks, the index blocks over them, and the root; thirteen data blocks of 16 records and less, and the root. By a
+    // hundredth and by a tenth the file is longer than its records.
+    let index_blocks = 1 + (200 - 1) / USUAL_ENTRIES;
+    let due = [200 + index_blocks + 1, 13 + 1];
+    for ((input, blocks), part) in notes().iter().zip(due).zip([100, 10]) {
         let file = make(&folder, input.as_bytes(), LINES);
         assert_eq!(reader::check(&file, file.len()).blocks, blocks);
         let longest = input.len() + input.len() / part;

@@ -3,7 +3,8 @@
 //! Each call hands over slices as pointer and length, and the contracts of the functions that are called hold for every slice, so
 //! nothing is asked of the caller. Only [`map`] asks for a promise: that nobody changes the file. Beside this file, unsafe code stands
 //! where the command calls [`map`] (`cli/command/src/input.rs`), handles signals (`signals.rs` and `cut_files.rs` beside it) and asks
-//! for what `std` has no call for (`system.rs`), in the test of long files, and in the benchmark (`bench/src/foreign.rs`).
+//! for what `std` has no call for (`system.rs`), in the test of long files, in the example that measures ways of reading
+//! (`cli/command/examples/reading.rs`), and in the benchmark (`bench/src/foreign.rs` and `loaded.rs`).
 #![warn(missing_docs)]
 #![deny(unsafe_op_in_unsafe_fn)]
 
