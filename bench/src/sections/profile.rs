@@ -184,7 +184,8 @@ fn table(setting: &Setting, check: &Profile, lookup: &Profile) -> Table {
          tests go on for the numbers alone, since order is lost already. The order is the difference of the two; the numbers count \
          twice, since a check and a lookup read them among the tests of a block and again on the walk. The query is what comparing the records \
          of a data block with the query takes beyond their numbers. The rest is the difference to the whole: header, names, the walk with its \
-         entries, hash and lists, and what it takes to read the file from memory again.",
+         entries, hash and lists, and what it takes to read the file from memory again; where that is little, the spread of the parts can make it \
+         less than nothing.",
         setting.sizes.rounds, setting.sizes.lookups
     );
     let head = ["part", "check", "share", "one lookup", "share"];
@@ -195,11 +196,12 @@ fn table(setting: &Setting, check: &Profile, lookup: &Profile) -> Table {
         "numbers: those of records and entries, twice",
         "order: each record or key with the one before it",
         "query: each record of the data block with the query",
-        "the rest",
+        "walk, names, lists and the rest",
         "the whole",
     ];
     let cells = |seconds: Option<f64>, whole: f64| {
-        let share = |part: f64| format!("{:.0} %", 100.0 * part / whole);
+        // Nothing is added to what is rounded, so that it has no sign.
+        let share = |part: f64| format!("{} %", (100.0 * part / whole).round() + 0.0);
         let cells = seconds.map(|seconds| [time(seconds), share(seconds)]);
         cells.unwrap_or_else(|| ["-".to_string(), "-".to_string()])
     };
