@@ -25,7 +25,7 @@ pub extern "C" fn bench_crc64(bytes: &[u8]) -> u64
 pub extern "C" fn bench_crc64_by_bits(bytes: &[u8]) -> u64
     ensures { λ r. ⌜ r ≡ crc64 (now (bytes .entry)) ⌝ }
 {
-    crc64::finish(crc64::absorb_by_bits(crc64::begin(), bytes))
+    crc64::finish(crc64_register::absorb_by_bits(crc64::begin(), bytes))
 }
 
 // The first eight bytes of the SHA-256 of the bytes, as a little-endian number; 0 for more than 2^30 bytes.

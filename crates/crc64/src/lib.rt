@@ -7,59 +7,21 @@
 // it is used, and lanes have to be joined, which would take longer than a short piece itself; so short pieces take eight one-bit steps for
 // each byte.
 ghost use mathlib.Core.Path.{_≡_};
-ghost use Rattle.crc64.specs.Crc64.{byteStep, registerStart, crcOf, crc64};
+ghost use Rattle.crc64.specs.Crc64.{registerStart, crcOf, crc64};
 ghost use Rattle.crc64.specs.Crc64 as crc;
-
-mod lanes;
-mod product;
-mod table;
-
-use crate::lanes::absorb_by_lanes;
-
-// The polynomial 42f0e1eba9ea3693 hex with its 64 bits in reverse order.
-const POLYNOMIAL: u64 = 0xc96c_5795_d787_0f42;
+use crc64_lanes::absorb_by_lanes;
+use crc64_register::absorb_by_bits;
 
 const ALL_ONES: u64 = 0xffff_ffff_ffff_ffff;
 
 // Pieces of so many bytes and more go in lanes.
 const LONG: usize = 512;
 
-// The register after one byte more. The choice is an `if` and no product: in this form the compiler replaces the eight
-// turns by one lookup in a table of 256 numbers, as the machine code shows.
-fn byte_step(register: u64, b: u8) -> u64
-    ensures { λ r. ⌜ r ≡ byteStep register b ⌝ }
-{
-    let mut r = register ^ (b as u64);
-    let mut i: usize = 0;
-    while i < 8 {
-        r = if r % 2 == 1 {
-            (r / 2) ^ POLYNOMIAL
-        } else {
-            r / 2
-        };
-        i += 1;
-    }
-    r
-}
-
 // The register before the first byte.
 pub fn begin() -> u64
     ensures { λ r. ⌜ r ≡ registerStart ⌝ }
 {
     ALL_ONES
-}
-
-// The register after a piece more, eight one-bit steps for each byte. Public for the benchmark, which compares both ways.
-pub fn absorb_by_bits(register: u64, bytes: &[u8]) -> u64
-    ensures { λ r. ⌜ r ≡ crc.register register (now (bytes .entry)) ⌝ }
-{
-    let mut r = register;
-    let mut i = 0;
-    while i < bytes.len() {
-        r = byte_step(r, bytes[i]);
-        i += 1;
-    }
-    r
 }
 
 // The register after a piece more.

@@ -1,0 +1,3 @@
+-- Laws of the CRC-64 register and checksum.
+pub mod Crc64Laws
+pub mod LinearLaws

@@ -1,0 +1,2 @@
+-- The meaning of the CRC-64 checksum.
+pub mod Crc64
