@@ -1,4 +1,4 @@
--- `crc64::absorb_by_bits` meets its contract. The loop's invariant: r is the register with the first i bytes gone in.
+-- `absorb_by_bits` meets its contract. The loop's invariant: r is the register with the first i bytes gone in.
 -- Assumes nothing.
 use Prim.Native.Nat.{_-_}
 use native.Mathlib.Omega.{arith}
