@@ -13,7 +13,7 @@ echo "1 passed, 0 failed"
 scripts/lint.sh --scripts
 scripts/check-claims
 # Jobs run in batches, and a batch ends with its last job, so that one job more than processors leaves less time idle; with more
-# than that they slow one another down (on two processors, four or six jobs took a quarter longer). A job takes up to 1 GB of memory.
+# than that they slow one another down a little (docs/landings/S01-speed.md). A job takes up to 1 GB of memory.
 RT_JOBS="${RT_JOBS:-3}" rt ci
 rt staticlib zs >/dev/null
 # Both commands use one build: the same packages are named, so that these have the same features. What lets a later build begin from parts
