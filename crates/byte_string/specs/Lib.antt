@@ -1,2 +1,3 @@
 -- The meaning of the order of byte strings.
 pub mod Order
+pub mod Rising

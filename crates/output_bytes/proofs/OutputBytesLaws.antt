@@ -73,7 +73,7 @@ stored-append o at s t h =
       append-assoc s t (drop (at + length s + length t) o),
     )
 
-drop-zeros : (n room : ℕ) → drop n (zeros room) ≡ zeros (room - n)
+pub drop-zeros : (n room : ℕ) → drop n (zeros room) ≡ zeros (room - n)
 drop-zeros n room = rw (zeros-replicate room, zeros-replicate (room - n)) (go n room)
   where
     go : (n room : ℕ) → drop {A = ℕ} n (replicate room 0) ≡ replicate (room - n) 0

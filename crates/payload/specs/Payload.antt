@@ -1,11 +1,10 @@
 -- The payload of a data block, as records, and of an index block, as entries. A payload is given as a byte string s that ends where
 -- the payload ends, so that offsets are those of the file.
 use Prim.Native.Nat.{ℕ, _+_, _-_}
-use mathlib.Core.Bool.{Bool, true, _&&_}
-use mathlib.Core.List.{List, [], _∷_, map}
+use mathlib.Core.List.{List, map}
 use lib.Dec.{leb, ltb}
 use lib.ListN.{length}
-use Rattle.byte_string.specs.Order.{atMost}
+unfoldable pub use Rattle.byte_string.specs.Rising.{risingFrom, rising}
 use Rattle.outcome.specs.Outcome.{Outcome, answer, _>>=_, _>>_, must}
 use Rattle.items.specs.Items.{Step, itemsFrom}
 use Rattle.part.specs.Part.{part}
@@ -42,15 +41,6 @@ module _ (place : ℕ) (s : List ℕ) where
     key ← textAt at
     offset ← numberAt 15 place s (key .next)
     entrySized (key .item) (offset .item) (offset .next)
-
--- each is at most the next
-unfoldable pub risingFrom : List ℕ → List (List ℕ) → Bool
-risingFrom x [] = true
-risingFrom x (y ∷ ys) = atMost x y && risingFrom y ys
-
-unfoldable pub rising : List (List ℕ) → Bool
-rising [] = true
-rising (x ∷ xs) = risingFrom x xs
 
 -- One or more items that fill the payload from `at` to its end (11, 12, 15), whose byte strings rise (the refusal `unsorted`). Every item
 -- takes at least a byte, so `end - at` is fuel enough.

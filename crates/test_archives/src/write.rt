@@ -3,13 +3,13 @@ use crate::cases::Case;
 use crate::cases::string;
 use crate::lists::output_room;
 use crate::print;
-use writer::Written;
+use written::Written;
 
 // What stands in each byte of the output before the call, so that a byte that isn't written shows.
-const RUBBISH: u8 = 0x5a;
+pub const RUBBISH: u8 = 0x5a;
 
 // Prints the answer, and the hash of the whole output.
-fn print_answer(answer: Written, output: &[u8]) {
+pub fn print_answer(answer: Written, output: &[u8]) {
     print::number(b": number ", answer.number);
     print::number(b" place ", answer.place);
     print::number(b" length ", answer.length);

@@ -12,7 +12,7 @@ use borrow.Author.Tests.{ltb-true, ltb-false}
 use Rattle.lists.specs.Groups.{groups}
 use Rattle.header.specs.Metadata.{Metadata}
 use Rattle.layout.specs.File.{fileOf}
-use Rattle.writer.specs.declared.Written.{Written}
+use Rattle.written.specs.declared.Written.{Written}
 use Rattle.theorems_check.specs.Rules.{Sorted}
 use Rattle.theorems_write.specs.WrittenByRules.{CountsFit, InputOf, Fits, WrittenByRules}
 use Rattle.theorems_write.specs.WrittenByRules.{Ends, counts-out-of-range, no-metadata, malformed, unsorted, too-long, done}

@@ -19,7 +19,7 @@ use Rattle.matching.specs.Matching.{matching}
 use Rattle.matching.specs.ResultList.{roomFor}
 use Rattle.reader.specs.declared.ReadAnswer.{ReadAnswer}
 use Rattle.search.specs.declared.Found.{Found}
-use Rattle.writer.specs.declared.Written.{Written}
+use Rattle.written.specs.declared.Written.{Written}
 use Rattle.checker.specs.declared.Checked.{Checked}
 use Rattle.theorems_check.specs.CheckedByRules.{CheckedByRules}
 use Rattle.theorems_read.specs.ReadByRules.{GivesMatches, ReadByRules}

@@ -21,8 +21,9 @@ use Rattle.header.proofs.MetadataLaws.{isMetadata⇒Metadata, Metadata⇒isMeta
 use Rattle.block.specs.Block.{Block}
 use Rattle.layout.specs.File.{blocksStart, fileOf, fileFits}
 use Rattle.layout.specs.Placed.{placedBlocks}
-use Rattle.writer.specs.declared.Written.{Written}
-use Rattle.writer.specs.Write.{countsFit, inputOf, recordsToWrite, writeOf, writtenAnswer, writtenOutput}
+use Rattle.written.specs.declared.Written.{Written}
+use Rattle.written.specs.Written.{writtenAnswer, writtenOutput}
+use Rattle.writer.specs.Write.{countsFit, inputOf, recordsToWrite, writeOf}
 use Rattle.writer.proofs.InputRuleLaws.{refused-at-30, refused-at-9, to-input}
 use Rattle.theorems_check.specs.Rules.{Sorted}
 use Rattle.theorems_layout.specs.WrittenLayout.{WrittenLayout}

@@ -15,7 +15,7 @@ use Rattle.block.specs.Survey.{recordsOf}
 use Rattle.tree.specs.Stages.{payloads}
 use Rattle.layout.specs.Blocks.{recordsBytes}
 use Rattle.layout.specs.File.{fileOf}
-use Rattle.writer.specs.declared.Written.{Written}
+use Rattle.written.specs.declared.Written.{Written}
 use Rattle.checker.specs.Check.{acceptOf}
 use Rattle.theorems_check.specs.Rules.{Sorted, Rules}
 use Rattle.theorems_layout.specs.WrittenLayout.{WrittenLayout}

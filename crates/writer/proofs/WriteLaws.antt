@@ -15,8 +15,9 @@ use Rattle.header.specs.Metadata.{isMetadata}
 use Rattle.payload.specs.Payload.{Text, recordsAt}
 use Rattle.layout.specs.File.{fileOf, fileFits, blocksStart}
 use Rattle.layout.proofs.FileBackLaws.{length-file}
-use Rattle.writer.specs.declared.Written.{Written}
-use Rattle.writer.specs.Write.{countsFit, inputRefusal, recordsToWrite, writeOf, writtenAnswer, writtenOutput}
+use Rattle.written.specs.declared.Written.{Written}
+use Rattle.written.specs.Written.{writtenAnswer, writtenOutput}
+use Rattle.writer.specs.Write.{countsFit, inputRefusal, recordsToWrite, writeOf}
 use Rattle.writer.specs.Steps.{endIfFits, FilePut}
 use Rattle.writer.proofs.InputRuleLaws.{refused-at-30, refused-at-9, to-input, input-some, input-none}
 
@@ -66,16 +67,16 @@ module _ (metadata input : List ℕ) (b i room : ℕ) where
 
   -- a refusal before the file is made
   pub write-refused : (n : ℕ) → n ≡ numberOf (recordsToWrite metadata input b i) → (n ≡ 0 → ⊥)
-      → (_≡_ {A = Written} (record { number = n; place = 0; length = 0 }) (writtenAnswer (writeOf metadata input b i room)))
+      → (writtenAnswer (refused n 0) ≡ writtenAnswer (writeOf metadata input b i room))
       × (zeros room ≡ writtenOutput room (writeOf metadata input b i room))
   unfolding numberOf placeOf countOf listOf writeOf writtenAnswer writtenOutput _>>=_
   write-refused n e s = go (known metadata input b i)
     where
-      go : Known R → (_≡_ {A = Written} (record { number = n; place = 0; length = 0 }) (writtenAnswer W)) × (zeros room ≡ writtenOutput room W)
+      go : Known R → (writtenAnswer (refused n 0) ≡ writtenAnswer W) × (zeros room ≡ writtenOutput room W)
       go (some rs h) = absurd (s (e ∙ ap numberOf h))
       go (none m t h) =
           let W-is : W ≡ refused m 0 = bind-refused R _ m 0 h in
-          (ap (λ (k : ℕ). record { number = k; place = 0; length = 0 }) (e ∙ ap numberOf h) ∙ sym (ap writtenAnswer W-is), sym (ap (writtenOutput room) W-is))
+          (ap (λ (k : ℕ). writtenAnswer (refused k 0)) (e ∙ ap numberOf h) ∙ sym (ap writtenAnswer W-is), sym (ap (writtenOutput room) W-is))
 
   module _ (rs : List (List ℕ)) (read : recordsToWrite metadata input b i ≡ answer rs) (end : ℕ) (output : List ℕ)
       (put : FilePut room (fileOf metadata (groups b rs) i) end output) where
@@ -102,13 +103,13 @@ module _ (metadata input : List ℕ) (b i room : ℕ) where
     whole h = bind-answer R _ rs read ∙ kept (fileFits room (length file)) 31 0 _ h
 
     -- the file doesn't fit
-    pub write-full : end ≡ 0 → (_≡_ {A = Written} (record { number = 31; place = 0; length = 0 }) (writtenAnswer (writeOf metadata input b i room)))
+    pub write-full : end ≡ 0 → (writtenAnswer (refused 31 0) ≡ writtenAnswer (writeOf metadata input b i room))
         × (zeros room ≡ writtenOutput room (writeOf metadata input b i room))
     unfolding numberOf placeOf countOf listOf writtenAnswer writtenOutput
     write-full z = go (fileFits room (length file)) refl
       where
         go : (c : Bool) → fileFits room (length file) ≡ c
-            → (_≡_ {A = Written} (record { number = 31; place = 0; length = 0 }) (writtenAnswer W)) × (zeros room ≡ writtenOutput room W)
+            → (writtenAnswer (refused 31 0) ≡ writtenAnswer W) × (zeros room ≡ writtenOutput room W)
         go true h = absurd (let e = cases true h in let l = long in omega arith)
         go false h = (sym (ap writtenAnswer (full h)), sym (ap (writtenOutput room) (full h)))
 

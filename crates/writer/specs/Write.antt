@@ -5,11 +5,10 @@ use mathlib.Core.List.{List, map}
 use lib.Dec.{leb, eqb}
 use lib.ListN.{length}
 use Rattle.lists.specs.Groups.{groups}
-use Rattle.outcome.specs.Outcome.{Outcome, answer, refused, _>>=_, _>>_, must, numberOf, placeOf, countOf, listOf}
+use Rattle.outcome.specs.Outcome.{Outcome, answer, refused, _>>=_, _>>_, must}
 use Rattle.header.specs.Metadata.{isMetadata}
 use Rattle.payload.specs.Payload.{recordsAt}
 use Rattle.layout.specs.File.{fileOf, fileFits}
-use Rattle.writer.specs.declared.Written.{Written}
 
 -- records in a data block, 1 to 65,535, and entries in an index block, 2 to 65,535
 unfoldable pub countsFit : (perBlock perIndex : ℕ) → Bool
@@ -42,11 +41,3 @@ writeOf metadata input perBlock perIndex room = do
   rs ← recordsToWrite metadata input perBlock perIndex
   must (fileFits room (length (fileOf metadata (groups perBlock rs) perIndex))) 31 0
   answer (fileOf metadata (groups perBlock rs) perIndex)
-
--- what `write` answers
-unfoldable pub writtenAnswer : Outcome (List ℕ) → Written
-writtenAnswer o = record { number = numberOf o; place = placeOf o; length = countOf length o }
-
--- the output then: the file and zeros after it; after a refusal zeros
-unfoldable pub writtenOutput : (room : ℕ) → Outcome (List ℕ) → List ℕ
-writtenOutput room o = listOf (λ file. file) room o

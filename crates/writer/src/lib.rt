@@ -7,7 +7,8 @@ ghost use Rattle.lists.specs.Groups.{groups};
 ghost use Rattle.output_list.specs.OutputList.{zeros};
 ghost use Rattle.outcome.specs.Outcome.{answer};
 ghost use Rattle.layout.specs.File.{fileOf};
-ghost use Rattle.writer.specs.Write.{recordsToWrite, writeOf, writtenAnswer, writtenOutput};
+ghost use Rattle.written.specs.Written.{writtenAnswer, writtenOutput};
+ghost use Rattle.writer.specs.Write.{recordsToWrite, writeOf};
 ghost use Rattle.writer.specs.Steps.{FilePut};
 
 mod data;
@@ -18,24 +19,8 @@ use crate::input::input_refusal;
 use header::Header;
 use index_encoder::RaiseOutcome;
 use index_encoder::put_index;
-
-// Number and place of a refusal, both 0 without one, and the length of the file.
-#[repr(C)]
-pub struct Written {
-    pub number: u64,
-    pub place: u64,
-    pub length: u64,
-}
-
-fn refusal(number: u64) -> Written
-    ensures { λ r. ⌜ r ≡ record { number = number; place = 0; length = 0 } ⌝ }
-{
-    Written {
-        number,
-        place: 0,
-        length: 0,
-    }
-}
+use written::Written;
+use written::refusal;
 
 // Writes a file: metadata, records (each a number and as many bytes) that rise, how many records a data block and how many entries an index
 // block holds. The output holds the file and zeros after it; after a refusal zeros.

@@ -1,0 +1,2 @@
+-- The meaning of an answer about a lent output.
+pub mod Written
