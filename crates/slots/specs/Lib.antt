@@ -1,0 +1,2 @@
+-- The meaning of numbers in slots.
+pub mod Slots

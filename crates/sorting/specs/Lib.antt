@@ -1,0 +1,3 @@
+-- The meaning of sorting.
+pub mod Sorting
+pub mod Heap

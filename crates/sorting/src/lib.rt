@@ -1,0 +1,1 @@
+// Sorting: definitions and laws; no code.
