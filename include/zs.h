@@ -21,7 +21,7 @@
  *   work      file_len / 11, since a block with records or entries takes 11 bytes or more
  *   opened    on a file that zs_check accepts: `blocks` of its answer
  *   results   on a file that zs_check accepts: twice `records` of its answer; for zs_read on any bytes: 2 * file_len
- *   output    2^30 bytes, since no file is longer
+ *   output    of zs_write: 2^30 bytes, since no file is longer; of zs_import_sim: 2 * dump_len
  * On other bytes there is no such length for zs_search: they can lead to one block again and again, and only the length of the opened
  * list bounds how often.
  */
@@ -78,7 +78,10 @@ typedef enum zs_refusal {
     ZS_BAD_RECORDS = 28,
     ZS_INPUT_UNSORTED = 29,
     ZS_COUNT_OUT_OF_RANGE = 30,
-    ZS_OUTPUT_SHORT = 31
+    ZS_OUTPUT_SHORT = 31,
+    ZS_BAD_DUMP = 32,
+    ZS_BAD_NAME = 33,
+    ZS_BAD_NUMBER_LENGTH = 34
 } zs_refusal;
 
 /* What a number means, in a sentence. "This block" is the one at the place. */
@@ -116,7 +119,10 @@ static inline const char *zs_message(uint64_t number)
     case ZS_BAD_RECORDS: return "the records to be written aren't each a length and as many bytes, or there are none";
     case ZS_INPUT_UNSORTED: return "the records to be written are out of order";
     case ZS_COUNT_OUT_OF_RANGE: return "a count is out of range: 1 to 65535 records in a data block, 2 to 65535 entries in an index block";
-    case ZS_OUTPUT_SHORT: return "the file would be longer than its output, or than 1073741824 bytes (2^30)";
+    case ZS_OUTPUT_SHORT: return "the output is too short, or the file would be longer than 1073741824 bytes (2^30)";
+    case ZS_BAD_DUMP: return "the dump isn't whole records: its length is no multiple of the name length plus 14, or the name length is above 241";
+    case ZS_BAD_NAME: return "the name of a record isn't formed as one, or isn't followed by FF bytes to the end of its field";
+    case ZS_BAD_NUMBER_LENGTH: return "a record states a number of more than 11 bytes";
     default: return "no refusal has this number";
     }
 }
@@ -164,6 +170,13 @@ bool zs_is_metadata(const uint8_t *bytes, size_t bytes_len);
  * output. A file written is one that zs_check accepts. */
 zs_written zs_write(const uint8_t *metadata, size_t metadata_len, const uint8_t *records, size_t records_len, uint64_t per_block,
                     uint64_t per_index, uint8_t *output, size_t output_len);
+
+/* Imports a dump of a SIM phonebook (EF ADN of 3GPP TS 51.011), whose records are `name_length` bytes (0 to 241) for a name and 14 more. Free
+ * records, nothing but FF, are left out; of each other one the output gets the name's bytes, coding bytes included, and the 14 bytes as they
+ * are, sorted and in the form that zs_write takes, with zeros after them; `length` is how many bytes they take. No records are joined: equal
+ * ones stay as often as they were. Refusals in this order: 32 the size of the dump, 33 a name and 34 the length of a number by record, 31 no
+ * room; after one the output is zeros. Every call writes every byte of the output. Output of twice the dump's length is always enough. */
+zs_written zs_import_sim(const uint8_t *dump, size_t dump_len, uint64_t name_length, uint8_t *output, size_t output_len);
 
 #ifdef __cplusplus
 }

@@ -66,7 +66,7 @@ pub struct Found {
     pub opened: u64,
 }
 
-/// Number and place of a refusal, both 0 without one, and how long the file is that was written.
+/// Number and place of a refusal, both 0 without one, and how many bytes of an output were written.
 #[repr(C)]
 #[derive(Clone, Copy, Debug, PartialEq, Eq)]
 pub struct Written {
@@ -74,7 +74,7 @@ pub struct Written {
     pub number: u64,
     /// Its place, or 0.
     pub place: u64,
-    /// The length of the file.
+    /// The length of the file, or of the records.
     pub length: u64,
 }
 
@@ -139,6 +139,13 @@ extern "C" {
         records_len: usize,
         per_block: u64,
         per_index: u64,
+        output: *mut u8,
+        output_len: usize,
+    ) -> Written;
+    fn zs_import_sim(
+        dump: *const u8,
+        dump_len: usize,
+        name_length: u64,
         output: *mut u8,
         output_len: usize,
     ) -> Written;
@@ -251,6 +258,21 @@ pub fn write(metadata: &[u8], records: &[u8], counts: Counts, output: &mut [u8])
             records.len(),
             counts.per_block,
             counts.per_index,
+            output.as_mut_ptr(),
+            output.len(),
+        )
+    }
+}
+
+/// Imports a dump of a SIM phonebook whose records have a name field of `name_length` bytes: its records, sorted, in the form that [`write`]
+/// takes, and zeros after them; after a refusal zeros.
+pub fn import_sim(dump: &[u8], name_length: u64, output: &mut [u8]) -> Written {
+    // SAFETY: each pointer comes with the length of the slice it is taken from, and `output` is borrowed alone.
+    unsafe {
+        zs_import_sim(
+            dump.as_ptr(),
+            dump.len(),
+            name_length,
             output.as_mut_ptr(),
             output.len(),
         )

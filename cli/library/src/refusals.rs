@@ -14,6 +14,8 @@ pub enum Call {
     Search,
     /// [`write`](crate::write).
     Write,
+    /// [`import_sim`](crate::import_sim).
+    ImportSim,
 }
 
 /// A refusal.
@@ -38,6 +40,8 @@ const SEARCH: &[Call] = &[Call::Search];
 const CHECK_AND_SEARCH: &[Call] = &[Call::Check, Call::Search];
 const READ_AND_SEARCH: &[Call] = &[Call::Read, Call::Search];
 const WRITE: &[Call] = &[Call::Write];
+const OUTPUTS: &[Call] = &[Call::Write, Call::ImportSim];
+const IMPORT_SIM: &[Call] = &[Call::ImportSim];
 
 const ZERO: &str = "0";
 const BLOCK: &str = "the block's first byte";
@@ -115,8 +119,14 @@ pub const TABLE: &[Row] = &[
         "sort the records as unsigned bytes"),
     row(30, WRITE, ZERO, "a count is out of range: 1 to 65535 records in a data block, 2 to 65535 entries in an index block",
         "give counts within these ranges"),
-    row(31, WRITE, ZERO, "the file would be longer than its output, or than 1073741824 bytes (2^30)",
+    row(31, OUTPUTS, ZERO, "the output is too short, or the file would be longer than 1073741824 bytes (2^30)",
         "give a longer output, or put the records into several archives"),
+    row(32, IMPORT_SIM, ZERO, "the dump isn't whole records: its length is no multiple of the name length plus 14, or the name length is above 241",
+        "give the length of the name field, which is the length of a record on the card less 14, and the whole dump"),
+    row(33, IMPORT_SIM, ZERO, "the name of a record isn't formed as one, or isn't followed by FF bytes to the end of its field",
+        "give the right length of the name field, or read the card again"),
+    row(34, IMPORT_SIM, ZERO, "a record states a number of more than 11 bytes",
+        "give the right length of the name field, or read the card again"),
 ];
 
 const fn row(

@@ -1,5 +1,5 @@
 // The C interface: thin exports. Each has the contract of the function that it calls, and beside it what the theorems say of that very call:
-// check, read, search and write are decided by the rules of the format. include/zs.h documents the interface for callers.
+// check, read, search, write and import are decided by the rules of their formats. include/zs.h documents the interface for callers.
 //
 // C can't receive a slice as a result, so zs_record and zs_metadata hand back where the part lies.
 ghost use mathlib.Core.Bool.{true};
@@ -14,17 +14,20 @@ ghost use Rattle.reader.specs.Read.{readOf, readAnswer, readList};
 ghost use Rattle.record.specs.Record.{isWithin, partStart, partLength};
 ghost use Rattle.checker.specs.Check.{checkOf, checkAnswer};
 ghost use Rattle.search.specs.Search.{searchOf, searchAnswer, openedList, resultList};
-ghost use Rattle.writer.specs.Write.{writeOf, writtenAnswer, writtenOutput};
+ghost use Rattle.written.specs.Written.{writtenAnswer, writtenOutput};
+ghost use Rattle.writer.specs.Write.{writeOf};
+ghost use Rattle.sim_import.specs.Import.{importOf};
 ghost use Rattle.theorems_check.specs.CheckedByRules.{CheckedByRules};
 ghost use Rattle.theorems_read.specs.ReadByRules.{ReadByRules};
 ghost use Rattle.theorems_search.specs.SearchedByRules.{SearchedByRules};
 ghost use Rattle.theorems_search.specs.Locality.{SearchedLocally};
 ghost use Rattle.theorems_write.specs.WrittenByRules.{WrittenByRules};
+ghost use Rattle.theorems_import.specs.ImportedByRules.{ImportedByRules};
 use checker::Checked;
 use part::Part;
 use reader::ReadAnswer;
 use search::Found;
-use writer::Written;
+use written::Written;
 
 // Reads the file front to back (`reader::read`).
 #[no_mangle]
@@ -147,4 +150,15 @@ pub extern "C" fn zs_write(
         (length (now (output .entry))) r (now (output .exit)) ⌝ }
 {
     writer::write(metadata, records, per_block, per_index, output)
+}
+
+// Imports a dump of a SIM phonebook (`sim_import::import_sim`).
+#[no_mangle]
+pub extern "C" fn zs_import_sim(dump: &[u8], name_length: u64, output: &mut [u8]) -> Written
+    ensures { λ r. ⌜ r ≡ writtenAnswer (importOf (now (dump .entry)) «name_length» (length (now (output .entry)))) ⌝ }
+    ensures { λ r. ⌜ now (output .exit) ≡ writtenOutput (length (now (output .entry)))
+        (importOf (now (dump .entry)) «name_length» (length (now (output .entry)))) ⌝ }
+    ensures { λ r. ⌜ ImportedByRules (now (dump .entry)) «name_length» (length (now (output .entry))) r (now (output .exit)) ⌝ }
+{
+    sim_import::import_sim(dump, name_length, output)
 }

@@ -1,0 +1,2 @@
+-- The laws of heapsort, for the proofs of this crate.
+mod HeapsortLaws

@@ -1,0 +1,2 @@
+-- The meaning of a record of a SIM phonebook.
+pub mod Adn

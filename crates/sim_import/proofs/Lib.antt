@@ -1,0 +1,6 @@
+-- Laws of importing a SIM phonebook.
+pub mod OccupiedLaws
+pub mod SurveyLaws
+pub mod BytesLaws
+pub mod RecordLaws
+pub mod ImportLaws

@@ -1,0 +1,3 @@
+-- What is claimed of importing.
+pub mod Names
+pub mod ImportedByRules

@@ -1,0 +1,1 @@
+// What importing gives; no code.
