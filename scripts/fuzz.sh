@@ -1,5 +1,5 @@
 #!/usr/bin/env bash
-# Compares the proved library with the second implementation on drawn files, inputs and texts until it is stopped, each time with a fresh seed.
+# Compares the proved library with the second implementation on drawn files, inputs, dumps and texts until it is stopped, each time with a fresh seed.
 # What differs is saved in differences/.
 #   scripts/fuzz.sh [--seed N] [--cases N]
 set -eu

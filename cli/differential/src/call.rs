@@ -1,4 +1,4 @@
-//! A call on a file, of the writer on records, or on a text: which function, with what, and how much room.
+//! A call on a file, of the writer on records, of the import on a dump, or on a text: which function, with what, and how much room.
 
 use zs_reference::reader::Query;
 use zs_reference::writer::Counts;
@@ -44,6 +44,13 @@ pub enum Call {
         metadata: Vec<u8>,
         /// How many records and entries the blocks hold.
         counts: Counts,
+        /// Bytes of the output.
+        output: usize,
+    },
+    /// Importing a SIM phonebook; the bytes that the call is made on are the dump.
+    ImportSim {
+        /// Bytes of a name field.
+        name_length: u64,
         /// Bytes of the output.
         output: usize,
     },
@@ -95,6 +102,12 @@ impl Call {
             } => {
                 let metadata = hex(metadata);
                 format!("call: write\nmetadata: {metadata}\n{counts:?}\nbytes of the output: {output}\n")
+            }
+            Call::ImportSim {
+                name_length,
+                output,
+            } => {
+                format!("call: import_sim\nbytes of a name field: {name_length}\nbytes of the output: {output}\n")
             }
         }
     }

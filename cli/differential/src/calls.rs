@@ -1,10 +1,12 @@
-//! The calls to be made on a file, and those of the writer on an input.
+//! The calls to be made on a file, those of the writer on an input, and those of the import on a dump.
 
 use crate::call::{Call, Room};
+use crate::dumps::Dump;
 use crate::inputs::Input;
 use crate::queries::{narrow_range, query};
 use zs_reference::maker::random::Random;
 use zs_reference::reader::{check, read, search, Checked, Query};
+use zs_reference::sim::import;
 use zs_reference::writer::{whole_record, write, write_by};
 
 /// Room for every answer, unless blocks are named in very many ways. Files with more records get queries that few of them match.
@@ -41,6 +43,34 @@ pub fn draw_writes(random: &mut Random, input: &Input) -> Vec<Asked> {
         Err(_) => {
             ask(random.below(20), Room::Any);
             ask(200 + random.below(800), Room::Any);
+        }
+    }
+    calls
+}
+
+/// Draws all calls of the import on a dump: where it has records, with more bytes than needed, just enough, one less, none, and fewer.
+pub fn draw_imports(random: &mut Random, dump: &Dump) -> Vec<Asked> {
+    let mut calls = Vec::new();
+    let mut ask = |output, room| {
+        let name_length = dump.name_length;
+        let call = Call::ImportSim {
+            name_length,
+            output,
+        };
+        calls.push((call, room));
+    };
+    ask(0, Room::Any);
+    let imported = import(&dump.bytes, dump.name_length, usize::MAX);
+    match imported.map_or(0, |records| records.len()) {
+        0 => {
+            ask(1 + random.below(20), Room::Any);
+            ask(200 + random.below(800), Room::Any);
+        }
+        length => {
+            ask(length + 1 + random.below(99), Room::Plenty);
+            ask(length, Room::Exact);
+            ask(length - 1, Room::FirstShort);
+            ask(random.below(length), Room::Any);
         }
     }
     calls

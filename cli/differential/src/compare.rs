@@ -3,73 +3,13 @@
 use crate::call::Call;
 use crate::frames::{data_payloads, frames, header_end};
 use crate::lent::Lent;
+use crate::outcome::Outcome;
 use zs_library as library;
 use zs_reference::maker::encode;
 use zs_reference::maker::random::Random;
 use zs_reference::reader::{self, Query};
+use zs_reference::sim;
 use zs_reference::writer::{self, whole_record, Counts};
-
-/// So many places of a list are printed one by one.
-const MOST_PRINTED: usize = 3;
-
-/// What a case gave.
-#[derive(Debug, Clone, Default)]
-pub struct Outcome {
-    /// The refusal that is due, or 0. For a record 0 if it lies within the file and 1 if not; for metadata 0 if there are any and 1 if not;
-    /// for a text 0 if it is metadata and 1 if not.
-    pub number: u64,
-    /// How many matches are due.
-    pub matches: u64,
-    /// What differs, one line for each thing.
-    pub differences: Vec<String>,
-}
-
-impl Outcome {
-    fn of(number: u64, matches: u64) -> Self {
-        Outcome {
-            number,
-            matches,
-            differences: Vec::new(),
-        }
-    }
-
-    /// Compares one number.
-    fn compare(&mut self, what: &str, due: u64, given: u64) {
-        if due != given {
-            let line = format!("{what}: due {due}, given {given}");
-            self.differences.push(line);
-        }
-    }
-
-    /// Notes what doesn't hold.
-    fn require(&mut self, holds: bool, otherwise: &str) {
-        if !holds {
-            self.differences.push(otherwise.to_string());
-        }
-    }
-
-    /// Compares every place of a list or an output, and its guards. The first places that differ are printed.
-    fn compare_places<T>(&mut self, what: &str, due: &[T], given: &Lent<T>)
-    where
-        T: Copy + PartialEq + Into<u64>,
-    {
-        self.require(given.guards_hold(), &format!("{what}: written outside"));
-        if due == given.part() {
-            return;
-        }
-        self.compare("places", due.len() as u64, given.part().len() as u64);
-        let places = due.iter().zip(given.part()).enumerate();
-        let unequal: Vec<_> = places.filter(|(_, (due, given))| due != given).collect();
-        for (place, (due, given)) in unequal.iter().take(MOST_PRINTED) {
-            let (due, given) = ((**due).into(), (**given).into());
-            self.compare(&format!("{what}, place {place}"), due, given);
-        }
-        if unequal.len() > MOST_PRINTED {
-            let line = format!("{what}: {} places in all", unequal.len());
-            self.differences.push(line);
-        }
-    }
-}
 
 /// Makes a call on these bytes with both implementations and compares.
 pub fn compare(random: &mut Random, bytes: &[u8], call: &Call) -> Outcome {
@@ -90,6 +30,10 @@ pub fn compare(random: &mut Random, bytes: &[u8], call: &Call) -> Outcome {
             counts,
             output,
         } => write(random, lent.part(), metadata, *counts, *output),
+        Call::ImportSim {
+            name_length,
+            output,
+        } => import_sim(random, lent.part(), *name_length, *output),
     };
     outcome.require(lent.is_unchanged(), "the bytes were changed");
     outcome
@@ -188,8 +132,6 @@ fn write(
     room: usize,
 ) -> Outcome {
     let due = writer::write(metadata, records, due_counts, room);
-    let number = due.as_ref().err().copied().unwrap_or(0);
-    let mut file = due.unwrap_or_default();
     let metadata = Lent::bytes(random, metadata);
     let mut output = Lent::output(random, room);
     let counts = library::Counts {
@@ -197,16 +139,10 @@ fn write(
         per_index: due_counts.per_index,
     };
     let given = library::write(metadata.part(), records, counts, output.part_mut());
-    let mut outcome = Outcome::of(number, 0);
-    outcome.compare("number", number, given.number);
-    outcome.compare("place", 0, given.place);
-    outcome.compare("length", file.len() as u64, given.length);
-    file.resize(room, 0);
-    outcome.compare_places("output", &file, &output);
+    let mut outcome = compare_output(due, given, &output);
     outcome.require(metadata.is_unchanged(), "the metadata were changed");
-    if number == 0 {
-        let written = output.part().get(..given.length as usize);
-        read_back(&mut outcome, written.unwrap_or(&[]), records);
+    if outcome.number == 0 {
+        read_back(&mut outcome, written(given, &output), records);
         let whole = writer::write_by(
             whole_record,
             metadata.part(),
@@ -218,6 +154,52 @@ fn write(
         outcome.require(is_short, "longer than with whole records as keys");
     }
     outcome
+}
+
+fn import_sim(random: &mut Random, dump: &[u8], name_length: u64, room: usize) -> Outcome {
+    let due = sim::import(dump, name_length, room);
+    let mut output = Lent::output(random, room);
+    let given = library::import_sim(dump, name_length, output.part_mut());
+    let mut outcome = compare_output(due, given, &output);
+    let records = written(given, &output);
+    if outcome.number == 0 && !records.is_empty() {
+        write_imported(&mut outcome, records);
+    }
+    outcome
+}
+
+/// Compares an answer and the whole output that it was given with. What is due is the bytes written, or the number of the refusal.
+fn compare_output(
+    due: Result<Vec<u8>, u64>,
+    given: library::Written,
+    output: &Lent<u8>,
+) -> Outcome {
+    let number = due.as_ref().err().copied().unwrap_or(0);
+    let mut bytes = due.unwrap_or_default();
+    let mut outcome = Outcome::of(number, 0);
+    outcome.compare("number", number, given.number);
+    outcome.compare("place", 0, given.place);
+    outcome.compare("length", bytes.len() as u64, given.length);
+    bytes.resize(output.part().len(), 0);
+    outcome.compare_places("output", &bytes, output);
+    outcome
+}
+
+/// The bytes that an answer says were written; none where there aren't so many.
+fn written(given: library::Written, output: &Lent<u8>) -> &[u8] {
+    let bytes = output.part().get(..given.length as usize);
+    bytes.unwrap_or(&[])
+}
+
+/// What holds of records imported, whatever the second import says: the writer takes them, and neither 28 nor 29 is given.
+fn write_imported(outcome: &mut Outcome, records: &[u8]) {
+    let counts = library::Counts {
+        per_block: 65_535,
+        per_index: 2,
+    };
+    let mut output = vec![7; 2 * records.len() + 400];
+    let given = library::write(b"{}", records, counts, &mut output);
+    outcome.compare("writing what is imported", 0, given.number);
 }
 
 /// What holds of a file written, whatever the second writer says: it is accepted, and its records and data payloads are the input.

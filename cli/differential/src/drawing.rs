@@ -1,8 +1,10 @@
 //! Drawings: bytes and the calls on them, from a seed and a number.
 
 use crate::call::{Call, Room};
-use crate::calls::{draw_calls, draw_writes, Asked};
+use crate::calls::{draw_calls, draw_imports, draw_writes, Asked};
 use crate::damage::{damage, repair, Repair};
+use crate::dump_kinds;
+use crate::dumps::draw_dump;
 use crate::faults::{draw_faulty, NUMBERS};
 use crate::hostile::draw_hostile;
 use crate::inputs::draw_input;
@@ -13,14 +15,17 @@ use zs_reference::maker::random::{bend, Random};
 use zs_reference::maker::texts::{change, grow};
 use zs_reference::maker::{edges, Image};
 use zs_reference::reader::{check, number};
+use zs_reference::sim::import;
 use zs_reference::writer::write;
 
 /// Of so many numbers the last one is for the recognisers of metadata.
-const TURNS: u64 = 13;
+const TURNS: u64 = 19;
 /// The first are for the readers.
 const READERS: u64 = 10;
-/// The two between them are for the writers.
+/// The two after them are for the writers.
 const WRITERS: u64 = 2;
+/// Then these are for the imports.
+const IMPORTS: u64 = 6;
 /// Texts of one number.
 const TEXTS: usize = 100;
 /// How deep texts are nested: little mostly, and about as deep as metadata may be.
@@ -29,19 +34,21 @@ const DEPTHS: [usize; 14] = [1, 1, 1, 1, 2, 2, 2, 3, 3, 5, 20, 63, 64, 65];
 /// Bytes and the calls on them.
 #[derive(Debug, Clone)]
 pub struct Drawing {
-    /// The bytes of a file, the records that a writer is given, or a text.
+    /// The bytes of a file, the records that a writer is given, a dump, or a text.
     pub bytes: Vec<u8>,
-    /// The root's level, where the independent reader accepts the file.
+    /// The root's level, where the independent reader accepts the file; 0 for a dump that isn't refused.
     pub accepted: Option<u8>,
     /// The calls.
     pub calls: Vec<Asked>,
     /// What the records of a writer are like where data blocks meet, if they are written.
     pub kinds: Kinds,
+    /// What the records of a dump are like, if it is imported.
+    pub dump_kinds: dump_kinds::Kinds,
     /// Gives the arbitrary bytes and numbers around and in what is lent.
     pub random: Random,
 }
 
-/// Makes the drawings of this number: a file, records and the file written, or texts. The same seed and number give the same ones.
+/// Makes the drawings of this number: a file, records and the file written, a dump, or texts. The same seed and number give the same ones.
 pub fn draw(seed: u64, number: u64) -> Vec<Drawing> {
     let mut random = Random::new(Random::new(seed ^ number.rotate_left(32)).next());
     let (round, turn) = (number / TURNS, number % TURNS);
@@ -49,8 +56,13 @@ pub fn draw(seed: u64, number: u64) -> Vec<Drawing> {
         let (image, file) = draw_file(&mut random, round * READERS + turn);
         return vec![on_file(random, file, &strings_of(&image))];
     }
-    if turn < READERS + WRITERS {
-        return draw_written(random, round * WRITERS + turn - READERS);
+    let turn = turn - READERS;
+    if turn < WRITERS {
+        return draw_written(random, round * WRITERS + turn);
+    }
+    let turn = turn - WRITERS;
+    if turn < IMPORTS {
+        return vec![draw_imported(random, round * IMPORTS + turn)];
     }
     let texts: Vec<Vec<u8>> = (0..TEXTS).map(|_| draw_text(&mut random)).collect();
     on_texts(random, texts).collect()
@@ -68,6 +80,7 @@ fn on_texts(mut random: Random, texts: Vec<Vec<u8>>) -> impl Iterator<Item = Dra
         accepted: None,
         calls: vec![(Call::IsMetadata, Room::Any)],
         kinds: Kinds::default(),
+        dump_kinds: dump_kinds::Kinds::default(),
         random: Random::new(random.next()),
     })
 }
@@ -90,6 +103,7 @@ fn on_file(mut random: Random, file: Vec<u8>, strings: &[Vec<u8>]) -> Drawing {
         bytes: file,
         calls,
         kinds: Kinds::default(),
+        dump_kinds: dump_kinds::Kinds::default(),
         random,
     }
 }
@@ -107,10 +121,25 @@ fn draw_written(mut random: Random, turn: u64) -> Vec<Drawing> {
         accepted: file.as_ref().ok().and_then(|drawing| drawing.accepted),
         calls,
         kinds: file.as_ref().map_or(Kinds::default(), |_| kinds(&input)),
+        dump_kinds: dump_kinds::Kinds::default(),
         bytes: input.records,
         random,
     };
     std::iter::once(records).chain(file).collect()
+}
+
+/// A dump and the calls of the import on it.
+fn draw_imported(mut random: Random, turn: u64) -> Drawing {
+    let dump = draw_dump(&mut random, turn);
+    let imported = import(&dump.bytes, dump.name_length, usize::MAX);
+    Drawing {
+        accepted: imported.ok().map(|_| 0),
+        calls: draw_imports(&mut random, &dump),
+        kinds: Kinds::default(),
+        dump_kinds: dump_kinds::kinds(&dump),
+        bytes: dump.bytes,
+        random,
+    }
 }
 
 /// Draws a file for the readers: by turns a sound one, one with a fault, a bent one, a damaged one, and a hostile one.

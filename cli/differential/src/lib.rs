@@ -1,8 +1,9 @@
-//! Compares the proved library with the independent reader and writer.
+//! Compares the proved library with the independent reader, writer and import.
 //!
 //! A seed and a number give a [`drawing`]: one file and all calls to be made on it; or records, all calls of the writer on them, and the
-//! file written with all calls on that; or a row of texts that may be metadata. Each call is a case. Both implementations answer it,
-//! [`compare`] looks at everything that they gave and at everything that they were lent, [`tally`] counts, and [`run`] saves what differs.
+//! file written with all calls on that; or a dump of a SIM phonebook and all calls of the import on it; or a row of texts that may be
+//! metadata. Each call is a case. Both implementations answer it, [`compare`] looks at everything that they gave and at everything that
+//! they were lent, [`tally`] counts, and [`run`] saves what differs.
 
 #![forbid(unsafe_code)]
 #![warn(missing_docs)]
@@ -12,13 +13,18 @@ pub mod calls;
 pub mod compare;
 pub mod damage;
 pub mod drawing;
+pub mod dump_faults;
+pub mod dump_kinds;
+pub mod dumps;
 pub mod faults;
 pub mod frames;
 pub mod hostile;
 pub mod inputs;
 pub mod keys;
 pub mod lent;
+pub mod outcome;
 pub mod queries;
+mod report;
 pub mod run;
 pub mod shapes;
 pub mod strings;

@@ -5,8 +5,9 @@ use std::io;
 use std::path::PathBuf;
 
 use crate::call::Call;
-use crate::compare::{compare, Outcome};
+use crate::compare::compare;
 use crate::drawing::{draw, list_edges, Drawing};
+use crate::outcome::Outcome;
 use crate::tally::Tally;
 
 /// No more cases than this are saved in one run; more of them say little.
@@ -59,7 +60,7 @@ impl Run {
 
     /// Compares all calls of a drawing.
     fn compare_all(&mut self, name: &str, mut drawing: Drawing) -> io::Result<()> {
-        self.tally.add_kinds(&drawing.kinds);
+        self.tally.add_kinds(&drawing.kinds, &drawing.dump_kinds);
         for (at, (call, room)) in drawing.calls.iter().enumerate() {
             let outcome = compare(&mut drawing.random, &drawing.bytes, call);
             self.tally.add(drawing.accepted, call, *room, &outcome);
@@ -70,7 +71,7 @@ impl Run {
         Ok(())
     }
 
-    /// Saves the file, the records or the text, and the call with what differs; prints the same.
+    /// Saves the file, the records, the dump or the text, and the call with what differs; prints the same.
     fn save(&self, name: &str, bytes: &[u8], call: &Call, outcome: &Outcome) -> io::Result<()> {
         if self.tally.differing > MOST_SAVED {
             return Ok(());
@@ -78,6 +79,7 @@ impl Run {
         let name = format!("{}-{name}", self.seed);
         let stored = match call {
             Call::Write { .. } => format!("{name}.records"),
+            Call::ImportSim { .. } => format!("{name}.adn"),
             Call::IsMetadata => format!("{name}.json"),
             _ => format!("{name}.zs"),
         };

@@ -1,14 +1,15 @@
 //! Counts of cases, and the least that a run of the tests must reach.
 
-use std::fmt;
+use std::collections::BTreeMap;
 
 use crate::call::{Call, Room};
-use crate::compare::Outcome;
-use crate::keys::{self, Kinds};
+use crate::dump_faults::FAR;
+use crate::dump_kinds;
+use crate::dumps::FIELDS;
+use crate::keys;
+use crate::outcome::Outcome;
 use zs_library::refusals;
 
-/// No refusal, and all refusals.
-const NUMBERS: usize = refusals::GREATEST as usize + 1;
 /// The refusal that no drawn file gets: it takes more than 2^30 bytes.
 const TOO_LONG: u64 = 1;
 /// The least count of each number that a call can give.
@@ -19,17 +20,17 @@ const LEAST_DEEP: u64 = 5000;
 const LEAST_TEXTS: u64 = 25_000;
 
 /// The numbers that a call must give: 0, for no refusal, and its refusals.
-fn due_numbers(call: refusals::Call) -> impl Iterator<Item = usize> {
+fn due_numbers(call: refusals::Call) -> impl Iterator<Item = u64> {
     let refusals = refusals::numbers(call).filter(|number| *number != TOO_LONG);
-    std::iter::once(0).chain(refusals.map(|number| number as usize))
+    std::iter::once(0).chain(refusals)
 }
 
 /// Counts of one call.
 #[derive(Debug, Clone, Default)]
 pub struct Column {
     /// Cases by number.
-    pub numbers: [u64; NUMBERS],
-    /// Answers with more room than needed, on accepted files and sound inputs.
+    pub numbers: BTreeMap<u64, u64>,
+    /// Answers with more room than needed, on accepted files, sound inputs and sound dumps.
     pub answered: u64,
     /// Those of them with matches.
     pub matched: u64,
@@ -41,10 +42,17 @@ pub struct Column {
     pub whole_short: u64,
 }
 
+impl Column {
+    /// Cases with this number.
+    pub fn count(&self, number: u64) -> u64 {
+        self.numbers.get(&number).copied().unwrap_or(0)
+    }
+}
+
 /// Counts of a run.
 #[derive(Debug, Clone, Default)]
 pub struct Tally {
-    /// Steps taken: files drawn for the readers, inputs drawn for the writers, and rows of texts.
+    /// Steps taken: files drawn for the readers, inputs drawn for the writers, dumps drawn for the imports, and rows of texts.
     pub steps: u64,
     /// Of the check.
     pub check: Column,
@@ -54,6 +62,8 @@ pub struct Tally {
     pub search: Column,
     /// Of the writer.
     pub write: Column,
+    /// Of the import of SIM phonebooks.
+    pub import: Column,
     /// Records within the file, and others.
     pub records: [u64; 2],
     /// Files with metadata, and others.
@@ -62,6 +72,10 @@ pub struct Tally {
     pub texts: [u64; 2],
     /// Inputs written, by what their records are like where data blocks meet.
     pub kinds: [u64; keys::COUNT],
+    /// Dumps imported, by what their records are like.
+    pub dump_kinds: [u64; dump_kinds::COUNT],
+    /// The lengths of name fields that came up, and how many dumps with records were imported with each.
+    pub name_lengths: BTreeMap<u64, u64>,
     /// Searches of accepted files with two or more levels below the root, one for each query.
     pub deep: u64,
     /// Those of them with matches.
@@ -74,17 +88,23 @@ impl Tally {
     /// Counts one case. The level is the root's, where the file is accepted.
     pub fn add(&mut self, accepted: Option<u8>, call: &Call, room: Room, outcome: &Outcome) {
         self.differing += u64::from(!outcome.differences.is_empty());
-        let number = outcome.number as usize;
+        let number = outcome.number;
+        let parity = (number % 2) as usize;
         let column = match call {
             Call::Check { .. } => &mut self.check,
             Call::Read { .. } => &mut self.read,
             Call::Search { .. } => &mut self.search,
             Call::Write { .. } => &mut self.write,
-            Call::Record { .. } => return self.records[number % 2] += 1,
-            Call::Metadata => return self.metadata[number % 2] += 1,
-            Call::IsMetadata => return self.texts[number % 2] += 1,
+            Call::ImportSim { name_length, .. } => {
+                let imported = self.name_lengths.entry(*name_length).or_default();
+                *imported += u64::from(room == Room::Plenty);
+                &mut self.import
+            }
+            Call::Record { .. } => return self.records[parity] += 1,
+            Call::Metadata => return self.metadata[parity] += 1,
+            Call::IsMetadata => return self.texts[parity] += 1,
         };
-        column.numbers[number % NUMBERS] += 1;
+        *column.numbers.entry(number).or_default() += 1;
         let level = match accepted {
             Some(level) => level,
             None => return,
@@ -106,27 +126,31 @@ impl Tally {
         }
     }
 
-    /// Counts one input of the writers.
-    pub fn add_kinds(&mut self, kinds: &Kinds) {
-        for (count, holds) in self.kinds.iter_mut().zip(kinds) {
+    /// Counts one input of the writers, or one dump.
+    pub fn add_kinds(&mut self, kinds: &keys::Kinds, dump_kinds: &dump_kinds::Kinds) {
+        let counts = self.kinds.iter_mut().chain(&mut self.dump_kinds);
+        for (count, holds) in counts.zip(kinds.iter().chain(dump_kinds)) {
             *count += u64::from(*holds);
         }
     }
 
     /// The calls that can refuse, and their counts.
-    fn columns(&self) -> [(refusals::Call, &Column); 4] {
+    pub fn columns(&self) -> [(refusals::Call, &Column); 5] {
         [
             (refusals::Call::Check, &self.check),
             (refusals::Call::Read, &self.read),
             (refusals::Call::Search, &self.search),
             (refusals::Call::Write, &self.write),
+            (refusals::Call::ImportSim, &self.import),
         ]
     }
 
     /// All cases.
     pub fn cases(&self) -> u64 {
         let columns = self.columns();
-        let counted = columns.iter().flat_map(|(_, column)| &column.numbers);
+        let counted = columns
+            .iter()
+            .flat_map(|(_, column)| column.numbers.values());
         let others = [self.records, self.metadata, self.texts];
         counted.sum::<u64>() + others.iter().flatten().sum::<u64>()
     }
@@ -135,8 +159,9 @@ impl Tally {
     fn rare_numbers(&self) -> Vec<String> {
         let mut rare = Vec::new();
         for (call, column) in self.columns() {
-            let few = due_numbers(call).filter(|n| column.numbers[*n] < LEAST);
-            rare.extend(few.map(|n| format!("{call:?} {n}: {} times", column.numbers[n])));
+            let counts = due_numbers(call).map(|number| (number, column.count(number)));
+            let few = counts.filter(|(_, count)| *count < LEAST);
+            rare.extend(few.map(|(number, count)| format!("{call:?} {number}: {count} times")));
         }
         rare
     }
@@ -144,17 +169,32 @@ impl Tally {
     /// What the run falls short of.
     pub fn shortfalls(&self) -> Vec<String> {
         let mut missing = self.rare_numbers();
-        let kinds = keys::names().zip(self.kinds);
-        let rare = kinds.filter(|(_, count)| *count < LEAST);
+        let borders = keys::names().zip(self.kinds);
+        let rare = borders.filter(|(_, count)| *count < LEAST);
         missing
             .extend(rare.map(|(name, count)| format!("{name} where blocks meet: {count} times")));
+        let dumps = dump_kinds::names().zip(self.dump_kinds);
+        let rare = dumps.filter(|(_, count)| *count < LEAST);
+        missing.extend(rare.map(|(name, count)| format!("dumps with {name}: {count} times")));
+        missing.extend(self.missing_lengths());
         let unmet = self.demands().into_iter().filter(|(met, _)| !met);
         missing.extend(unmet.map(|(_, what)| what.to_string()));
         missing
     }
 
+    /// Lengths of name fields that didn't come up, or with which nothing was imported though they are allowed.
+    fn missing_lengths(&self) -> Option<String> {
+        let (seen, longest) = (&self.name_lengths, FIELDS - 2);
+        let is_missing = |length: &u64| match seen.get(length) {
+            Some(imported) => *length <= longest && *imported == 0,
+            None => true,
+        };
+        let first = (0..FIELDS).chain(FAR).find(is_missing);
+        first.map(|length| format!("name fields of {length} bytes"))
+    }
+
     /// What a run has to reach besides the count of each number, and whether it did.
-    fn demands(&self) -> [(bool, &'static str); 11] {
+    fn demands(&self) -> [(bool, &'static str); 12] {
         [
             (self.records.iter().all(|n| *n >= LEAST), "records"),
             (self.metadata.iter().all(|n| *n >= LEAST), "metadata"),
@@ -177,6 +217,10 @@ impl Tally {
                 "short outputs",
             ),
             (
+                self.import.first_short == self.import.answered,
+                "short outputs of imports",
+            ),
+            (
                 self.write.whole_short >= LEAST,
                 "outputs too short with whole records as keys",
             ),
@@ -189,72 +233,5 @@ impl Tally {
                 "short result lists of reads",
             ),
         ]
-    }
-
-    /// Writes how often each call gave each number.
-    fn write_numbers(&self, out: &mut fmt::Formatter<'_>) -> fmt::Result {
-        writeln!(out, "number    check     read   search    write")?;
-        for number in 0..NUMBERS {
-            let counts = self.columns().map(|(_, column)| column.numbers[number]);
-            if counts.iter().any(|count| *count > 0) {
-                let [check, read, search, write] = counts;
-                writeln!(out, "{number:6} {check:8} {read:8} {search:8} {write:8}")?;
-            }
-        }
-        Ok(())
-    }
-
-    fn write_inputs(&self, out: &mut fmt::Formatter<'_>) -> fmt::Result {
-        writeln!(
-            out,
-            "inputs written: {}, one byte short: {}, too short with whole records as keys: {}",
-            self.write.answered, self.write.first_short, self.write.whole_short
-        )?;
-        writeln!(out, "  where their data blocks meet:")?;
-        for (name, count) in keys::names().zip(self.kinds) {
-            writeln!(out, "    {count:4} have {name}")?;
-        }
-        Ok(())
-    }
-}
-
-impl fmt::Display for Tally {
-    fn fmt(&self, out: &mut fmt::Formatter<'_>) -> fmt::Result {
-        self.write_numbers(out)?;
-        let [within, outside] = self.records;
-        writeln!(out, "record: {within} within the file, {outside} not")?;
-        let [sound, refused] = self.metadata;
-        writeln!(
-            out,
-            "metadata: {sound} files with a sound header, {refused} not"
-        )?;
-        let [metadata, others] = self.texts;
-        writeln!(out, "texts: {metadata} are metadata, {others} not")?;
-        writeln!(
-            out,
-            "accepted files, one for each query: {} searches, {} with matches; {} reads, {} with matches",
-            self.search.answered, self.search.matched, self.read.answered, self.read.matched
-        )?;
-        writeln!(
-            out,
-            "  with two or more levels below the root: {} searches, {} with matches",
-            self.deep, self.deep_matched
-        )?;
-        writeln!(
-            out,
-            "  one place short: {} opened lists, {} + {} result lists, {} work lists",
-            self.search.first_short,
-            self.search.results_short,
-            self.read.results_short,
-            self.check.first_short
-        )?;
-        self.write_inputs(out)?;
-        write!(
-            out,
-            "{} files, inputs and rows of texts, {} cases, {} differ",
-            self.steps,
-            self.cases(),
-            self.differing
-        )
     }
 }

@@ -1,4 +1,5 @@
-//! The proved library answers as the independent reader and writer do, over files, inputs and texts drawn from a fixed seed.
+//! The proved library answers as the independent reader, writer and import do, over files, inputs, dumps and texts drawn from a fixed
+//! seed.
 //! The table of counts is printed; run with `--nocapture` to see it.
 
 use std::path::Path;
@@ -6,8 +7,8 @@ use std::path::Path;
 use zs_differential::run::Run;
 
 const SEED: u64 = 20_261_115;
-/// Files, inputs and rows of texts drawn; a file or an input gets some twenty calls.
-const STEPS: u64 = 7800;
+/// Files, inputs, dumps and rows of texts drawn; a file or an input gets some twenty calls, a dump some four.
+const STEPS: u64 = 11_400;
 const LEAST_CASES: u64 = 20_000;
 
 #[test]

@@ -10,7 +10,7 @@ const CXX: &[&str] = &["-x", "c++", "-std=c++11"];
 const STRICT: &[&str] = &["-Wall", "-Wextra", "-Werror", "-pedantic"];
 const TWO_BLOCKS: &str = "crates/test_archives/data/two-blocks";
 
-/// What `interface.c` prints of the calls on the example with two data blocks, and of writing its records.
+/// What `interface.c` prints of the calls on the example with two data blocks, of writing its records, and of importing a phonebook.
 const CALLS: &str = "\
 check 0 0 3 4
 work 0 0 0 0
@@ -29,6 +29,16 @@ check 0 0 3 4
 read 0 0 3 0
 results 111 2 124 2 127 1
 write 31 0 0 0
+import 0 0 32 0
+names 97 0 98 11
+write 0 0 176 0
+check 0 0 3 2
+import 0 0 32 0
+import 31 0 0 0
+import 32 0 0 0
+import 32 0 0 0
+import 34 0 0 0
+import 33 0 0 0
 null file 3 0 0 0
 work 0 0 0 0
 null file 3 0 0 0
@@ -47,6 +57,9 @@ null metadata 9 0 0 0
 null records 28 0 0 0
 null output 31 0 0 0
 null all 30 0 0 0
+null dump 0 0 0 0
+null output 31 0 0 0
+null all 32 0 0 0
 ";
 
 /// What `lookup.c` prints.

@@ -3,8 +3,8 @@
 use std::path::Path;
 use std::thread;
 
-use zs_library::{check, is_metadata, read, search, write, Counts, Query};
-use zs_reference::maker::{Image, Plan};
+use zs_library::{check, import_sim, is_metadata, read, search, write, Counts, Query};
+use zs_reference::maker::{adn, Image, Plan};
 
 const STACK: usize = 64 << 10;
 const ALL: Query = Query {
@@ -88,9 +88,30 @@ fn two_result_places_for_each_byte_when_reading_anything() {
     }
 }
 
+/// A phonebook of so many records with the longest names that the field takes, in falling order.
+fn full_phonebook(field: usize, records: u8) -> Vec<u8> {
+    let name = |number: u8| adn(&vec![records - number; field], field, [number % 12; 14]);
+    (0..records).flat_map(name).collect()
+}
+
+#[test]
+fn an_output_of_twice_the_dump() {
+    for field in 0..=241 {
+        let dump = full_phonebook(field, 40);
+        let imported = import_sim(&dump, field as u64, &mut vec![7; 2 * dump.len()]);
+        let number = if field + 14 < 128 { 1 } else { 2 };
+        assert_eq!(
+            (imported.number, imported.length),
+            (0, (dump.len() + 40 * number) as u64)
+        );
+    }
+    assert_eq!(import_sim(&[], 0, &mut []).number, 0);
+}
+
 #[test]
 fn a_stack_of_64_kib() {
     let file = deepest_tree();
+    let dump = full_phonebook(241, 100);
     let calls = move || {
         let checked = check(&file, &mut [7; 64]);
         let found = search(&file, &ALL, &mut [7; 64], &mut [7; 2]);
@@ -100,7 +121,9 @@ fn a_stack_of_64_kib() {
             LEAST_COUNTS,
             &mut vec![7; 100 * RECORDS.len()],
         );
+        let imported = import_sim(&dump, 241, &mut vec![7; 2 * dump.len()]);
         assert_eq!([checked.number, found.number, written.number], [0; 3]);
+        assert_eq!(imported.number, 0);
         assert!(!is_metadata(&nested_arrays(100_000)));
         (checked.blocks, found.opened)
     };

@@ -4,9 +4,9 @@
 
 #include "zs.h"
 
-enum { WORK = 4, OPENED = 4, RESULTS = 6, OUTPUT = 160 };
+enum { WORK = 4, OPENED = 4, RESULTS = 6, OUTPUT = 200 };
 
-static uint8_t file[65536], output[OUTPUT];
+static uint8_t file[65536], output[OUTPUT], archive[OUTPUT];
 static size_t length;
 static uint64_t work[WORK], opened[OPENED], results[RESULTS];
 
@@ -109,6 +109,42 @@ static void write_and_read(void)
     call_write(written - 1);
 }
 
+/* Imports a dump of so many bytes into as many as are given, and prints the answer and how many bytes after the records aren't zeros. */
+static zs_written call_import(const uint8_t *dump, size_t dump_len, uint64_t name_length, size_t room)
+{
+    memset(output, 7, sizeof output);
+    zs_written answer = zs_import_sim(dump, dump_len, name_length, output, room);
+    uint64_t behind = 0;
+    for (size_t i = (size_t)answer.length; i < room; i++)
+        behind += output[i] != 0;
+    print_four("import", answer.number, answer.place, answer.length, behind);
+    return answer;
+}
+
+/* A phonebook with the names `b` and `a` and a free record between them: imported, and made an archive that is checked; then refused. */
+static void import_and_check(void)
+{
+    uint8_t dump[3 * 16];
+    memset(dump, 0xff, sizeof dump);
+    dump[0] = 'b';
+    dump[2] = 11;
+    dump[32] = 'a';
+    dump[34] = 0;
+    size_t imported = (size_t)call_import(dump, sizeof dump, 2, OUTPUT).length;
+    print_four("names", output[1], output[2], output[17], output[18]);
+    zs_written written = zs_write((const uint8_t *)"{}", 2, output, imported, 1, 2, archive, OUTPUT);
+    print_written("write", written);
+    print_checked("check", zs_check(archive, (size_t)written.length, work, WORK));
+    call_import(dump, sizeof dump, 2, imported);
+    call_import(dump, sizeof dump, 2, imported - 1);
+    call_import(dump, sizeof dump, 3, OUTPUT);
+    call_import(dump, sizeof dump, 242, OUTPUT);
+    dump[34] = 12;
+    call_import(dump, sizeof dump, 2, OUTPUT);
+    dump[33] = 0x80;
+    call_import(dump, sizeof dump, 2, OUTPUT);
+}
+
 /* Every pointer is NULL once. */
 static void call_with_null(void)
 {
@@ -133,6 +169,10 @@ static void call_with_null(void)
     print_written("null records", zs_write((const uint8_t *)"{}", 2, NULL, 0, 1, 2, output, OUTPUT));
     print_written("null output", zs_write((const uint8_t *)"{}", 2, (const uint8_t *)"", 1, 1, 2, NULL, 0));
     print_written("null all", zs_write(NULL, 0, NULL, 0, 0, 2, NULL, 0));
+
+    print_written("null dump", zs_import_sim(NULL, 0, 241, output, OUTPUT));
+    print_written("null output", zs_import_sim((const uint8_t *)"\013 91234567890 ", 14, 0, NULL, 0));
+    print_written("null all", zs_import_sim(NULL, 0, 242, NULL, 0));
 }
 
 /* Version, and the refusals of a file without its last byte and of a short list by their names. */
@@ -143,7 +183,7 @@ static void print_words(void)
     zs_checked full = zs_check(file, length, work, 1);
     enum zs_refusal named = ZS_WORK_LIST_SHORT;
     printf("names %d %d\n", cut.number == ZS_FILE_LENGTH, full.number == (uint64_t)named);
-    for (uint64_t number = ZS_OK; number <= ZS_OUTPUT_SHORT + 1; number++)
+    for (uint64_t number = ZS_OK; number <= ZS_BAD_NUMBER_LENGTH + 1; number++)
         printf("message %llu %s\n", (unsigned long long)number, zs_message(number));
 }
 
@@ -156,6 +196,7 @@ int main(int count, char **words)
     fclose(stored);
     call_all();
     write_and_read();
+    import_and_check();
     call_with_null();
     print_words();
     return 0;

@@ -1,6 +1,7 @@
-//! Refusals 1 and 31 at the limit of length: 1 over sparse files that are mapped and never written, 31 over outputs that are longer.
+//! Refusals 1 and 31 at the limit of length: 1 over sparse files that are mapped and never written, 31 over outputs that are longer. The
+//! import has no such limit.
 use std::fs::OpenOptions;
-use zs_library::{check, map, read, search, write, Counts, Query};
+use zs_library::{check, import_sim, map, read, search, write, Counts, Query};
 
 const LONGEST: u64 = 1 << 30;
 
@@ -92,4 +93,17 @@ fn the_longest_file_is_written() {
     let written = write(b"{}", &input_for(LONGEST), COUNTS, short);
     assert_eq!((written.number, written.length), (31, 0));
     assert!(is_zeros(short));
+}
+
+/// Equal records with the longest names, of which ours take 257 bytes each.
+#[test]
+#[ignore = "more than 2 GiB of memory"]
+fn more_than_the_longest_file_is_imported() {
+    let count = LONGEST as usize / 257 + 1;
+    let record = [&[b'n'; 241][..], &[0; 14]].concat();
+    let mut output = vec![7; 257 * count];
+    let imported = import_sim(&record.repeat(count), 241, &mut output);
+    assert_eq!((imported.number, imported.length), (0, 257 * count as u64));
+    let due = [&[0xff, 0x01], &record[..]].concat();
+    assert!(output.chunks(257).all(|record| record == due));
 }

@@ -71,11 +71,12 @@ fn zs_h_has_a_name_and_the_sentence_for_each_number() {
 fn readme_says_which_call_gives_which_numbers() {
     let words = |call| in_words(&numbers(call).collect::<Vec<_>>());
     let due = format!(
-        "The check gives {}, reading front to back {}, the search {}, writing {}.",
+        "The check gives {}, reading front to back {}, the search {}, writing {}, importing a SIM phonebook {}.",
         words(Call::Check),
         words(Call::Read),
         words(Call::Search),
-        words(Call::Write)
+        words(Call::Write),
+        words(Call::ImportSim)
     );
     assert!(refusals_section().contains(&due), "{due}");
 }

@@ -1,13 +1,14 @@
-//! A second, independent reader and writer of ZS files.
+//! A second, independent reader and writer of ZS files, and importer of SIM phonebooks.
 //!
 //! It judges another implementation and shares no code with it; docs/DECISIONS.md says more. What it does, and the numbers of
 //! refusals, are those of docs/FORMAT.md.
 //!
 //! * [`reader`] checks, reads and searches files, and hands back records.
 //! * [`writer`] writes files from metadata and records.
+//! * [`sim`] imports SIM phonebooks: records for the writer.
 //! * [`maker`] builds files: sound ones, unusual ones and damaged ones.
 //! * [`corpus`] names a fixed set of files and cases with the answers due.
-//! * [`samples`] makes the archives of fictitious contacts that `make demo` shows.
+//! * [`samples`] makes the archives and the phonebook of fictitious contacts that `make demo` shows.
 
 #![forbid(unsafe_code)]
 #![warn(missing_docs)]
@@ -18,4 +19,5 @@ mod json;
 pub mod maker;
 pub mod reader;
 pub mod samples;
+pub mod sim;
 pub mod writer;

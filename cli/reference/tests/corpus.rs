@@ -5,6 +5,7 @@ use std::collections::{BTreeMap, BTreeSet};
 use crate::support::tree::faults;
 use zs_reference::corpus::{published_file, Call, Case, Claim, Corpus, File, ALL_CALLS};
 use zs_reference::reader::check;
+use zs_reference::sim::import;
 use zs_reference::writer::{write, Counts};
 
 /// Whether what a file's maker says of it is so.
@@ -20,6 +21,10 @@ fn holds(file: &File) -> bool {
         }
         Claim::Nothing => (answer.0 == 0) == faults.is_empty(),
         Claim::Records(number) => number_of(&file.bytes) == number,
+        Claim::Dump(name_length, number) => {
+            let imported = import(&file.bytes, name_length, usize::MAX);
+            imported.err().unwrap_or(0) == number
+        }
     }
 }
 
@@ -55,7 +60,7 @@ fn each_refusal_has_two_files() {
             Claim::Only(number, _) => *times.entry(number).or_default() += 1,
             Claim::First(number @ (21 | 23), _) => *times.entry(number).or_default() += 1,
             Claim::First(_, _) => several += 1,
-            Claim::Sound | Claim::Nothing | Claim::Records(_) => {}
+            Claim::Sound | Claim::Nothing | Claim::Records(_) | Claim::Dump(..) => {}
         }
     }
     for number in (2..=17).chain(19..=25) {
@@ -66,12 +71,17 @@ fn each_refusal_has_two_files() {
 }
 
 #[test]
-fn each_refusal_of_the_writer_has_two_cases() {
-    let lines = Corpus::whole().with_calls(&[Call::Write]).lines();
-    for number in [0, 9, 28, 29, 30, 31] {
-        let given = format!(": number {number} ");
-        let cases = lines.lines().filter(|line| line.contains(&given)).count();
-        assert!(cases >= 2, "{number} has {cases} cases");
+fn each_refusal_of_writer_and_import_has_two_cases() {
+    for (call, numbers) in [
+        (Call::Write, &[0, 9, 28, 29, 30, 31][..]),
+        (Call::ImportSim, &[0, 31, 32, 33, 34]),
+    ] {
+        let lines = Corpus::whole().with_calls(&[call]).lines();
+        for number in numbers {
+            let given = format!(": number {number} ");
+            let cases = lines.lines().filter(|line| line.contains(&given)).count();
+            assert!(cases >= 2, "{number} has {cases} cases");
+        }
     }
 }
 
@@ -234,4 +244,17 @@ fn lines_of_writes_have_their_form() {
     let due = "write-smallest write 7b7d 1 2 129: number 31 place 0 length 0 \
                output 2c80619d7e7c58257293cda3a878c13e5856f4e06f6f90601276f7b9179c9e07";
     assert_eq!(line(129), due);
+}
+
+/// The hashes are those of the record after its length with one zero after it, and of 15 zeros.
+#[test]
+fn lines_of_imports_have_their_form() {
+    let dump = b"A\xff\x01\x81\x02\x03\x04\x05\x06\x07\x08\x09\x0a\x0b\x0c\x0d";
+    let line = |output| Case::import("import-one", 2, output).line(dump);
+    let due = "import-one import_sim 2 17: number 0 place 0 length 16 \
+               output 61d637cad13d137ba18ddb22e911f7b733ddf0d215403e2975dedfabb6029594";
+    assert_eq!(line(17), due);
+    let due = "import-one import_sim 2 15: number 31 place 0 length 0 \
+               output 5322fecfc92a5e3248a297a3df3eddfb9bd9049504272e4f572b87fa36d4b3bd";
+    assert_eq!(line(15), due);
 }

@@ -6,5 +6,7 @@ mod examples;
 mod json;
 mod opening;
 mod samples;
+mod sim;
+mod sim_drawn;
 mod support;
 mod writer;

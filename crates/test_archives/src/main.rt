@@ -1,9 +1,10 @@
-// Runs the stored cases: for each case of the files `cases`, `more-cases` and `write-cases` a call on the file that it names, and a line
-// with the answer.
+// Runs the stored cases: for each case of the files `cases`, `more-cases`, `write-cases` and `import-cases` a call on the file that it
+// names, and a line with the answer.
 ghost use Rattle.io.specs.Counts.{Counts};
 
 mod cases;
 mod check;
+mod import_sim;
 mod index_search;
 mod lists;
 mod print;
@@ -36,6 +37,7 @@ fn answer(file: &[u8], stored: &[u8], case: Case) {
         3 => index_search::run(file, stored, case),
         4 => record_part::run(file, case),
         5 => write::run(file, stored, case),
+        6 => import_sim::run(file, case),
         _ => print::number(b" unknown call ", call as u64),
     }
     print::text(b"\n");
@@ -90,4 +92,5 @@ fn main() {
     run_file(b"cases");
     run_file(b"more-cases");
     run_file(b"write-cases");
+    run_file(b"import-cases");
 }

@@ -1,8 +1,8 @@
-//! `make-archives DIR [read] [check] [search] [record] [write]`
+//! `make-archives DIR [read] [check] [search] [record] [write] [import_sim]`
 //!
-//! Writes the corpus: `DIR/data/*` are the files, `DIR/data/cases`, `DIR/data/more-cases` and
-//! `DIR/data/write-cases` the cases of the calls named (all five if none is), and `DIR/stdout` the
-//! lines due. The same calls always give the same bytes.
+//! Writes the corpus: `DIR/data/*` are the files, `DIR/data/cases`, `DIR/data/more-cases`,
+//! `DIR/data/write-cases` and `DIR/data/import-cases` the cases of the calls named (all six if none
+//! is), and `DIR/stdout` the lines due. The same calls always give the same bytes.
 
 use std::error::Error;
 use std::fs;
@@ -11,7 +11,8 @@ use std::process::ExitCode;
 
 use zs_reference::corpus::{Call, Corpus, ALL_CALLS};
 
-const USAGE: &str = "usage: make-archives DIR [read] [check] [search] [record] [write]";
+const USAGE: &str =
+    "usage: make-archives DIR [read] [check] [search] [record] [write] [import_sim]";
 
 fn main() -> ExitCode {
     let arguments: Vec<String> = std::env::args().skip(1).collect();

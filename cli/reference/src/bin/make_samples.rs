@@ -1,4 +1,4 @@
-//! `make-samples DIR` writes the sample archives of fictitious contacts, the same bytes each time.
+//! `make-samples DIR` writes the samples of fictitious contacts, the same bytes each time.
 
 use std::path::Path;
 use std::process::ExitCode;

@@ -1,9 +1,9 @@
 //! Adding files and cases to the corpus.
 
-use super::case::{Call, Case};
-use super::{Claim, Corpus, File, MOST_PLACES};
+use super::{Call, Case, Claim, Corpus, File, MOST_PLACES};
 use crate::maker::{Image, Tree};
 use crate::reader::{check, read, search, Query};
+use crate::sim::import;
 use crate::writer::{write, Counts};
 
 /// Places given where a refusal is due, unless it takes more of them to come to it.
@@ -191,6 +191,27 @@ impl Corpus {
             for output in [length, length - 1, longer] {
                 self.write(name, b"{}", counts, output);
             }
+        }
+    }
+
+    /// Imports with so many bytes of output.
+    pub fn import(&mut self, name: &str, name_length: u64, output: u16) {
+        self.cases.push(Case::import(name, name_length, output));
+    }
+
+    /// Imports a dump with just enough bytes of output, one less, some more, and none. Where it is refused or has no records, with some
+    /// and with none.
+    pub fn ask_import(&mut self, name: &str, name_length: u64) {
+        let most = usize::from(u16::MAX) - 3;
+        let more = 1 + self.spare_places() as u16;
+        let imported = import(&self.bytes_of(name), name_length, most);
+        let outputs = match imported.map(|records| records.len() as u16) {
+            Ok(0) => vec![0, more],
+            Ok(length) => vec![length, length - 1, length + more, 0],
+            Err(_) => vec![200 + more, 0],
+        };
+        for output in outputs {
+            self.import(name, name_length, output);
         }
     }
 

@@ -1,58 +1,13 @@
 //! One case: a call on a named file, how it is stored, and the line due.
 
+use super::call::Call;
 use crate::checksums::sha256;
 use crate::reader::{check, read, record, search, within, Query};
+use crate::sim::import;
 use crate::writer::{write, Counts};
 
-/// Which function a case calls.
-#[derive(Debug, Clone, Copy, PartialEq, Eq)]
-pub enum Call {
-    /// Reading front to back.
-    Read,
-    /// The check.
-    Check,
-    /// The search.
-    Search,
-    /// Handing back a record.
-    Record,
-    /// Writing the records that the file holds.
-    Write,
-}
-
-/// Every call, in the order of their numbers.
-pub const ALL_CALLS: [Call; 5] = [
-    Call::Read,
-    Call::Check,
-    Call::Search,
-    Call::Record,
-    Call::Write,
-];
-
-impl Call {
-    /// The number that stands for the call in a stored case.
-    pub fn number(self) -> u8 {
-        match self {
-            Call::Read => 1,
-            Call::Check => 2,
-            Call::Search => 3,
-            Call::Record => 4,
-            Call::Write => 5,
-        }
-    }
-
-    /// The word that stands for the call in a line and on the command line.
-    pub fn word(self) -> &'static str {
-        match self {
-            Call::Read => "read",
-            Call::Check => "check",
-            Call::Search => "search",
-            Call::Record => "record",
-            Call::Write => "write",
-        }
-    }
-}
-
-/// A case. What its call doesn't use is zero or empty. A write has some of the fields for its own, as [`Case::write`] says.
+/// A case. What its call doesn't use is zero or empty. A write and an import have some of the fields for their own, as [`Case::write`] and
+/// [`Case::import`] say.
 #[derive(Debug, Clone, PartialEq, Eq)]
 pub struct Case {
     /// Name of the file.
@@ -105,6 +60,14 @@ impl Case {
         case
     }
 
+    /// An import. Its name length stands for the offset, and the bytes of its output for the places of the result list.
+    pub fn import(name: &str, name_length: u64, output: u16) -> Self {
+        let mut case = Case::new(name, Call::ImportSim);
+        case.result_places = output;
+        case.offset = name_length;
+        case
+    }
+
     /// The same case under a query.
     pub fn with_query(mut self, query: &Query) -> Self {
         self.start = query.start.clone();
@@ -147,6 +110,7 @@ impl Case {
             Call::Search => self.search_line(file),
             Call::Record => self.record_line(file),
             Call::Write => self.write_line(self.written(file)),
+            Call::ImportSim => self.import_line(file),
         };
         self.line_with(&answer)
     }
@@ -231,18 +195,30 @@ impl Case {
     }
 
     fn write_line(&self, answer: Result<Vec<u8>, u64>) -> String {
+        format!(
+            "{} {} {} {}",
+            hex(&self.start),
+            self.offset,
+            self.length,
+            self.output_words(answer)
+        )
+    }
+
+    fn import_line(&self, dump: &[u8]) -> String {
+        let room = usize::from(self.result_places);
+        let answer = import(dump, self.offset, room);
+        format!("{} {}", self.offset, self.output_words(answer))
+    }
+
+    /// The bytes of the output, and the answer of a call that fills one.
+    fn output_words(&self, answer: Result<Vec<u8>, u64>) -> String {
         let room = usize::from(self.result_places);
         let number = answer.as_ref().err().copied().unwrap_or(0);
         let mut output = answer.unwrap_or_default();
         let length = output.len();
         output.resize(room, 0);
-        format!(
-            "{} {} {} {room}: number {number} place 0 length {length} output {}",
-            hex(&self.start),
-            self.offset,
-            self.length,
-            hex(&sha256([&output[..]])),
-        )
+        let hash = hex(&sha256([&output[..]]));
+        format!("{room}: number {number} place 0 length {length} output {hash}")
     }
 
     /// Start, stop and prefix as a line shows them.

@@ -1,16 +1,18 @@
 //! The stored corpus: named files, cases to run on them, and the lines due.
 //!
 //! Each file carries a claim of its maker, so that the tests can compare what the
-//! maker meant with what the reader says. Lines come from the reader and the writer alone, but for
-//! writes whose file docs/FORMAT.md has: those come from that page.
+//! maker meant with what the reader says. Lines come from the reader, the writer and the import alone,
+//! but for writes whose file docs/FORMAT.md has: those come from that page.
 
 mod build;
+mod call;
 mod case;
 mod drawn;
 mod examples;
 mod framing_faults;
 mod header_faults;
 mod hostile;
+mod imported;
 mod metadata;
 mod naming_faults;
 mod order_faults;
@@ -20,7 +22,8 @@ mod sound;
 mod two_faults;
 mod written;
 
-pub use case::{Call, Case, ALL_CALLS};
+pub use call::{Call, ALL_CALLS};
+pub use case::Case;
 pub use written::published_file;
 
 use std::collections::HashMap;
@@ -38,6 +41,8 @@ const CASES: &str = "cases";
 const MORE_CASES: &str = "more-cases";
 /// The file that holds those of the writer.
 const WRITE_CASES: &str = "write-cases";
+/// The file that holds those of the import.
+const IMPORT_CASES: &str = "import-cases";
 
 /// What the maker of a file says that the check must answer, given room.
 #[derive(Debug, Clone, Copy, PartialEq, Eq)]
@@ -52,6 +57,8 @@ pub enum Claim {
     Nothing,
     /// Records for the writer. With sound metadata and counts, and with room, it gives this number.
     Records(u64),
+    /// A dump for the import. With name fields of this length, and with room, it gives this number.
+    Dump(u64, u64),
 }
 
 /// A named file of the corpus.
@@ -90,6 +97,7 @@ impl Corpus {
         hostile::add(&mut corpus);
         drawn::add(&mut corpus);
         written::add(&mut corpus);
+        imported::add(&mut corpus);
         corpus.gather();
         corpus
     }
@@ -114,18 +122,25 @@ impl Corpus {
     }
 
     /// The files with the cases, by name, in the order in which they are run.
-    pub fn case_files(&self) -> [(&'static str, Vec<u8>); 3] {
-        let (mut cases, mut more, mut writes) = (Vec::new(), Vec::new(), Vec::new());
+    pub fn case_files(&self) -> [(&'static str, Vec<u8>); 4] {
+        let (mut cases, mut more) = (Vec::new(), Vec::new());
+        let (mut writes, mut imports) = (Vec::new(), Vec::new());
         for case in &self.cases {
             let encoded = case.encode();
             let fits = more.is_empty() && cases.len() + encoded.len() <= LONGEST_DATA;
             match case.call {
                 Call::Write => writes.extend(encoded),
+                Call::ImportSim => imports.extend(encoded),
                 _ if fits => cases.extend(encoded),
                 _ => more.extend(encoded),
             }
         }
-        [(CASES, cases), (MORE_CASES, more), (WRITE_CASES, writes)]
+        [
+            (CASES, cases),
+            (MORE_CASES, more),
+            (WRITE_CASES, writes),
+            (IMPORT_CASES, imports),
+        ]
     }
 
     /// The output due, one line for each case.
@@ -159,7 +174,7 @@ impl Corpus {
         if let Some(file) = self.files.iter().find(|file| !is_good_name(&file.name)) {
             return Some(format!("{} is no good name", file.name));
         }
-        let mut lists = self.cases.iter().filter(|case| case.call != Call::Write);
+        let mut lists = self.cases.iter().filter(|case| !case.call.has_output());
         let wide = |case: &&Case| case.result_places.max(case.other_places) > MOST_PLACES;
         if let Some(case) = lists.find(wide) {
             return Some(format!("a case of {} has too many places", case.name));
@@ -173,6 +188,6 @@ impl Corpus {
 /// Whether a name may stand in a case.
 fn is_good_name(name: &str) -> bool {
     let good = |byte: u8| matches!(byte, b'a'..=b'z' | b'0'..=b'9' | b'_' | b'-');
-    let taken = [CASES, MORE_CASES, WRITE_CASES].contains(&name);
+    let taken = [CASES, MORE_CASES, WRITE_CASES, IMPORT_CASES].contains(&name);
     (1..=LONGEST_NAME).contains(&name.len()) && !taken && name.bytes().all(good)
 }

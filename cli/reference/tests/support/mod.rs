@@ -4,6 +4,7 @@
 //! which refusals apply to a file at all, so that tests can tell a single fault from several.
 
 pub mod json;
+pub mod sim;
 pub mod tree;
 
 use std::collections::BTreeSet;

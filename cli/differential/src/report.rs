@@ -1,0 +1,92 @@
+//! The counts of a run as a table and in words.
+
+use std::fmt;
+
+use crate::dump_kinds;
+use crate::keys;
+use crate::tally::Tally;
+use zs_library::refusals::GREATEST;
+
+impl Tally {
+    /// Writes how often each call gave each number.
+    fn write_numbers(&self, out: &mut fmt::Formatter<'_>) -> fmt::Result {
+        writeln!(out, "number    check     read   search    write   import")?;
+        for number in 0..=GREATEST {
+            let counts = self.columns().map(|(_, column)| column.count(number));
+            if counts.iter().any(|count| *count > 0) {
+                let counts = counts.map(|count| format!(" {count:8}"));
+                writeln!(out, "{number:6}{}", counts.concat())?;
+            }
+        }
+        Ok(())
+    }
+
+    fn write_inputs(&self, out: &mut fmt::Formatter<'_>) -> fmt::Result {
+        writeln!(
+            out,
+            "inputs written: {}, one byte short: {}, too short with whole records as keys: {}",
+            self.write.answered, self.write.first_short, self.write.whole_short
+        )?;
+        writeln!(out, "  where their data blocks meet:")?;
+        for (name, count) in keys::names().zip(self.kinds) {
+            writeln!(out, "    {count:4} have {name}")?;
+        }
+        Ok(())
+    }
+
+    fn write_dumps(&self, out: &mut fmt::Formatter<'_>) -> fmt::Result {
+        writeln!(
+            out,
+            "dumps imported: {}, one byte short: {}; name fields of {} lengths",
+            self.import.answered,
+            self.import.first_short,
+            self.name_lengths.len()
+        )?;
+        for (name, count) in dump_kinds::names().zip(self.dump_kinds) {
+            writeln!(out, "    {count:4} have {name}")?;
+        }
+        Ok(())
+    }
+}
+
+impl fmt::Display for Tally {
+    fn fmt(&self, out: &mut fmt::Formatter<'_>) -> fmt::Result {
+        self.write_numbers(out)?;
+        let [within, outside] = self.records;
+        writeln!(out, "record: {within} within the file, {outside} not")?;
+        let [sound, refused] = self.metadata;
+        writeln!(
+            out,
+            "metadata: {sound} files with a sound header, {refused} not"
+        )?;
+        let [metadata, others] = self.texts;
+        writeln!(out, "texts: {metadata} are metadata, {others} not")?;
+        writeln!(
+            out,
+            "accepted files, one for each query: {} searches, {} with matches; {} reads, {} with matches",
+            self.search.answered, self.search.matched, self.read.answered, self.read.matched
+        )?;
+        writeln!(
+            out,
+            "  with two or more levels below the root: {} searches, {} with matches",
+            self.deep, self.deep_matched
+        )?;
+        writeln!(
+            out,
+            "  one place short: {} opened lists, {} + {} result lists, {} work lists",
+            self.search.first_short,
+            self.search.results_short,
+            self.read.results_short,
+            self.check.first_short
+        )?;
+        self.write_inputs(out)?;
+        self.write_dumps(out)?;
+        write!(
+            out,
+            "{} files, inputs, dumps and rows of texts, {} cases, {} differ",
+            self.steps,
+            self.cases(),
+            self.differing
+        )
+    }
+}
