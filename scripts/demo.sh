@@ -15,9 +15,9 @@ fi
 echo "Building the command zs over it."
 (cd cli && cargo build --offline --release --quiet --bin zs)
 
-# From here on the commands are those that a person would type beside a list of names and a copy of samples/contacts.zs.
+# From here on the commands are those that a person would type beside a list of names and copies of two samples.
 PATH="$PWD/cli/target/release:$PATH"
-cp samples/contacts.zs "$made"
+cp samples/contacts.zs samples/sim-phonebook.adn "$made"
 cd "$made"
 printf '%s\t%s\n' 'Ned Unreal' 201-555-0152 'Ada Blank' 412-555-0193 'Greta Mockley' 808-555-0136 'Pia Invented' 305-555-0120 \
     'Bram Sample' 503-555-0132 'Greta Mockley' 201-555-0191 'Cleo Fiction' 617-555-0118 >names.txt
@@ -47,6 +47,17 @@ show 0 "The search has opened only what it had to." \
     "zs explain names.zs --prefix 'Greta '"
 show 2 "A file that is there already is kept, unless --force is given." \
     "zs make '{}' names.txt names.zs --sort"
+
+show 0 "The phonebook of a SIM card: 20 records of 28 bytes, 14 of them for the name. Four are free, the others make an archive." \
+    "zs import sim sim-phonebook.adn card.zs --name-length 14 --metadata '{\"about\": \"my card\"}'"
+show 0 "A record that is on the card three times is kept three times." \
+    "zs dump card.zs --prefix 'Echo Repeated' --count"
+show 0 "In names of the codings 80, 81 and 82 the byte FF is a letter, or part of one, and ends nothing. They are kept whole .." \
+    "zs dump card.zs --start '\x80' | od -An -t x1z"
+show 0 ".. and found by it." \
+    "zs dump card.zs --prefix '\x81\x05\x01Lo\xffse' --count"
+show 1 "With another length the records aren't what they seem. The first one at fault is named, and no archive is made." \
+    "zs import sim sim-phonebook.adn more.zs --name-length 26 --metadata '{}'"
 
 show 0 "A sample of 1500 contacts. The file is checked against every rule of the format: checksums, order, index, and the hash of its data." \
     "zs validate contacts.zs"

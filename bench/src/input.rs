@@ -14,9 +14,9 @@ pub struct Input {
 
 impl Input {
     /// The input of these records.
-    pub fn new(records: &[Vec<u8>]) -> Self {
+    pub fn new<R: AsRef<[u8]>>(records: &[R]) -> Self {
         let mut bytes = Vec::new();
-        for record in records {
+        for record in records.iter().map(AsRef::as_ref) {
             bytes.extend(encode(record.len() as u64));
             bytes.extend(record);
         }

@@ -39,8 +39,13 @@ pub fn records(count: usize) -> Vec<Vec<u8>> {
     records
 }
 
+/// A name that others have too.
+pub fn draw_name(random: &mut Random) -> String {
+    format!("{} {}", random.pick(&GIVEN), random.pick(&FAMILY))
+}
+
 fn record(random: &mut Random, number: usize) -> Vec<u8> {
-    let name = format!("{} {}", random.pick(&GIVEN), random.pick(&FAMILY));
+    let name = draw_name(random);
     let telephone = format!("555-01{:02}", random.below(100));
     let address = format!("{} {}", 1 + random.below(999), random.pick(&STREETS));
     let code = random.below(1_000_000);
@@ -51,7 +56,7 @@ fn record(random: &mut Random, number: usize) -> Vec<u8> {
 pub fn notes(count: usize, head: &str) -> Vec<Vec<u8>> {
     let mut random = Random::new(2011);
     let note = |number| {
-        let name = format!("{} {}", random.pick(&GIVEN), random.pick(&FAMILY));
+        let name = draw_name(&mut random);
         let text = text(&mut random);
         format!("{head}{name} {number:07}\t{text}").into_bytes()
     };
@@ -72,9 +77,12 @@ fn text(random: &mut Random) -> String {
 }
 
 /// The records as lines.
-pub fn lines(records: &[Vec<u8>]) -> Vec<u8> {
-    let mut lines = records.join(&b'\n');
-    lines.push(b'\n');
+pub fn lines<R: AsRef<[u8]>>(records: &[R]) -> Vec<u8> {
+    let mut lines = Vec::new();
+    for record in records {
+        lines.extend(record.as_ref());
+        lines.push(b'\n');
+    }
     lines
 }
 

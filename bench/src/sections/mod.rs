@@ -7,6 +7,7 @@ pub mod crc_lengths;
 pub mod earlier_build;
 pub mod earlier_library;
 pub mod growth;
+pub mod importing;
 pub mod keys;
 pub mod lookups;
 pub mod metadata;

@@ -1,4 +1,4 @@
-//! What a person can ask for, and the help for it.
+//! What a person can ask for.
 
 use std::ffi::OsString;
 use std::path::PathBuf;
@@ -8,80 +8,13 @@ use clap::{Args, Parser, Subcommand, ValueEnum};
 use zs_library::Query;
 
 use crate::escapes::{resolve, Bytes};
+use crate::help::{
+    ABOUT, DUMP_EXAMPLES, EXAMPLES, EXPLAIN_EXAMPLES, IMPORT_EXAMPLES, INFO_EXAMPLES,
+    MAKE_EXAMPLES, MAKE_INPUTS, OUT, SIM_EXAMPLES, SIM_INPUTS, STATUS, VALIDATE_EXAMPLES,
+};
+use crate::import::{LONGEST_NAME, NUMBER_BYTES};
 use crate::records::Form;
 use crate::writing::{BLOCK_BYTES, ENTRIES_PER_BLOCK, MOST_PER_BLOCK};
-
-const ABOUT: &str = "Makes, checks, reads and searches ZS archives (version 0.10, codec none), by a library that is proved.";
-
-const STATUS: &str = "Exit status: 0 answered, 1 refused, 2 usage or input/output.
-A refusal has a number, a place (the first byte of the block meant, if one is) and a sentence.";
-
-const EXAMPLES: &str = "Examples:
-  zs make '{\"about\": \"contacts\"}' contacts.txt contacts.zs --sort
-  zs validate contacts.zs
-  zs dump contacts.zs --prefix 'Ada '
-  zs info contacts.zs
-  zs explain contacts.zs --prefix 'Ada '
-
-Exit status: 0 answered, 1 refused, 2 usage or input/output.
-'zs COMMAND --help' says more about each command.";
-
-const MAKE_EXAMPLES: &str = "METADATA is one JSON object in UTF-8, in which objects and arrays are nested at most 64 deep. It is
-stored as it is given, without white space around it. Nothing is added, so that the same input
-always makes the same archive.
-
-By default each line of INPUT is a record, without its line end. A last record that nothing follows
-is one, too. T takes the escapes \\t \\n \\r \\\\ and \\x00 to \\xff. Equal records are all kept. INPUT is
-read into memory.
-
-OUT appears once it is whole, and not at all after a refusal. A file that is there already is kept,
-unless --force is given.
-
-Examples:
-  zs make '{\"about\": \"names\"}' names.txt names.zs        lines that are sorted by their bytes
-  zs make '{}' names.txt names.zs --sort                 lines in any order
-  zs make '{}' names.txt names.zs --terminator '\\r\\n'    lines as Windows has them
-  zs make @about.json records out.zs --length-prefixed u64le
-  LC_ALL=C sort names.txt | zs make '{}' - names.zs
-  zs dump old.zs --length-prefixed uleb128 |
-    zs make \"$(zs info -m old.zs)\" - new.zs --length-prefixed uleb128 --records-per-block 50";
-
-const VALIDATE_EXAMPLES: &str = "Examples:
-  zs validate contacts.zs
-  zs validate *.zs                 one line for each file, also after a refused one
-  gunzip -c contacts.zs.gz | zs validate -";
-
-const DUMP_EXAMPLES: &str = "S, P and T take the escapes \\t \\n \\r \\\\ and \\x00 to \\xff, and may begin with a dash. Bytes are compared
-as unsigned numbers.
-
-By default a record is followed by a line end. A record that contains the terminator makes the
-output ambiguous: binary records need --length-prefixed.
-
-Examples:
-  zs dump contacts.zs                                  every record, one to a line
-  zs dump contacts.zs --prefix 'Ada Blank\\t'           the records that begin so
-  zs dump contacts.zs --start B --stop D               from B up to, not including, D
-  zs dump contacts.zs --prefix '\\xff' --count          how many begin with the byte FF
-  zs dump contacts.zs --terminator '\\x00' | xargs -0 -n 1 echo
-  zs dump contacts.zs --length-prefixed u64le -o out   out appears once it is whole
-  gunzip -c contacts.zs.gz | zs dump - --prefix Ada    an archive on standard input";
-
-const INFO_EXAMPLES: &str =
-    "The file is checked first. Its metadata is a JSON object and is shown as it is stored; on a terminal
-control characters are shown as escapes.
-
-Examples:
-  zs info contacts.zs
-  zs info -m contacts.zs           the metadata alone, as it is stored
-  zs info -m contacts.zs | jq .    the same for another program";
-
-const EXPLAIN_EXAMPLES: &str = "Each line is a block that the search opened, in that order: its first byte, its level (0 is data),
-and the bounds between which its records lie. A block is opened where some byte string between its
-bounds could match. It is opened in vain where it leads to no match.
-
-Examples:
-  zs explain contacts.zs --prefix 'Ada '
-  zs explain contacts.zs --start B --stop D";
 
 /// The whole command line.
 #[derive(Parser)]
@@ -94,8 +27,11 @@ pub struct Arguments {
 #[derive(Subcommand)]
 pub enum Command {
     /// Make an archive of records
-    #[command(after_help = format!("{MAKE_EXAMPLES}\n\n{STATUS}"))]
+    #[command(after_help = format!("{MAKE_INPUTS}\n\n{OUT}\n\n{MAKE_EXAMPLES}\n\n{STATUS}"))]
     Make(Make),
+    /// Make an archive of contacts from a phone
+    #[command(subcommand, after_help = format!("{IMPORT_EXAMPLES}\n\n{STATUS}"))]
+    Import(Import),
     /// Check files against every rule of the format
     #[command(after_help = format!("{VALIDATE_EXAMPLES}\n\n{STATUS}"))]
     Validate(Validate),
@@ -116,14 +52,42 @@ pub struct Make {
     pub metadata: OsString,
     /// The records, in rising order; - is standard input
     pub input: PathBuf,
-    /// The archive to be made; - is standard output
-    #[arg(value_name = "OUT")]
-    pub output: PathBuf,
     #[command(flatten)]
     pub separation: Separation,
     /// Take the records in any order, and sort them by their bytes
     #[arg(long)]
     pub sort: bool,
+    #[command(flatten)]
+    pub archive: NewArchive,
+}
+
+#[derive(Subcommand)]
+pub enum Import {
+    /// Make an archive of the phonebook of a SIM card
+    #[command(after_help = format!("{SIM_INPUTS}\n\n{OUT}\n\n{SIM_EXAMPLES}\n\n{STATUS}"))]
+    Sim(Sim),
+}
+
+#[derive(Args)]
+pub struct Sim {
+    /// The phonebook, as the card has it; - is standard input
+    pub dump: PathBuf,
+    #[arg(long, value_name = "X", value_parser = number_parser(0, LONGEST_NAME), allow_hyphen_values = true,
+        help = format!("Bytes for the name in a record, 0 to {LONGEST_NAME}: the length of a record less {NUMBER_BYTES}"))]
+    pub name_length: u64,
+    /// What the archive says of itself: one JSON object, or @FILE; @- is standard input
+    #[arg(long, value_name = "JSON")]
+    pub metadata: OsString,
+    #[command(flatten)]
+    pub archive: NewArchive,
+}
+
+/// Where an archive goes, and how its records are put into blocks.
+#[derive(Args)]
+pub struct NewArchive {
+    /// The archive to be made; - is standard output
+    #[arg(value_name = "OUT")]
+    pub output: PathBuf,
     #[arg(long, value_name = "N", value_parser = number_parser(1, MOST_PER_BLOCK), allow_hyphen_values = true,
         help = format!("Records in a data block, 1 to {MOST_PER_BLOCK} [default: about {} KiB of them, \
             more where long records begin alike]", BLOCK_BYTES >> 10))]

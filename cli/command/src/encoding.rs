@@ -51,6 +51,17 @@ impl Encoded {
         })
     }
 
+    /// Takes records that are in the library's form, as it has given them.
+    pub fn from_library(bytes: Memory) -> Self {
+        let number = LIBRARY_FORM.split(&bytes).flatten().count();
+        Encoded {
+            bytes,
+            number: number as u64,
+            flaw: None,
+            noun: LIBRARY_FORM.noun(),
+        }
+    }
+
     pub fn records(&self) -> impl Iterator<Item = &[u8]> {
         LIBRARY_FORM.split(&self.bytes).flatten()
     }

@@ -3,11 +3,12 @@
 //! Every archive, every verdict, every match and every opened block comes from the proved library. This crate reads the arguments and the files, and
 //! prints the answers.
 //!
-//! * [`arguments`], [`escapes`] and [`usage`]: what a person asks for.
+//! * [`arguments`], [`help`], [`escapes`] and [`usage`]: what a person asks for.
 //! * [`input`], [`memory`], [`cut_files`], [`archive`], [`answers`], [`refusals`]: bytes, checked or not, the library's answers with
 //!   lists that grow, and refusals in words.
-//! * [`records`], [`encoding`], [`writing`]: records one after the other in an input, and the archive that the library makes of them.
-//! * [`make`], [`validate`], [`dump`], [`info`], [`explain`]: one module for each command.
+//! * [`records`], [`encoding`], [`writing`], [`making`]: records one after the other in an input, and the archive that the library makes
+//!   of them, from what is asked to a file.
+//! * [`make`], [`import`], [`validate`], [`dump`], [`info`], [`explain`]: one module for each command.
 //! * [`output`], [`target`], [`temporary`], [`signals`], [`system`]: where answers are written, and how a file appears only when it is
 //!   whole.
 //! * [`terminal`], [`progress`], [`failure`]: text and progress on a terminal, and what went wrong.
@@ -24,11 +25,14 @@ mod encoding;
 mod escapes;
 mod explain;
 mod failure;
+mod help;
+mod import;
 mod info;
 #[allow(unsafe_code)]
 mod input;
 mod layout;
 mod make;
+mod making;
 mod memory;
 mod metadata;
 mod output;
@@ -50,7 +54,7 @@ mod writing;
 use std::path::Path;
 use std::process::ExitCode;
 
-use arguments::{Arguments, Command};
+use arguments::{Arguments, Command, Import};
 use clap::Parser;
 use failure::{complain, Failure, Status};
 
@@ -68,6 +72,10 @@ fn run(command: &Command) -> Status {
         Command::Make(asked) => {
             let outcome = make::run(asked);
             (make::file_at_fault(asked, &outcome), outcome)
+        }
+        Command::Import(Import::Sim(asked)) => {
+            let outcome = import::run(asked);
+            (import::file_at_fault(asked, &outcome), outcome)
         }
         Command::Validate(asked) => return report(None, validate::run(asked)),
         Command::Dump(asked) => (Some(asked.file.as_path()), dump::run(asked)),

@@ -1,4 +1,5 @@
-//! Refusals as a person reads them, in the words of the library's table; 27 and 31 in those of the command, to which nobody lends lists or outputs.
+//! Refusals as a person reads them, in the words of the library's table; 27 and 31 in those of the command, to which nobody lends lists or
+//! outputs, and 28 of a dump, which has its own form.
 
 use zs_library::refusals::find;
 
@@ -49,6 +50,9 @@ impl Refusal {
             28 => Some("give one record or more; with --length-prefixed each after its length, in the form named"),
             29 => Some("give --sort, or sort the input by its bytes, as LC_ALL=C sort does"),
             31 => Some("put the records into several archives"),
+            32 => Some("give as --name-length the length of a record on the card less 14, and the whole dump"),
+            33 => Some("give the right --name-length, or read the card again"),
+            34 => Some("give the right --name-length, or read the card again; where no number is set, set one on the card, or delete the record there"),
             _ => None,
         };
         let refusal = Refusal::of_file(number, 0, &[]);
@@ -60,6 +64,22 @@ impl Refusal {
             detail,
             advice: advice.or(refusal.advice),
             ..refusal
+        }
+    }
+
+    /// The refusal of a dump of so many records, all of them free.
+    pub fn of_free_records(number: usize) -> Self {
+        let detail = match number {
+            0 => "the dump is empty".into(),
+            1 => "its only record is free".into(),
+            _ => format!("all its {number} records are free"),
+        };
+        Refusal {
+            number: 28,
+            place: 0,
+            sentence: "an archive needs at least one record, and the dump has none that isn't free",
+            detail: Some(detail),
+            advice: Some("make sure that this is the dump of a card with contacts"),
         }
     }
 

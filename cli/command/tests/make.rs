@@ -2,9 +2,11 @@
 
 use std::fs;
 
-use crate::support::{nest_metadata, shell, zs, zs_with_input, Folder, CONTACTS, SMALL};
+use crate::support::{
+    nest_metadata, records_of, shell, u64le, zs, zs_with_input, Folder, CONTACTS, SMALL,
+};
 use zs_reference::maker::random::Random;
-use zs_reference::reader::{self, Query};
+use zs_reference::reader;
 
 const LINES: &[&str] = &[];
 const ULEB128: &[&str] = &["--length-prefixed", "uleb128"];
@@ -34,27 +36,10 @@ fn dump(folder: &Folder, words: &[&str]) -> Vec<u8> {
     zs(&[&["dump", &folder.name("made.zs")], words].concat()).out
 }
 
-/// The records of an archive, by the independent reader.
-fn records_of(file: &[u8]) -> Vec<Vec<u8>> {
-    let answer = reader::read(file, &Query::default(), 2 * file.len());
-    assert_eq!(answer.number, 0);
-    let pairs = answer.results.chunks(2).take(answer.matches as usize);
-    pairs
-        .map(|pair| file[pair[0] as usize..(pair[0] + pair[1]) as usize].to_vec())
-        .collect()
-}
-
 fn terminated(records: &[Vec<u8>], terminator: &[u8]) -> Vec<u8> {
     let records = records.iter();
     records
         .flat_map(|record| [record, terminator].concat())
-        .collect()
-}
-
-fn u64le(records: &[Vec<u8>]) -> Vec<u8> {
-    let records = records.iter();
-    records
-        .flat_map(|record| [&(record.len() as u64).to_le_bytes(), record.as_slice()].concat())
         .collect()
 }
 

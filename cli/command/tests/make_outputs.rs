@@ -4,11 +4,9 @@ use std::fs::{self, File};
 use std::io::Write;
 use std::os::unix::fs::{symlink, PermissionsExt};
 use std::os::unix::process::ExitStatusExt;
-use std::process::{Command, ExitStatus, Stdio};
-use std::thread::sleep;
-use std::time::Duration;
+use std::process::{Command, Stdio};
 
-use crate::support::{shell, zs, Folder, Run, ZS};
+use crate::support::{interrupt, shell, unfinished, zs, Folder, Run, ZS};
 
 /// A folder with a list of names.
 fn with_names() -> Folder {
@@ -257,35 +255,16 @@ fn progress_on_a_terminal_only() {
 /// Runs that are tried until a signal comes before the archive is there.
 const RUNS: usize = 100;
 
-/// The names of temporary files in which something is written.
-fn unfinished(folder: &Folder) -> Vec<String> {
-    let is_begun =
-        |name: &String| fs::metadata(folder.name(name)).map_or(0, |about| about.len()) > 0;
-    let is_temporary = |name: &String| name.starts_with(".zs-") && name.ends_with(".tmp");
-    let mut files = folder.files();
-    files.retain(|name| is_temporary(name) && is_begun(name));
-    files
-}
-
-/// Starts to make an archive of about 32 MB, and sends a signal once some of it is written. The archive may be there before.
-fn interrupt(signal: i32, folder: &Folder) -> ExitStatus {
-    let mut child = Command::new("env")
-        .args(["--default-signal", ZS, "make", "{}", "long", "out"])
-        .args(["--length-prefixed", "uleb128", "--force"])
-        .current_dir(folder.path())
-        .stdout(Stdio::null())
-        .stderr(Stdio::null())
-        .spawn()
-        .expect("the command runs");
-    while unfinished(folder).is_empty() {
-        if let Some(status) = child.try_wait().expect("a status") {
-            return status;
-        }
-        sleep(Duration::from_micros(200));
-    }
-    shell(&format!("kill -{signal} {}", child.id()), folder);
-    child.wait().expect("the command ends")
-}
+/// Makes an archive of about 32 MB.
+const MAKE_LONG: &[&str] = &[
+    "make",
+    "{}",
+    "long",
+    "out",
+    "--length-prefixed",
+    "uleb128",
+    "--force",
+];
 
 /// One record of 2^25 zero bytes, after its length.
 fn write_long(folder: &Folder) {
@@ -303,7 +282,7 @@ fn a_signal_leaves_nothing_new() {
         let is_old = || contents(&folder, "out") == b"kept";
         let mut ended = (0..RUNS).map(|_| {
             folder.write("out", b"kept");
-            interrupt(signal, &folder)
+            interrupt(MAKE_LONG, signal, &folder)
         });
         let status = ended.find(|_| is_old()).expect("a signal in time");
         assert_eq!(status.signal(), Some(signal), "{status}");
@@ -317,7 +296,7 @@ fn only_a_temporary_file_is_left_by_a_kill() {
     write_long(&folder);
     let mut left = (0..RUNS).map(|_| {
         folder.write("out", b"kept");
-        interrupt(9, &folder);
+        interrupt(MAKE_LONG, 9, &folder);
         unfinished(&folder)
     });
     let left = left.find(|left| !left.is_empty());

@@ -1,48 +1,24 @@
 //! Refusals of `zs make`: which record is at fault and why, in the library's order, and nothing is left.
 
-use std::fs::{self, File};
+use std::fs::File;
 
-use crate::support::{nest_metadata, shell, zs, zs_with_input, Folder, Run, NO_JSON};
+use crate::support::{
+    expect_refusal, fail_to_make, nest_metadata, shell, zs, Folder, Run, NO_JSON,
+};
 
 const ULEB128: &[&str] = &["--length-prefixed", "uleb128"];
 const U64LE: &[&str] = &["--length-prefixed", "u64le"];
 const NONE: &[&str] = &[];
 
-/// Makes an archive of an input, in which something is wrong. Nothing is left, and a file that was to be replaced is kept.
+/// Makes an archive of an input in which something is wrong.
 fn make(metadata: &str, input: &[u8], words: &[&str]) -> Run {
-    let folder = Folder::new();
-    let out = folder.name("out");
-    let make = [&["make", metadata, "-", &out], words].concat();
-    let run = zs_with_input(&make, input);
-    assert_eq!(folder.files(), Vec::<String>::new());
-    folder.write("out", b"kept");
-    let again = zs_with_input(&[&make, &["--force"][..]].concat(), input);
-    assert_eq!((again.status, &again.err), (run.status, &run.err));
-    assert_eq!(folder.files(), ["out"]);
-    assert_eq!(fs::read(&out).expect("the old file"), b"kept");
-    assert_eq!(run.out.len(), 0);
-    Run {
-        err: run.err.replace(&out, "OUT"),
-        ..run
-    }
+    fail_to_make(&["make", metadata, "-"], words, input)
 }
 
-/// Holds an input to its refusal: number, what is said in brackets, and what to do. `file` is the one that is named, if one is.
+/// Holds an input to its refusal.
 fn refuse(metadata: &str, input: &[u8], words: &[&str], file: &str, number: u64, detail: &str) {
     let run = make(metadata, input, words);
-    let name = match file {
-        "" => String::new(),
-        _ => format!("{file}: "),
-    };
-    let (first, second) = run.err.split_once('\n').expect("two lines");
-    assert_eq!(run.status, 1, "{first}");
-    assert!(
-        first.starts_with(&format!("zs: {name}refused {number}: "))
-            && first.ends_with(&format!(" ({detail})")),
-        "{first}"
-    );
-    assert!(second.starts_with("zs: what to do: "), "{second}");
-    assert_eq!(second.lines().count(), 1, "{second}");
+    expect_refusal(&run, file, number, detail);
 }
 
 #[test]

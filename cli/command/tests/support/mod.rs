@@ -1,15 +1,24 @@
 //! Runs the command, and keeps its files in a folder that is removed afterwards.
 
+pub mod sim;
+
 use std::ffi::OsStr;
 use std::fs;
 use std::io::Write;
 use std::path::{Path, PathBuf};
-use std::process::{Command, Output, Stdio};
+use std::process::{Command, ExitStatus, Output, Stdio};
 use std::sync::atomic::{AtomicUsize, Ordering};
+use std::thread::sleep;
+use std::time::Duration;
 
+use zs_reference::reader::{self, Query};
 pub const ZS: &str = env!("CARGO_BIN_EXE_zs");
 pub const CONTACTS: &str = concat!(env!("CARGO_MANIFEST_DIR"), "/../../samples/contacts.zs");
 pub const SMALL: &str = concat!(env!("CARGO_MANIFEST_DIR"), "/../../samples/small.zs");
+pub const PHONEBOOK: &str = concat!(
+    env!("CARGO_MANIFEST_DIR"),
+    "/../../samples/sim-phonebook.adn"
+);
 
 /// What is said of metadata in UTF-8 that begins and ends as it should.
 pub const NO_JSON: &str = "what stands between the braces isn't JSON, or is nested too deep; \
@@ -112,6 +121,43 @@ impl Drop for Folder {
     }
 }
 
+/// Runs a command that would make an archive of an input in which something is wrong; OUT stands between `before` and `after`. Nothing is
+/// left, and a file that was to be replaced is kept.
+pub fn fail_to_make(before: &[&str], after: &[&str], input: &[u8]) -> Run {
+    let folder = Folder::new();
+    let out = folder.name("out");
+    let words = [before, &[&out], after].concat();
+    let run = zs_with_input(&words, input);
+    assert_eq!(folder.files(), Vec::<String>::new());
+    folder.write("out", b"kept");
+    let again = zs_with_input(&[&words, &["--force"][..]].concat(), input);
+    assert_eq!((again.status, &again.err), (run.status, &run.err));
+    assert_eq!(folder.files(), ["out"]);
+    assert_eq!(fs::read(&out).expect("the old file"), b"kept");
+    assert_eq!(run.out.len(), 0);
+    Run {
+        err: run.err.replace(&out, "OUT"),
+        ..run
+    }
+}
+
+/// Holds a run to a refusal: number, what is said in brackets, and what to do. `file` is the one that is named, if one is.
+pub fn expect_refusal(run: &Run, file: &str, number: u64, detail: &str) {
+    let name = match file {
+        "" => String::new(),
+        _ => format!("{file}: "),
+    };
+    let (first, second) = run.err.split_once('\n').expect("two lines");
+    assert_eq!(run.status, 1, "{first}");
+    assert!(
+        first.starts_with(&format!("zs: {name}refused {number}: "))
+            && first.ends_with(&format!(" ({detail})")),
+        "{first}"
+    );
+    assert!(second.starts_with("zs: what to do: "), "{second}");
+    assert_eq!(second.lines().count(), 1, "{second}");
+}
+
 /// An object in which arrays are nested, so many of both.
 pub fn nest_metadata(depth: usize) -> String {
     let (open, close) = ("[".repeat(depth - 1), "]".repeat(depth - 1));
@@ -125,4 +171,52 @@ pub fn damaged_sample() -> (Vec<u8>, usize) {
     let place = 24 + header as usize;
     file[place + 20] ^= 1;
     (file, place)
+}
+
+/// The records of an archive, by the independent reader.
+pub fn records_of(file: &[u8]) -> Vec<Vec<u8>> {
+    let answer = reader::read(file, &Query::default(), 2 * file.len());
+    assert_eq!(answer.number, 0);
+    let pairs = answer.results.chunks(2).take(answer.matches as usize);
+    pairs
+        .map(|pair| file[pair[0] as usize..(pair[0] + pair[1]) as usize].to_vec())
+        .collect()
+}
+
+/// Records, each after its length in eight bytes.
+pub fn u64le(records: &[Vec<u8>]) -> Vec<u8> {
+    let records = records.iter();
+    records
+        .flat_map(|record| [&(record.len() as u64).to_le_bytes(), record.as_slice()].concat())
+        .collect()
+}
+
+/// The names of temporary files in which something is written.
+pub fn unfinished(folder: &Folder) -> Vec<String> {
+    let is_begun =
+        |name: &String| fs::metadata(folder.name(name)).map_or(0, |about| about.len()) > 0;
+    let is_temporary = |name: &String| name.starts_with(".zs-") && name.ends_with(".tmp");
+    let mut files = folder.files();
+    files.retain(|name| is_temporary(name) && is_begun(name));
+    files
+}
+
+/// Starts the command, and sends a signal once some of its output is written. The output may be there before.
+pub fn interrupt(arguments: &[&str], signal: i32, folder: &Folder) -> ExitStatus {
+    let mut child = Command::new("env")
+        .args(["--default-signal", ZS])
+        .args(arguments)
+        .current_dir(folder.path())
+        .stdout(Stdio::null())
+        .stderr(Stdio::null())
+        .spawn()
+        .expect("the command runs");
+    while unfinished(folder).is_empty() {
+        if let Some(status) = child.try_wait().expect("a status") {
+            return status;
+        }
+        sleep(Duration::from_micros(200));
+    }
+    shell(&format!("kill -{signal} {}", child.id()), folder);
+    child.wait().expect("the command ends")
 }
