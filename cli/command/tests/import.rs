@@ -3,30 +3,17 @@
 use std::fs;
 
 use crate::support::sim::{dump, free, sorted, Contact, FOURTEEN, NAME_LENGTH, NUMBER};
-use crate::support::{records_of, shell, u64le, zs, zs_with_input, Folder, PHONEBOOK};
+use crate::support::{accepted, records_of, shell, u64le, zs, zs_with_input, Folder, PHONEBOOK};
 use zs_reference::maker::random::Random;
-use zs_reference::reader;
 use zs_reference::samples;
 
 const U64LE: &[&str] = &["--length-prefixed", "u64le"];
 
-/// Imports a dump. Command and independent reader accept the archive and count what the command says is in it.
+/// Imports a dump.
 fn import(folder: &Folder, dump: &[u8], words: &[&str]) -> Vec<u8> {
     let name = folder.name("card.zs");
     let fixed = ["import", "sim", "-", &name, "--force"];
-    let run = zs_with_input(&[&fixed, words].concat(), dump);
-    assert_eq!((run.status, run.err.as_str()), (0, ""), "{words:?}");
-    let file = fs::read(&name).expect("the archive");
-    let checked = reader::check(&file, file.len());
-    assert_eq!(checked.number, 0, "{words:?}");
-    let ending = |number: u64| if number == 1 { "" } else { "s" };
-    let (records, blocks) = (checked.records, checked.blocks);
-    let counts = format!("{records} record{} in {blocks} blocks", ending(records));
-    let due = format!("{name}: made, {counts}, {} bytes\n", file.len());
-    assert_eq!(run.text(), due);
-    let verdict = zs(&["validate", &name]);
-    assert_eq!(verdict.text(), format!("{name}: valid, {counts}\n"));
-    file
+    accepted(&name, &[&fixed, words].concat(), dump)
 }
 
 /// Every byte as an escape.

@@ -3,7 +3,7 @@
 use std::fs;
 
 use crate::support::{
-    nest_metadata, records_of, shell, u64le, zs, zs_with_input, Folder, CONTACTS, SMALL,
+    accepted, nest_metadata, records_of, shell, u64le, zs, Folder, CONTACTS, SMALL,
 };
 use zs_reference::maker::random::Random;
 use zs_reference::reader;
@@ -12,23 +12,11 @@ const LINES: &[&str] = &[];
 const ULEB128: &[&str] = &["--length-prefixed", "uleb128"];
 const U64LE: &[&str] = &["--length-prefixed", "u64le"];
 
-/// Makes an archive of an input. Command and independent reader accept it and count what the command says is in it.
+/// Makes an archive of an input.
 fn make(folder: &Folder, input: &[u8], words: &[&str]) -> Vec<u8> {
     let name = folder.name("made.zs");
     let fixed = ["make", "{}", "-", &name, "--force"];
-    let run = zs_with_input(&[&fixed, words].concat(), input);
-    assert_eq!((run.status, run.err.as_str()), (0, ""), "{words:?}");
-    let file = fs::read(&name).expect("the archive");
-    let checked = reader::check(&file, file.len());
-    assert_eq!(checked.number, 0, "{words:?}");
-    let ending = |number: u64| if number == 1 { "" } else { "s" };
-    let (records, blocks) = (checked.records, checked.blocks);
-    let counts = format!("{records} record{} in {blocks} blocks", ending(records));
-    let due = format!("{name}: made, {counts}, {} bytes\n", file.len());
-    assert_eq!(run.text(), due);
-    let verdict = zs(&["validate", &name]);
-    assert_eq!(verdict.text(), format!("{name}: valid, {counts}\n"));
-    file
+    accepted(&name, &[&fixed, words].concat(), input)
 }
 
 /// Dumps the archive that was made.

@@ -66,6 +66,23 @@ pub fn zs_with_input<S: AsRef<OsStr>>(arguments: &[S], input: &[u8]) -> Run {
     Run::of(child.wait_with_output().expect("the command ends"))
 }
 
+/// Makes the archive `name` of an input. Command and independent reader accept it and count what the command says is in it.
+pub fn accepted(name: &str, words: &[&str], input: &[u8]) -> Vec<u8> {
+    let run = zs_with_input(words, input);
+    assert_eq!((run.status, run.err.as_str()), (0, ""), "{words:?}");
+    let file = fs::read(name).expect("the archive");
+    let checked = reader::check(&file, file.len());
+    assert_eq!(checked.number, 0, "{words:?}");
+    let ending = |number: u64| if number == 1 { "" } else { "s" };
+    let (records, blocks) = (checked.records, checked.blocks);
+    let counts = format!("{records} record{} in {blocks} blocks", ending(records));
+    let due = format!("{name}: made, {counts}, {} bytes\n", file.len());
+    assert_eq!(run.text(), due);
+    let verdict = zs(&["validate", name]);
+    assert_eq!(verdict.text(), format!("{name}: valid, {counts}\n"));
+    file
+}
+
 /// Runs a line of the shell; `$ZS` is the command.
 pub fn shell(line: &str, folder: &Folder) -> Run {
     let mut command = Command::new("sh");
