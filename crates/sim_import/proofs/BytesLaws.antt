@@ -33,7 +33,8 @@ pub length-first : (r : List ℕ) (rs : List (List ℕ)) → length (recordsByte
 length-first r rs = rw (bytes-first r rs) (length-append (textBytes r) (recordsBytes rs))
 
 -- one more
-pub bytes-more : (rs : List (List ℕ)) (k : ℕ) (d : List ℕ) → k < length rs → recordsBytes (take (k + 1) rs) ≡ recordsBytes (take k rs) ++ textBytes (getD rs k d)
+pub bytes-more : (rs : List (List ℕ)) (k : ℕ) (d : List ℕ) → k < length rs
+    → recordsBytes (take (k + 1) rs) ≡ recordsBytes (take k rs) ++ textBytes (getD rs k d)
 bytes-more rs k d h = rw (add-one k, take-suc rs k d h) (bytes-append (take k rs) (getD rs k d ∷ []) ∙ rw (bytes-one (getD rs k d)))
 
 -- a record of at most 269 bytes takes at most two more for its length
@@ -64,7 +65,8 @@ pub bytes-front : (rs : List (List ℕ)) (count k size : ℕ) → length rs ≡ 
     → length (recordsBytes (take k rs)) ≤ size - 8 * count + 8 * k
 bytes-front rs count k size e l t s h =
     let split : length (recordsBytes rs) ≡ length (recordsBytes (take k rs)) + length (recordsBytes (drop k rs)) =
-    ap (λ q. length (recordsBytes q)) (sym (take-append-drop k rs)) ∙ rw (bytes-append (take k rs) (drop k rs)) (length-append (recordsBytes (take k rs)) (recordsBytes (drop k rs))) in
+    ap (λ q. length (recordsBytes q)) (sym (take-append-drop k rs))
+    ∙ rw (bytes-append (take k rs) (drop k rs)) (length-append (recordsBytes (take k rs)) (recordsBytes (drop k rs))) in
     let rest : 8 * (length rs - k) ≤ length (recordsBytes (drop k rs)) = rw length-drop at (bytes-long (drop k rs) (long-drop k rs l)) in
     omega arith
 

@@ -100,7 +100,8 @@ module _ (dump : List ℕ) (x room : ℕ) where
       pub exactly : (output : List ℕ) → found .length ≤ length output → Exact x dump (found .count) (take (found .length - 0) (drop 0 output))
       unfolding Whole
       exactly output l =
-          let front : length (take (found .length - 0) output) ≡ found .length = length-take-le (found .length - 0) output (omega arith) ∙ sub-zero (found .length) in
+          let front : length (take (found .length - 0) output) ≡ found .length =
+          length-take-le (found .length - 0) output (omega arith) ∙ sub-zero (found .length) in
           record { whole = w; many = count-is; exact = front ∙ length-given }
 
       -- they stand there, and zeros after them

@@ -71,7 +71,8 @@ module _ (x : ℕ) where
 
 module _ (x : ℕ) where
   -- one list after another
-  pub imported-append : (adns more : List (List ℕ)) → importedAll x (adns ++ more) ≡ (importedAll x adns >>= λ rs. importedAll x more >>= λ qs. answer (rs ++ qs))
+  pub imported-append : (adns more : List (List ℕ))
+      → importedAll x (adns ++ more) ≡ (importedAll x adns >>= λ rs. importedAll x more >>= λ qs. answer (rs ++ qs))
   unfolding importedAll _>>=_
   imported-append [] more = go (importedAll x more)
     where
@@ -141,7 +142,8 @@ pub groups-whole : (x : ℕ) (dump : List ℕ) → Whole x dump → (adn : List 
 groups-whole x =
     by-groups (x + 14) (omega arith) (λ dump. Whole x dump → (adn : List ℕ) → List·Memᴰ adn (groups (x + 14) dump) → length adn ≡ x + 14)
     (λ w adn m. absurd (none adn (subst (λ l. List·Memᴰ adn l) (groups-nil (x + 14) (omega arith)) m)))
-    (λ b s ih w adn m. more b s (ih (rw (zero-add (x + 14)) at (whole-rest x (b ∷ s) 0 w (omega arith)))) w adn (subst (λ l. List·Memᴰ adn l) (groups-cons (x + 14) (omega arith) b s) m))
+    (λ b s ih w adn m. more b s (ih (rw (zero-add (x + 14)) at (whole-rest x (b ∷ s) 0 w (omega arith)))) w adn
+    (subst (λ l. List·Memᴰ adn l) (groups-cons (x + 14) (omega arith) b s) m))
   where
     none : (adn : List ℕ) → List·Memᴰ adn [] → ⊥
     none adn m = List·Memᴰ·not-nil m

@@ -132,7 +132,8 @@ module _ (x : ℕ) (dump : List ℕ) (count size at : ℕ) (s : Surveyed x dump 
   surveyed-all h =
       rw (s .many, s .total, s .goes, occupied-end x dump at h, append-nil (s .records))
 
-  module _ (one : Survey) (adn : List ℕ) (e : one ≡ surveyOf (importedAll x (notFree (adn ∷ [])))) (f : adn ≡ part dump at (x + 14)) (h : at < length dump) where
+  module _ (one : Survey) (adn : List ℕ) (e : one ≡ surveyOf (importedAll x (notFree (adn ∷ [])))) (f : adn ≡ part dump at (x + 14))
+      (h : at < length dump) where
     abbrev rest : Outcome (List (List ℕ))
     rest = importedAll x (occupied x (drop (at + (x + 14)) dump))
 

@@ -23,75 +23,76 @@ put-number-requires c κs = search needs
 
 add-put : tie.Need-add-put
 add-put c =
-    let good = c .before .before .before .before .before .before .before .before .before .before .good in
-    let args = c .before .before .before .before .before .before .before .before .before .before .args in
-    let name = c .before .before .before .before .before .before .name in
-    let rest = c .before .before .before .before .before .rest in
-    let adn-at = c .before .before .before .before .before .before .before .adn-at in
-    let put-number = c .before .before .before .put-number in
-    let pre = c .before .before .before .before .before .before .before .before .before .before .pre in
-    let fits = text-fits (args .x) (args .dump .now) (args .from) _ _ _ (now (args .output)) (args .at) _ (adn-at .ensures) (name .ensures) (rest .ensures)
-    (put-number .ensures .0) pre in omega (arith, fits, good)
+    let numbered = c .before .before .before in
+    let start = numbered .before .before .before .before .before .before .before in
+    let args = start .args in
+    let good = start .good in
+    let adn-at = numbered .before .before .before .before .adn-at in
+    let name = numbered .before .before .before .name in
+    let rest = numbered .before .before .rest in
+    let fits = text-fits (args .x) (args .dump .now) (args .from) _ _ _ (now (args .output)) (args .at) _ (adn-at .ensures) (name .ensures)
+    (rest .ensures) (numbered .put-number .ensures .0) (start .pre) in omega (arith, fits, good)
 
 put-requires : tie.Need-put-requires
 put-requires c κs = search needs
 
 add-put-2 : tie.Need-add-put-2
 add-put-2 c =
-    let good = c .before .before .before .before .before .before .before .before .before .before .before .before .before .before .good in
-    let args = c .before .before .before .before .before .before .before .before .before .before .before .before .before .before .args in
-    let name = c .before .before .before .before .before .before .before .before .before .before .name in
-    let rest = c .before .before .before .before .before .before .before .before .before .rest in
-    let adn-at = c .before .before .before .before .before .before .before .before .before .before .before .adn-at in
-    let put-number = c .before .before .before .before .before .before .before .put-number in
-    let pre = c .before .before .before .before .before .before .before .before .before .before .before .before .before .before .pre in
-    let fits = text-fits (args .x) (args .dump .now) (args .from) _ _ _ (now (args .output)) (args .at) _ (adn-at .ensures) (name .ensures) (rest .ensures)
-    (put-number .ensures .0) pre in omega (arith, fits, good)
+    let numbered = c .before .before .before .before .before .before .before in
+    let start = numbered .before .before .before .before .before .before .before in
+    let args = start .args in
+    let good = start .good in
+    let adn-at = numbered .before .before .before .before .adn-at in
+    let name = numbered .before .before .before .name in
+    let rest = numbered .before .before .rest in
+    let fits = text-fits (args .x) (args .dump .now) (args .from) _ _ _ (now (args .output)) (args .at) _ (adn-at .ensures) (name .ensures)
+    (rest .ensures) (numbered .put-number .ensures .0) (start .pre) in omega (arith, fits, good)
 
 add-put-3 : tie.Need-add-put-3
 add-put-3 c =
-    let good = c .before .before .before .before .before .before .before .before .before .before .before .before .before .before .good in
-    let args = c .before .before .before .before .before .before .before .before .before .before .before .before .before .before .args in
-    let name = c .before .before .before .before .before .before .before .before .before .before .name in
-    let rest = c .before .before .before .before .before .before .before .before .before .rest in
-    let adn-at = c .before .before .before .before .before .before .before .before .before .before .before .adn-at in
-    let put-number = c .before .before .before .before .before .before .before .put-number in
-    let pre = c .before .before .before .before .before .before .before .before .before .before .before .before .before .before .pre in
-    let fits = text-fits (args .x) (args .dump .now) (args .from) _ _ _ (now (args .output)) (args .at) _ (adn-at .ensures) (name .ensures) (rest .ensures)
-    (put-number .ensures .0) pre in omega (arith, fits, good)
+    let numbered = c .before .before .before .before .before .before .before in
+    let start = numbered .before .before .before .before .before .before .before in
+    let args = start .args in
+    let good = start .good in
+    let adn-at = numbered .before .before .before .before .adn-at in
+    let name = numbered .before .before .before .name in
+    let rest = numbered .before .before .rest in
+    let fits = text-fits (args .x) (args .dump .now) (args .from) _ _ _ (now (args .output)) (args .at) _ (adn-at .ensures) (name .ensures)
+    (rest .ensures) (numbered .put-number .ensures .0) (start .pre) in omega (arith, fits, good)
 
 put-requires-2 : tie.Need-put-requires-2
 put-requires-2 c κs = search needs
 
 add-result : tie.Need-add-result
 add-result c =
-    let good = c .before .before .before .before .before .before .before .before .before .before .before .before .before .before .before .before .before .good in
-    let args = c .before .before .before .before .before .before .before .before .before .before .before .before .before .before .before .before .before .args in
-    let name = c .before .before .before .before .before .before .before .before .before .before .before .before .before .name in
-    let rest = c .before .before .before .before .before .before .before .before .before .before .before .before .rest in
-    let adn-at = c .before .before .before .before .before .before .before .before .before .before .before .before .before .before .adn-at in
-    let put-number = c .before .before .before .before .before .before .before .before .before .before .put-number in
-    let pre = c .before .before .before .before .before .before .before .before .before .before .before .before .before .before .before .before .before .pre in
-    let fits = text-fits (args .x) (args .dump .now) (args .from) _ _ _ (now (args .output)) (args .at) _ (adn-at .ensures) (name .ensures) (rest .ensures)
-    (put-number .ensures .0) pre in omega (arith, fits, good)
+    let numbered = c .before .before .before .before .before .before .before .before .before .before in
+    let start = numbered .before .before .before .before .before .before .before in
+    let args = start .args in
+    let good = start .good in
+    let adn-at = numbered .before .before .before .before .adn-at in
+    let name = numbered .before .before .before .name in
+    let rest = numbered .before .before .rest in
+    let fits = text-fits (args .x) (args .dump .now) (args .from) _ _ _ (now (args .output)) (args .at) _ (adn-at .ensures) (name .ensures)
+    (rest .ensures) (numbered .put-number .ensures .0) (start .pre) in omega (arith, fits, good)
 
 same-length : tie.Need-same-length
 same-length c = search needs
 
 returns : tie.Need-returns
 returns c =
-    let args = c .before .before .before .before .before .before .before .before .before .before .before .before .before .before .before .before .before .args in
-    let name = c .before .before .before .before .before .before .before .before .before .before .before .before .before .name in
-    let rest = c .before .before .before .before .before .before .before .before .before .before .before .before .rest in
-    let adn-at = c .before .before .before .before .before .before .before .before .before .before .before .before .before .before .adn-at in
-    let the-pre = c .before .before .before .before .before .before .before .before .before .before .before .before .before .before .before .before .before .pre in
-    let put-number = c .before .before .before .before .before .before .before .before .before .before .put-number in
+    let numbered = c .before .before .before .before .before .before .before .before .before .before in
+    let start = numbered .before .before .before .before .before .before .before in
+    let args = start .args in
+    let adn-at = numbered .before .before .before .before .adn-at in
+    let name = numbered .before .before .before .name in
+    let rest = numbered .before .before .rest in
+    let number = numbered .put-number .ensures in
     let put = c .before .before .before .before .before .before .put in
-    let put2 = c .before .before .put2 in
-    let number = put-number .ensures in (
-      text-length (args .x) (args .dump .now) (args .from) _ _ _ (now (args .output)) (args .at) _ (adn-at .ensures) (name .ensures) (rest .ensures) (number .0) the-pre,
-      text-stored (args .x) (args .dump .now) (args .from) _ _ _ (now (args .output)) (args .at) _ (adn-at .ensures) (name .ensures) (rest .ensures) (number .0) the-pre
-          _ _ _ (number .1) (put .ensures .1) (put2 .ensures .1),
+    let put2 = c .before .before .put2 in (
+      text-length (args .x) (args .dump .now) (args .from) _ _ _ (now (args .output)) (args .at) _ (adn-at .ensures) (name .ensures)
+          (rest .ensures) (number .0) (start .pre),
+      text-stored (args .x) (args .dump .now) (args .from) _ _ _ (now (args .output)) (args .at) _ (adn-at .ensures) (name .ensures)
+          (rest .ensures) (number .0) (start .pre) _ _ _ (number .1) (put .ensures .1) (put2 .ensures .1),
     )
 
 pub put-record-spec : {M : Type 1} → statement M

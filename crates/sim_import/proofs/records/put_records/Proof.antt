@@ -12,7 +12,8 @@ use Rattle.sim_import.proofs.records.put_records.Statement.{statement}
 use Rattle.sim_import.proofs.records.put_records.Tie as tie
 
 abbrev Inv-loop : tie.InvT-loop
-Inv-loop dump x output₀ count base used₀ k₀ output used k = Writing (map (recordAt x dump) (offsets count output₀)) (length output₀ - 8 * count) output₀ output used k
+Inv-loop dump x output₀ count base used₀ k₀ output used k =
+    Writing (map (recordAt x dump) (offsets count output₀)) (length output₀ - 8 * count) output₀ output used k
 
 abbrev μ-loop : tie.MeasureT-loop
 μ-loop dump x output₀ count base used₀ k₀ output used k = count - k
