@@ -178,6 +178,19 @@ zs_written zs_write(const uint8_t *metadata, size_t metadata_len, const uint8_t 
  * room; after one the output is zeros. Every call writes every byte of the output. Output of twice the dump's length is always enough. */
 zs_written zs_import_sim(const uint8_t *dump, size_t dump_len, uint64_t name_length, uint8_t *output, size_t output_len);
 
+/* Stores: how to bring a file that zs_write made (lend `output` and `length` of its answer) to a disk, so that a power cut leaves no wrong
+ * one. Store i (0 to 3) goes to `offset` of the file on the disk, which is empty before store 0; bytes that are leapt over are zeros. The bytes
+ * are `length` bytes of the lent file from `offset` on, but those of store 0 are zs_unfinished. In order: the unfinished magic, all blocks,
+ * the header from byte 8 through its CRC, the magic. The stores must arrive in this order, and a sync goes before the last (and one after it,
+ * where the file must be there for good). All four together give the file; after any of them, and any first part of the next, zs_check
+ * refuses with 2 or 3, or the file is byte for byte the finished one.
+ * 0, 0 where there is no store: i is above 3, or the bytes don't begin with the magic, or are shorter than their header. So after a refusal of
+ * zs_write there is none, neither of `length` bytes of the output, which are none, nor of the whole output. */
+zs_part zs_store(const uint8_t *file, size_t file_len, uint64_t i);
+
+/* The bytes of store 0: with what an unfinished file begins. */
+static const uint8_t zs_unfinished[8] = {0xab, 0x5a, 0x53, 0x74, 0x6f, 0x42, 0x65, 0x01};
+
 #ifdef __cplusplus
 }
 #endif

@@ -149,6 +149,7 @@ extern "C" {
         output: *mut u8,
         output_len: usize,
     ) -> Written;
+    fn zs_store(file: *const u8, file_len: usize, i: u64) -> Part;
 }
 
 /// Checks the file. `work` needs a place for each ordinary block and is all zeros afterwards.
@@ -277,6 +278,47 @@ pub fn import_sim(dump: &[u8], name_length: u64, output: &mut [u8]) -> Written {
             output.len(),
         )
     }
+}
+
+/// With what an unfinished file begins.
+pub const UNFINISHED: [u8; 8] = *b"\xabZStoBe\x01";
+
+/// How many stores a finished file has.
+pub const STORES: u64 = 4;
+
+/// Bytes, and the offset of a file where they go.
+#[derive(Clone, Copy, Debug, PartialEq, Eq)]
+pub struct Store<'a> {
+    /// Where the first byte goes.
+    pub offset: u64,
+    /// The bytes.
+    pub bytes: &'a [u8],
+}
+
+/// Where store `i` of a finished file goes, and how long it is; offset and length 0 where there is none.
+pub fn store_part(file: &[u8], i: u64) -> Part {
+    // SAFETY: the pointer comes with the length of the slice it is taken from.
+    unsafe { zs_store(file.as_ptr(), file.len(), i) }
+}
+
+/// The stores that make a finished file out of an empty one, in their order: the unfinished magic, all blocks, the header from byte 8 on, the
+/// magic. Other bytes, those of a refused [`write`] among them, have none. Whoever carries them out syncs before the last.
+pub fn stores(file: &[u8]) -> impl Iterator<Item = Store<'_>> {
+    let count = match store_part(file, 0).length {
+        0 => 0,
+        _ => STORES,
+    };
+    (0..count).map(move |i| {
+        let part = store_part(file, i);
+        let bytes = match i {
+            0 => &UNFINISHED,
+            _ => bytes_of(file, part),
+        };
+        Store {
+            offset: part.offset,
+            bytes,
+        }
+    })
 }
 
 /// Maps a whole file.

@@ -69,6 +69,14 @@ length-begins [] x e = zero-le
 length-begins (a ∷ p) [] e = absurd (begins-none a p e)
 length-begins (a ∷ p) (b ∷ x) e = suc-le-suc (length-begins p x (begins-cons a b p x e .1))
 
+-- a shorter list doesn't begin with p
+pub begins-short : (p x : List ℕ) → length x < length p → begins p x ≡ false
+begins-short p x few = go (begins p x) refl
+  where
+    go : (b : Bool) → begins p x ≡ b → begins p x ≡ false
+    go true e = absurd (omega (arith, few, length-begins p x e))
+    go false e = e
+
 -- a beginning that is as long as the list is the list
 pub begins-whole : (p x : List ℕ) → begins p x ≡ true → length x ≤ length p → p ≡ x
 begins-whole p x e h = sym (take-begins p x e) ∙ take-all (length p) x h

@@ -1,6 +1,7 @@
 // The header of a file: its numbers, its layout and its rules (refusals 1 to 9).
 ghost use mathlib.Core.Path.{_≡_};
 ghost use mathlib.Core.Bool.{true};
+ghost use Rattle.byte_string.specs.Order.{begins};
 ghost use Rattle.header.specs.Header as header;
 ghost use Rattle.header.specs.Metadata.{isMetadata};
 ghost use Rattle.header.specs.MetadataPart.{metadataPart};
@@ -63,8 +64,7 @@ impl Header {
         if byte_string::compare(unfinished, file).begins(unfinished.len()) {
             return HeaderOutcome::Refused(2);
         }
-        let magic = b"\xabZSfiLe\x01";
-        if !byte_string::compare(magic, file).begins(magic.len()) {
+        if !has_magic(file) {
             return HeaderOutcome::Refused(3);
         }
         if !holds_header(file) {
@@ -74,8 +74,16 @@ impl Header {
     }
 }
 
+// Whether the file begins with the magic of a finished one.
+pub fn has_magic(file: &[u8]) -> bool
+    ensures { λ r. ⌜ r ≡ begins header.magic (now (file .entry)) ⌝ }
+{
+    let magic = b"\xabZSfiLe\x01";
+    byte_string::compare(magic, file).begins(magic.len())
+}
+
 // Whether the header data and their CRC lie within the file.
-fn holds_header(file: &[u8]) -> bool
+pub fn holds_header(file: &[u8]) -> bool
     ensures { λ r. ⌜ r ≡ header.holdsHeader (now (file .entry)) ⌝ }
 {
     if file.len() < Header::AROUND {

@@ -1,7 +1,7 @@
 // The C interface: thin exports. Each has the contract of the function that it calls, and beside it what the theorems say of that very call:
-// check, read, search, write and import are decided by the rules of their formats. include/zs.h documents the interface for callers.
+// check, read, search, write and import are decided by the rules of their formats, and what is written can be stored safely. include/zs.h documents the interface for callers.
 //
-// C can't receive a slice as a result, so zs_record and zs_metadata hand back where the part lies.
+// C can't receive a slice as a result, so zs_record, zs_metadata and zs_store hand back where the part lies.
 ghost use mathlib.Core.Bool.{true};
 ghost use mathlib.Core.Logic.{_↔_};
 ghost use mathlib.Core.Path.{_≡_};
@@ -16,12 +16,14 @@ ghost use Rattle.checker.specs.Check.{checkOf, checkAnswer};
 ghost use Rattle.search.specs.Search.{searchOf, searchAnswer, openedList, resultList};
 ghost use Rattle.written.specs.Written.{writtenAnswer, writtenOutput};
 ghost use Rattle.writer.specs.Write.{writeOf};
+ghost use Rattle.stores.specs.FileStores.{storePart};
 ghost use Rattle.sim_import.specs.Import.{importOf};
 ghost use Rattle.theorems_check.specs.CheckedByRules.{CheckedByRules};
 ghost use Rattle.theorems_read.specs.ReadByRules.{ReadByRules};
 ghost use Rattle.theorems_search.specs.SearchedByRules.{SearchedByRules};
 ghost use Rattle.theorems_search.specs.Locality.{SearchedLocally};
 ghost use Rattle.theorems_write.specs.WrittenByRules.{WrittenByRules};
+ghost use Rattle.theorems_stores.specs.StoredByRules.{StoreByRules, WrittenInStores};
 ghost use Rattle.theorems_import.specs.ImportedByRules.{ImportedByRules};
 use checker::Checked;
 use part::Part;
@@ -148,8 +150,19 @@ pub extern "C" fn zs_write(
         (writeOf (now (metadata .entry)) (now (records .entry)) «per_block» «per_index» (length (now (output .entry)))) ⌝ }
     ensures { λ r. ⌜ WrittenByRules (now (metadata .entry)) (now (records .entry)) «per_block» «per_index»
         (length (now (output .entry))) r (now (output .exit)) ⌝ }
+    ensures { λ r. ⌜ WrittenInStores (now (metadata .entry)) (now (records .entry)) «per_block» «per_index»
+        (length (now (output .entry))) r (now (output .exit)) ⌝ }
 {
     writer::write(metadata, records, per_block, per_index, output)
+}
+
+// Where store i of a finished file goes, and how long it is (`stores::store`); offset and length 0 where there is none.
+#[no_mangle]
+pub extern "C" fn zs_store(file: &[u8], i: u64) -> Part
+    ensures { λ r. ⌜ r ≡ storePart (now (file .entry)) i ⌝ }
+    ensures { λ r. ⌜ StoreByRules (now (file .entry)) i r ⌝ }
+{
+    stores::store(file, i)
 }
 
 // Imports a dump of a SIM phonebook (`sim_import::import_sim`).

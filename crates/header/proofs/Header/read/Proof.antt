@@ -6,7 +6,7 @@ use borrow.Author.Needs.{needs}
 use borrow.Author.Tests.{not-true, not-false}
 use Rattle.byte_string.specs.Order.{begins}
 use Rattle.byte_string.proofs.ComparisonLaws.{compared-begins}
-use Rattle.header.specs.Header.{magic, unfinishedMagic, holdsHeader, headerSaid}
+use Rattle.header.specs.Header.{unfinishedMagic, holdsHeader, headerSaid}
 use Rattle.header.proofs.RuleLaws.{header-long, header-unfinished, header-magic, Opened, header-cut, header-data}
 use Rattle.header.proofs.Header.read.Statement.{statement}
 use Rattle.header.proofs.Header.read.Tie as tie
@@ -32,35 +32,25 @@ returns-2 c =
     let if1 = c .before .before .before .before .before .if1 in
     sym (header-unfinished _ (if1 .left) (sym (unfinished (c .before)) ∙ c .if2 .taken))
 
-compare-requires-2 : tie.Need-compare-requires-2
-compare-requires-2 c κs = search needs
-
-begins-requires-2 : tie.Need-begins-requires-2
-begins-requires-2 c κs = search needs
-
--- the test of the magic
-magic-stands : (c : tie.After-begins2)
-    → let file = c .before .before .before .before .before .before .before .before .before .before .before .args .file .now in
-    c .begins2 .result ≡ begins magic file
-unfolding magic
-magic-stands c = c .begins2 .ensures ∙ compared-begins _ _ _ (c .before .compare2 .ensures)
+has-magic-requires : tie.Need-has-magic-requires
+has-magic-requires c κs = search needs
 
 returns-3 : tie.Need-returns-3
 unfolding headerSaid
 returns-3 c =
-    let b = c .before .before .before .before .before in
+    let b = c .before .before in
     sym
     (header-magic _ (b .before .before .before .before .before .if1 .left) (sym (unfinished (b .before)) ∙ b .if2 .left)
-    (sym (magic-stands (c .before)) ∙ not-true _ (c .if3 .taken)))
+    (sym (c .before .has-magic .ensures) ∙ not-true _ (c .if3 .taken)))
 
 -- the refusals 1 to 3 are past
-opened : (c : tie.Else3) → Opened (c .before .before .before .before .before .before .before .before .before .before .before .before .args .file .now)
+opened : (c : tie.Else3) → Opened (c .before .before .before .before .before .before .before .before .before .args .file .now)
 opened c =
-    let b = c .before .before .before .before .before in
+    let b = c .before .before in
     record {
       small = b .before .before .before .before .before .if1 .left;
       finished = sym (unfinished (b .before)) ∙ b .if2 .left;
-      opens = sym (magic-stands (c .before)) ∙ not-false _ (c .if3 .left);
+      opens = sym (c .before .has-magic .ensures) ∙ not-false _ (c .if3 .left);
     }
 
 holds-header-requires : tie.Need-holds-header-requires
@@ -71,9 +61,7 @@ unfolding headerSaid
 returns-4 c = sym (header-cut _ (opened (c .before .before)) (sym (c .before .holds-header .ensures) ∙ not-true _ (c .if4 .taken)))
 
 -- the header data lie within the file
-held : (c : tie.Else4)
-    → let file = c .before .before .before .before .before .before .before .before .before .before .before .before .before .before .args .file .now in
-    holdsHeader file ≡ true
+held : (c : tie.Else4) → holdsHeader (c .before .before .before .before .before .before .before .before .before .before .before .args .file .now) ≡ true
 held c = sym (c .before .holds-header .ensures) ∙ not-false _ (c .if4 .left)
 
 data-requires : tie.Need-data-requires
@@ -92,8 +80,7 @@ read-spec =
     compare-requires
     begins-requires
     returns-2
-    compare-requires-2
-    begins-requires-2
+    has-magic-requires
     returns-3
     holds-header-requires
     returns-4

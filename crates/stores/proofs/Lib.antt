@@ -1,0 +1,3 @@
+-- Laws of stores.
+pub mod CarryOutLaws
+pub mod FileStoreLaws

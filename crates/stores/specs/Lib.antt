@@ -1,0 +1,3 @@
+-- The meaning of stores.
+pub mod Store
+pub mod FileStores

@@ -1,0 +1,4 @@
+-- Theorems about stores.
+pub mod CutTheorems
+pub mod StoreTheorems
+pub mod WrittenTheorems

@@ -1,0 +1,2 @@
+-- What is claimed of stores.
+pub mod StoredByRules

@@ -1,0 +1,1 @@
+// What stores give; no code.
