@@ -54,6 +54,18 @@ pub enum Call {
         /// Bytes of the output.
         output: usize,
     },
+    /// Where a store of the file goes, and all of its stores.
+    Store {
+        /// The number of the store.
+        i: u64,
+    },
+    /// Carrying out the stores of a written file up to a cut, and the check of what is there then.
+    Cut {
+        /// How many whole stores arrive.
+        whole: usize,
+        /// How many bytes of the next one.
+        bytes: usize,
+    },
 }
 
 /// How the lists of a call, or its output, compare with what its answer needs.
@@ -108,6 +120,12 @@ impl Call {
                 output,
             } => {
                 format!("call: import_sim\nbytes of a name field: {name_length}\nbytes of the output: {output}\n")
+            }
+            Call::Store { i } => format!("call: store\nnumber: {i}\n"),
+            Call::Cut { whole, bytes } => {
+                format!(
+                    "call: check after a cut\nwhole stores: {whole}\nbytes of the next: {bytes}\n"
+                )
             }
         }
     }

@@ -4,6 +4,7 @@ use crate::call::{Call, Room};
 use crate::dumps::Dump;
 use crate::inputs::Input;
 use crate::queries::{narrow_range, query};
+use crate::store_calls::draw_stores;
 use zs_reference::maker::random::Random;
 use zs_reference::reader::{check, read, search, Checked, Query};
 use zs_reference::sim::import;
@@ -87,6 +88,7 @@ pub fn draw_calls(random: &mut Random, file: &[u8], strings: &[Vec<u8>]) -> Vec<
     }
     add_records(random, file, &mut calls);
     calls.push((Call::Metadata, Room::Any));
+    calls.extend(draw_stores(random, 1));
     calls
 }
 

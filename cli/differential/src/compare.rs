@@ -4,6 +4,7 @@ use crate::call::Call;
 use crate::frames::{data_payloads, frames, header_end};
 use crate::lent::Lent;
 use crate::outcome::Outcome;
+use crate::store_cases::{compare_after_write, compare_cut, compare_store};
 use zs_library as library;
 use zs_reference::maker::encode;
 use zs_reference::maker::random::Random;
@@ -34,6 +35,8 @@ pub fn compare(random: &mut Random, bytes: &[u8], call: &Call) -> Outcome {
             name_length,
             output,
         } => import_sim(random, lent.part(), *name_length, *output),
+        Call::Store { i } => compare_store(lent.part(), *i),
+        Call::Cut { whole, bytes } => compare_cut(lent.part(), *whole, *bytes),
     };
     outcome.require(lent.is_unchanged(), "the bytes were changed");
     outcome
@@ -141,6 +144,7 @@ fn write(
     let given = library::write(metadata.part(), records, counts, output.part_mut());
     let mut outcome = compare_output(due, given, &output);
     outcome.require(metadata.is_unchanged(), "the metadata were changed");
+    compare_after_write(&mut outcome, written(given, &output), output.part());
     if outcome.number == 0 {
         read_back(&mut outcome, written(given, &output), records);
         let whole = writer::write_by(

@@ -11,6 +11,7 @@ use crate::inputs::draw_input;
 use crate::keys::{keys, kinds, Kinds};
 use crate::queries::strings_of;
 use crate::shapes::shape;
+use crate::store_calls::{draw_cuts, draw_edge, draw_stores};
 use zs_reference::maker::random::{bend, Random};
 use zs_reference::maker::texts::{change, grow};
 use zs_reference::maker::{edges, Image};
@@ -19,13 +20,15 @@ use zs_reference::sim::import;
 use zs_reference::writer::write;
 
 /// Of so many numbers the last one is for the recognisers of metadata.
-const TURNS: u64 = 19;
+const TURNS: u64 = 20;
 /// The first are for the readers.
 const READERS: u64 = 10;
 /// The two after them are for the writers.
 const WRITERS: u64 = 2;
-/// Then these are for the imports.
+/// Then these are for the imports, and the one after them is for bytes that may have stores.
 const IMPORTS: u64 = 6;
+/// Byte strings of one number that may have stores.
+const EDGES: usize = 10;
 /// Texts of one number.
 const TEXTS: usize = 100;
 /// How deep texts are nested: little mostly, and about as deep as metadata may be.
@@ -34,7 +37,7 @@ const DEPTHS: [usize; 14] = [1, 1, 1, 1, 2, 2, 2, 3, 3, 5, 20, 63, 64, 65];
 /// Bytes and the calls on them.
 #[derive(Debug, Clone)]
 pub struct Drawing {
-    /// The bytes of a file, the records that a writer is given, a dump, or a text.
+    /// The bytes of a file or those that may have stores, the records that a writer is given, a dump, or a text.
     pub bytes: Vec<u8>,
     /// The root's level, where the independent reader accepts the file; 0 for a dump that isn't refused.
     pub accepted: Option<u8>,
@@ -48,7 +51,8 @@ pub struct Drawing {
     pub random: Random,
 }
 
-/// Makes the drawings of this number: a file, records and the file written, a dump, or texts. The same seed and number give the same ones.
+/// Makes the drawings of this number: a file, records and the file written, a dump, bytes that may have stores, or texts. The same seed and
+/// number give the same ones.
 pub fn draw(seed: u64, number: u64) -> Vec<Drawing> {
     let mut random = Random::new(Random::new(seed ^ number.rotate_left(32)).next());
     let (round, turn) = (number / TURNS, number % TURNS);
@@ -63,6 +67,9 @@ pub fn draw(seed: u64, number: u64) -> Vec<Drawing> {
     let turn = turn - WRITERS;
     if turn < IMPORTS {
         return vec![draw_imported(random, round * IMPORTS + turn)];
+    }
+    if turn == IMPORTS {
+        return (0..EDGES).map(|_| on_edge(&mut random)).collect();
     }
     let texts: Vec<Vec<u8>> = (0..TEXTS).map(|_| draw_text(&mut random)).collect();
     on_texts(random, texts).collect()
@@ -83,6 +90,18 @@ fn on_texts(mut random: Random, texts: Vec<Vec<u8>>) -> impl Iterator<Item = Dra
         dump_kinds: dump_kinds::Kinds::default(),
         random: Random::new(random.next()),
     })
+}
+
+/// Bytes that may have stores, and the calls for some of these.
+fn on_edge(random: &mut Random) -> Drawing {
+    Drawing {
+        bytes: draw_edge(random),
+        accepted: None,
+        calls: draw_stores(random, 3),
+        kinds: Kinds::default(),
+        dump_kinds: dump_kinds::Kinds::default(),
+        random: Random::new(random.next()),
+    }
 }
 
 /// Draws a text that is grown from the grammar, and then has at most two bytes changed.
@@ -108,14 +127,17 @@ fn on_file(mut random: Random, file: Vec<u8>, strings: &[Vec<u8>]) -> Drawing {
     }
 }
 
-/// Records and the calls of the writer on them; then, where they are written, the file.
+/// Records and the calls of the writer on them; then, where they are written, the file, with cuts of its stores too.
 fn draw_written(mut random: Random, turn: u64) -> Vec<Drawing> {
     let input = draw_input(&mut random, turn);
     let calls = draw_writes(&mut random, &input);
     let file = write(&input.metadata, &input.records, input.counts, usize::MAX);
     let file = file.map(|file| {
         let strings = [&input.strings[..], &keys(&input)].concat();
-        on_file(Random::new(random.next()), file, &strings)
+        let mut drawing = on_file(Random::new(random.next()), file, &strings);
+        let cuts = draw_cuts(&mut drawing.random, &drawing.bytes);
+        drawing.calls.extend(cuts);
+        drawing
     });
     let records = Drawing {
         accepted: file.as_ref().ok().and_then(|drawing| drawing.accepted),

@@ -9,7 +9,7 @@ const MOST_PRINTED: usize = 3;
 #[derive(Debug, Clone, Default)]
 pub struct Outcome {
     /// The refusal that is due, or 0. For a record 0 if it lies within the file and 1 if not; for metadata 0 if there are any and 1 if not;
-    /// for a text 0 if it is metadata and 1 if not.
+    /// for a text 0 if it is metadata and 1 if not; for a store 0 if there is one and 1 if not; for a cut what the check gives then.
     pub number: u64,
     /// How many matches are due.
     pub matches: u64,

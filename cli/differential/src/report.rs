@@ -4,6 +4,7 @@ use std::fmt;
 
 use crate::dump_kinds;
 use crate::keys;
+use crate::store_kinds;
 use crate::tally::Tally;
 use zs_library::refusals::GREATEST;
 
@@ -47,6 +48,26 @@ impl Tally {
         }
         Ok(())
     }
+
+    fn write_stores(&self, out: &mut fmt::Formatter<'_>) -> fmt::Result {
+        let [there, none] = self.stores;
+        writeln!(
+            out,
+            "stores: {there} asked for that there are, {none} that there aren't"
+        )?;
+        writeln!(
+            out,
+            "  cuts by how many whole stores arrive, and what the check gives then:"
+        )?;
+        for ((whole, number), count) in &self.cuts {
+            writeln!(out, "    {count:4} after {whole}: {number}")?;
+        }
+        writeln!(out, "  files by what was asked of them:")?;
+        for (name, count) in store_kinds::names().zip(self.store_kinds) {
+            writeln!(out, "    {count:4} have {name}")?;
+        }
+        Ok(())
+    }
 }
 
 impl fmt::Display for Tally {
@@ -81,9 +102,10 @@ impl fmt::Display for Tally {
         )?;
         self.write_inputs(out)?;
         self.write_dumps(out)?;
+        self.write_stores(out)?;
         write!(
             out,
-            "{} files, inputs, dumps and rows of texts, {} cases, {} differ",
+            "{} files, inputs, dumps and rows of bytes and texts, {} cases, {} differ",
             self.steps,
             self.cases(),
             self.differing

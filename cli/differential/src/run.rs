@@ -60,7 +60,7 @@ impl Run {
 
     /// Compares all calls of a drawing.
     fn compare_all(&mut self, name: &str, mut drawing: Drawing) -> io::Result<()> {
-        self.tally.add_kinds(&drawing.kinds, &drawing.dump_kinds);
+        self.tally.add_kinds(&drawing);
         for (at, (call, room)) in drawing.calls.iter().enumerate() {
             let outcome = compare(&mut drawing.random, &drawing.bytes, call);
             self.tally.add(drawing.accepted, call, *room, &outcome);

@@ -3,11 +3,13 @@
 use std::collections::BTreeMap;
 
 use crate::call::{Call, Room};
+use crate::drawing::Drawing;
 use crate::dump_faults::FAR;
 use crate::dump_kinds;
 use crate::dumps::FIELDS;
 use crate::keys;
 use crate::outcome::Outcome;
+use crate::store_kinds;
 use zs_library::refusals;
 
 /// The refusal that no drawn file gets: it takes more than 2^30 bytes.
@@ -19,10 +21,34 @@ const LEAST_DEEP: u64 = 5000;
 /// The least count of texts that are metadata, and of others.
 const LEAST_TEXTS: u64 = 25_000;
 
+/// How many whole stores arrive before a cut, and what the check can give then: 0 for the finished file.
+const CUTS: [(usize, u64); 8] = [
+    (0, 3),
+    (0, 2),
+    (1, 2),
+    (2, 2),
+    (3, 2),
+    (3, 3),
+    (3, 0),
+    (4, 0),
+];
+
 /// The numbers that a call must give: 0, for no refusal, and its refusals.
 fn due_numbers(call: refusals::Call) -> impl Iterator<Item = u64> {
     let refusals = refusals::numbers(call).filter(|number| *number != TOO_LONG);
     std::iter::once(0).chain(refusals)
+}
+
+/// Counts which of the kinds there are.
+fn count<const N: usize>(counts: &mut [u64; N], kinds: &[bool; N]) {
+    for (count, holds) in counts.iter_mut().zip(kinds) {
+        *count += u64::from(*holds);
+    }
+}
+
+/// Those that came up too rarely.
+fn rare<T>(counts: impl Iterator<Item = (T, u64)>) -> impl Iterator<Item = (T, u64)> {
+    counts.filter(|(_, count)| *count < LEAST)
 }
 
 /// Counts of one call.
@@ -52,7 +78,8 @@ impl Column {
 /// Counts of a run.
 #[derive(Debug, Clone, Default)]
 pub struct Tally {
-    /// Steps taken: files drawn for the readers, inputs drawn for the writers, dumps drawn for the imports, and rows of texts.
+    /// Steps taken: files drawn for the readers, inputs drawn for the writers, dumps drawn for the imports, rows of texts, and rows of bytes
+    /// that may have stores.
     pub steps: u64,
     /// Of the check.
     pub check: Column,
@@ -70,10 +97,16 @@ pub struct Tally {
     pub metadata: [u64; 2],
     /// Texts that are metadata, and others.
     pub texts: [u64; 2],
+    /// Stores asked for that there are, and others.
+    pub stores: [u64; 2],
+    /// Cuts by how many whole stores arrive and what the check gives then.
+    pub cuts: BTreeMap<(usize, u64), u64>,
     /// Inputs written, by what their records are like where data blocks meet.
     pub kinds: [u64; keys::COUNT],
     /// Dumps imported, by what their records are like.
     pub dump_kinds: [u64; dump_kinds::COUNT],
+    /// Files by what the stores asked for and the cuts are like.
+    pub store_kinds: [u64; store_kinds::COUNT],
     /// The lengths of name fields that came up, and how many dumps with records were imported with each.
     pub name_lengths: BTreeMap<u64, u64>,
     /// Searches of accepted files with two or more levels below the root, one for each query.
@@ -103,6 +136,8 @@ impl Tally {
             Call::Record { .. } => return self.records[parity] += 1,
             Call::Metadata => return self.metadata[parity] += 1,
             Call::IsMetadata => return self.texts[parity] += 1,
+            Call::Store { .. } => return self.stores[parity] += 1,
+            Call::Cut { whole, .. } => return *self.cuts.entry((*whole, number)).or_default() += 1,
         };
         *column.numbers.entry(number).or_default() += 1;
         let level = match accepted {
@@ -126,12 +161,12 @@ impl Tally {
         }
     }
 
-    /// Counts one input of the writers, or one dump.
-    pub fn add_kinds(&mut self, kinds: &keys::Kinds, dump_kinds: &dump_kinds::Kinds) {
-        let counts = self.kinds.iter_mut().chain(&mut self.dump_kinds);
-        for (count, holds) in counts.zip(kinds.iter().chain(dump_kinds)) {
-            *count += u64::from(*holds);
-        }
+    /// Counts what a drawing is like.
+    pub fn add_kinds(&mut self, drawing: &Drawing) {
+        count(&mut self.kinds, &drawing.kinds);
+        count(&mut self.dump_kinds, &drawing.dump_kinds);
+        let store_kinds = store_kinds::kinds(&drawing.bytes, &drawing.calls);
+        count(&mut self.store_kinds, &store_kinds);
     }
 
     /// The calls that can refuse, and their counts.
@@ -151,31 +186,42 @@ impl Tally {
         let counted = columns
             .iter()
             .flat_map(|(_, column)| column.numbers.values());
-        let others = [self.records, self.metadata, self.texts];
-        counted.sum::<u64>() + others.iter().flatten().sum::<u64>()
+        let others = [self.records, self.metadata, self.texts, self.stores];
+        let others = others.iter().flatten().chain(self.cuts.values());
+        counted.chain(others).sum()
+    }
+
+    /// Cuts after so many whole stores with which the check gave this number.
+    fn cut(&self, cut: (usize, u64)) -> u64 {
+        self.cuts.get(&cut).copied().unwrap_or(0)
     }
 
     /// Numbers that a call can give and didn't give often enough.
     fn rare_numbers(&self) -> Vec<String> {
-        let mut rare = Vec::new();
+        let mut numbers = Vec::new();
         for (call, column) in self.columns() {
             let counts = due_numbers(call).map(|number| (number, column.count(number)));
-            let few = counts.filter(|(_, count)| *count < LEAST);
-            rare.extend(few.map(|(number, count)| format!("{call:?} {number}: {count} times")));
+            let few = rare(counts);
+            numbers.extend(few.map(|(number, count)| format!("{call:?} {number}: {count} times")));
         }
-        rare
+        numbers
     }
 
     /// What the run falls short of.
     pub fn shortfalls(&self) -> Vec<String> {
         let mut missing = self.rare_numbers();
-        let borders = keys::names().zip(self.kinds);
-        let rare = borders.filter(|(_, count)| *count < LEAST);
-        missing
-            .extend(rare.map(|(name, count)| format!("{name} where blocks meet: {count} times")));
-        let dumps = dump_kinds::names().zip(self.dump_kinds);
-        let rare = dumps.filter(|(_, count)| *count < LEAST);
-        missing.extend(rare.map(|(name, count)| format!("dumps with {name}: {count} times")));
+        let borders = rare(keys::names().zip(self.kinds));
+        missing.extend(
+            borders.map(|(name, count)| format!("{name} where blocks meet: {count} times")),
+        );
+        let dumps = rare(dump_kinds::names().zip(self.dump_kinds));
+        missing.extend(dumps.map(|(name, count)| format!("dumps with {name}: {count} times")));
+        let stores = rare(store_kinds::names().zip(self.store_kinds));
+        missing.extend(stores.map(|(name, count)| format!("stores with {name}: {count} times")));
+        let cuts = rare(CUTS.map(|cut| (cut, self.cut(cut))).into_iter());
+        missing.extend(cuts.map(|((whole, number), count)| {
+            format!("{number} after {whole} stores: {count} times")
+        }));
         missing.extend(self.missing_lengths());
         let unmet = self.demands().into_iter().filter(|(met, _)| !met);
         missing.extend(unmet.map(|(_, what)| what.to_string()));

@@ -5,6 +5,7 @@
 //!
 //! * [`reader`] checks, reads and searches files, and hands back records.
 //! * [`writer`] writes files from metadata and records.
+//! * [`stores`] gives the stores by which a finished file comes to a disk, and what a cut leaves of them.
 //! * [`sim`] imports SIM phonebooks: records for the writer.
 //! * [`maker`] builds files: sound ones, unusual ones and damaged ones.
 //! * [`corpus`] names a fixed set of files and cases with the answers due.
@@ -20,4 +21,5 @@ pub mod maker;
 pub mod reader;
 pub mod samples;
 pub mod sim;
+pub mod stores;
 pub mod writer;

@@ -230,6 +230,37 @@ fn lines_have_their_form() {
     assert_eq!(record, due);
 }
 
+#[test]
+fn lines_of_stores_have_their_form() {
+    let of_store = |i| line(Call::Store, |case| case.offset = i);
+    assert_eq!(of_store(1), "two-blocks store 1: offset 106 length 48");
+    assert_eq!(of_store(3), "two-blocks store 3: offset 0 length 8");
+    assert_eq!(of_store(4), "two-blocks store 4: offset 0 length 0");
+}
+
+/// Of the files on which stores are asked for, those that have any: they begin with the good magic, and don't end before their header does.
+#[test]
+fn files_with_stores() {
+    let lines = Corpus::whole().with_calls(&[Call::Store]).lines();
+    let with_stores: Vec<&str> = lines
+        .lines()
+        .filter_map(|line| line.strip_suffix(" store 0: offset 0 length 8"))
+        .collect();
+    let due = [
+        "smallest",
+        "two-blocks",
+        "meta-long",
+        "8-cut-blocks",
+        "6-h-0",
+        "6-h-0-alone",
+        "17-no-blocks",
+    ];
+    assert_eq!(
+        BTreeSet::from_iter(with_stores.iter().copied()),
+        BTreeSet::from(due)
+    );
+}
+
 /// The hashes are those of the file in FORMAT.md with one zero after it, and of 129 zeros.
 #[test]
 fn lines_of_writes_have_their_form() {

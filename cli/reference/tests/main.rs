@@ -8,5 +8,6 @@ mod opening;
 mod samples;
 mod sim;
 mod sim_drawn;
+mod stores;
 mod support;
 mod writer;

@@ -10,6 +10,7 @@ mod lists;
 mod print;
 mod read;
 mod record_part;
+mod store_part;
 mod write;
 
 use cases::Case;
@@ -38,6 +39,7 @@ fn answer(file: &[u8], stored: &[u8], case: Case) {
         4 => record_part::run(file, case),
         5 => write::run(file, stored, case),
         6 => import_sim::run(file, case),
+        7 => store_part::run(file, case),
         _ => print::number(b" unknown call ", call as u64),
     }
     print::text(b"\n");

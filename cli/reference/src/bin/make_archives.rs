@@ -1,7 +1,7 @@
-//! `make-archives DIR [read] [check] [search] [record] [write] [import_sim]`
+//! `make-archives DIR [read] [check] [search] [record] [write] [import_sim] [store]`
 //!
 //! Writes the corpus: `DIR/data/*` are the files, `DIR/data/cases`, `DIR/data/more-cases`,
-//! `DIR/data/write-cases` and `DIR/data/import-cases` the cases of the calls named (all six if none
+//! `DIR/data/write-cases` and `DIR/data/import-cases` the cases of the calls named (all seven if none
 //! is), and `DIR/stdout` the lines due. The same calls always give the same bytes.
 
 use std::error::Error;
@@ -12,7 +12,7 @@ use std::process::ExitCode;
 use zs_reference::corpus::{Call, Corpus, ALL_CALLS};
 
 const USAGE: &str =
-    "usage: make-archives DIR [read] [check] [search] [record] [write] [import_sim]";
+    "usage: make-archives DIR [read] [check] [search] [record] [write] [import_sim] [store]";
 
 fn main() -> ExitCode {
     let arguments: Vec<String> = std::env::args().skip(1).collect();

@@ -215,6 +215,11 @@ impl Corpus {
         }
     }
 
+    /// Asks for store `i`.
+    pub fn store(&mut self, name: &str, i: u64) {
+        self.cases.push(Case::store(name, i));
+    }
+
     /// Asks for the records that a query finds, some of them.
     pub fn ask_records(&mut self, name: &str, query: &Query, some: usize) {
         let answer = read(&self.bytes_of(name), query, usize::from(MOST_PLACES));

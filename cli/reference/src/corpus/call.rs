@@ -15,16 +15,19 @@ pub enum Call {
     Write,
     /// Importing the SIM phonebook of which the file is a dump.
     ImportSim,
+    /// Where a store of the file goes.
+    Store,
 }
 
 /// Every call, in the order of their numbers.
-pub const ALL_CALLS: [Call; 6] = [
+pub const ALL_CALLS: [Call; 7] = [
     Call::Read,
     Call::Check,
     Call::Search,
     Call::Record,
     Call::Write,
     Call::ImportSim,
+    Call::Store,
 ];
 
 impl Call {
@@ -37,6 +40,7 @@ impl Call {
             Call::Record => 4,
             Call::Write => 5,
             Call::ImportSim => 6,
+            Call::Store => 7,
         }
     }
 
@@ -49,6 +53,7 @@ impl Call {
             Call::Record => "record",
             Call::Write => "write",
             Call::ImportSim => "import_sim",
+            Call::Store => "store",
         }
     }
 

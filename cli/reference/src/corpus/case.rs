@@ -4,10 +4,11 @@ use super::call::Call;
 use crate::checksums::sha256;
 use crate::reader::{check, read, record, search, within, Query};
 use crate::sim::import;
+use crate::stores::store_part;
 use crate::writer::{write, Counts};
 
-/// A case. What its call doesn't use is zero or empty. A write and an import have some of the fields for their own, as [`Case::write`] and
-/// [`Case::import`] say.
+/// A case. What its call doesn't use is zero or empty. A write, an import and a store have some of the fields for their own, as
+/// [`Case::write`], [`Case::import`] and [`Case::store`] say.
 #[derive(Debug, Clone, PartialEq, Eq)]
 pub struct Case {
     /// Name of the file.
@@ -68,6 +69,13 @@ impl Case {
         case
     }
 
+    /// A store. Its number stands for the offset.
+    pub fn store(name: &str, i: u64) -> Self {
+        let mut case = Case::new(name, Call::Store);
+        case.offset = i;
+        case
+    }
+
     /// The same case under a query.
     pub fn with_query(mut self, query: &Query) -> Self {
         self.start = query.start.clone();
@@ -111,6 +119,7 @@ impl Case {
             Call::Record => self.record_line(file),
             Call::Write => self.write_line(self.written(file)),
             Call::ImportSim => self.import_line(file),
+            Call::Store => self.store_line(file),
         };
         self.line_with(&answer)
     }
@@ -208,6 +217,11 @@ impl Case {
         let room = usize::from(self.result_places);
         let answer = import(dump, self.offset, room);
         format!("{} {}", self.offset, self.output_words(answer))
+    }
+
+    fn store_line(&self, file: &[u8]) -> String {
+        let (offset, length) = store_part(file, self.offset);
+        format!("{}: offset {offset} length {length}", self.offset)
     }
 
     /// The bytes of the output, and the answer of a call that fills one.

@@ -1,7 +1,7 @@
 //! The stored corpus: named files, cases to run on them, and the lines due.
 //!
 //! Each file carries a claim of its maker, so that the tests can compare what the
-//! maker meant with what the reader says. Lines come from the reader, the writer and the import alone,
+//! maker meant with what the reader says. Lines come from this library alone,
 //! but for writes whose file docs/FORMAT.md has: those come from that page.
 
 mod build;
@@ -19,6 +19,7 @@ mod order_faults;
 mod payload_faults;
 mod queried;
 mod sound;
+mod stored;
 mod two_faults;
 mod written;
 
@@ -96,6 +97,7 @@ impl Corpus {
         two_faults::add(&mut corpus);
         hostile::add(&mut corpus);
         drawn::add(&mut corpus);
+        stored::add(&mut corpus);
         written::add(&mut corpus);
         imported::add(&mut corpus);
         corpus.gather();
