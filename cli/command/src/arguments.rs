@@ -98,6 +98,9 @@ pub struct NewArchive {
     /// Replace a file that is there already, once the new one is whole
     #[arg(long)]
     pub force: bool,
+    /// Write OUT itself and not a file beside it, for disks that can't rename; with --force what was there is lost at once
+    #[arg(long)]
+    pub in_place: bool,
 }
 
 #[derive(Args)]

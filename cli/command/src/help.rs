@@ -30,6 +30,7 @@ pub const MAKE_EXAMPLES: &str = "Examples:
   zs make '{}' names.txt names.zs --terminator '\\r\\n'    lines as Windows has them
   zs make @about.json records out.zs --length-prefixed u64le
   LC_ALL=C sort names.txt | zs make '{}' - names.zs
+  zs make '{}' names.txt stick/names.zs --in-place
   zs dump old.zs --length-prefixed uleb128 |
     zs make \"$(zs info -m old.zs)\" - new.zs --length-prefixed uleb128 --records-per-block 50";
 
@@ -54,12 +55,19 @@ records are binary, so that a dump of all of them needs --length-prefixed.";
 pub const SIM_EXAMPLES: &str = "Examples:
   zs import sim card.adn card.zs --name-length 14 --metadata '{\"about\": \"my card\"}'
   zs import sim card.adn card.zs --name-length 20 --metadata @about.json --force
+  zs import sim card.adn stick/card.zs --name-length 14 --metadata '{}' --in-place
   cat one.adn two.adn | zs import sim - both.zs --name-length 14 --metadata '{}'
   zs dump card.zs --prefix Ada | od -An -c";
 
 /// Of every command that makes an archive.
-pub const OUT: &str = "OUT appears once it is whole, and not at all after a refusal. A file that is there already is kept,
-unless --force is given.";
+pub const OUT: &str = "OUT appears once it is whole and on the disk, and not at all after a refusal. A file that is there
+already is kept, unless --force is given. A power cut leaves OUT as it was, or whole.
+
+With --in-place OUT itself is written, which has to be a plain file. Until it is whole it is refused
+as unfinished (2) or as no ZS file (3), also after a power cut. After a failure a new OUT is removed;
+with --force what OUT held is gone, and OUT is to be made again.
+
+A pipe, a device and standard output get the archive front to back.";
 
 pub const VALIDATE_EXAMPLES: &str = "Examples:
   zs validate contacts.zs

@@ -9,8 +9,8 @@
 //! * [`records`], [`encoding`], [`writing`], [`making`]: records one after the other in an input, and the archive that the library makes
 //!   of them, from what is asked to a file.
 //! * [`make`], [`import`], [`validate`], [`dump`], [`info`], [`explain`]: one module for each command.
-//! * [`output`], [`target`], [`temporary`], [`signals`], [`system`]: where answers are written, and how a file appears only when it is
-//!   whole.
+//! * [`output`], [`target`], [`storing`], [`unfinished`], [`signals`], [`system`]: where answers are written, how an archive comes to the
+//!   disk, and how a file appears only when it is whole.
 //! * [`terminal`], [`progress`], [`failure`]: text and progress on a terminal, and what went wrong.
 //! * [`layout`], [`walk`], [`metadata`]: fields, bounds and faults for display, and what a check or a search would take.
 #![deny(unsafe_code)]
@@ -41,11 +41,12 @@ mod records;
 mod refusals;
 #[allow(unsafe_code)]
 mod signals;
+mod storing;
 #[allow(unsafe_code)]
 mod system;
 mod target;
-mod temporary;
 mod terminal;
+mod unfinished;
 mod usage;
 mod validate;
 mod walk;

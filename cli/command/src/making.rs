@@ -55,7 +55,7 @@ impl<'a> Order<'a> {
             };
             draft.make()
         })?;
-        output.write(&|out| out.write_all(&made.file))?;
+        output.store(&made.file)?;
         let line = describe(name, &records, &made);
         line_output.map_or(Ok(()), |out| {
             out.write(&|out| out.write_all(line.as_bytes()))
@@ -111,6 +111,9 @@ impl<'a> Order<'a> {
         let name = &self.archive.output;
         let mut output = Output::find(Some(name))?;
         self.refuse_inputs(&output)?;
+        if self.archive.in_place {
+            output.write_in_place()?;
+        }
         if !self.archive.force {
             output.keep_existing()?;
         }

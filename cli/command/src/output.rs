@@ -1,4 +1,4 @@
-//! Where answers are written: standard output, or a file that appears only when it is whole.
+//! Where answers are written: standard output, or a file that appears only when it is whole, unless an archive is to be written in place.
 
 use std::fs::{File, Metadata, OpenOptions};
 use std::io::{self, BufWriter, ErrorKind, Write};
@@ -9,9 +9,10 @@ use crate::cut_files::note_writing;
 use crate::escapes::escape_name;
 use crate::failure::{in_words, Failure};
 use crate::input::system_path;
+use crate::storing::{carry_out, store_new, store_over, sync_folder};
 use crate::system;
 use crate::target::{folder_of, Target};
-use crate::temporary::Temporary;
+use crate::unfinished::{Unfinished, USUAL};
 
 const BUFFER: usize = 1 << 16;
 
@@ -24,6 +25,8 @@ pub struct Output {
     target: Target,
     /// Whether a file that comes to have this name meanwhile is replaced.
     replaces: bool,
+    /// Whether an archive is written to the target itself, and not under a temporary name.
+    in_place: bool,
 }
 
 impl Output {
@@ -38,6 +41,7 @@ impl Output {
                 name,
                 target,
                 replaces: true,
+                in_place: false,
             }),
             Err(error) => Err(describe(&name, &error)),
         }
@@ -67,9 +71,29 @@ impl Output {
         }
     }
 
+    /// From here on an archive goes to the target itself, which has to be a plain file.
+    pub fn write_in_place(&mut self) -> Result<(), Failure> {
+        if !self.is_plain() {
+            let reason = "only a plain file, given by its name, can be; leave out --in-place";
+            let words = format!("can't write {} in place: {reason}", self.name);
+            return Err(Failure::Trouble(words));
+        }
+        self.in_place = true;
+        Ok(())
+    }
+
     /// Whether this is a plain file, or will be one.
     pub fn is_plain(&self) -> bool {
-        matches!(self.target, Target::Plain(..) | Target::New(_))
+        self.plain().is_some()
+    }
+
+    /// The path of a plain file, and the file that is there already.
+    fn plain(&self) -> Option<(&Path, Option<&Metadata>)> {
+        match &self.target {
+            Target::Plain(path, about) => Some((path, Some(about))),
+            Target::New(path) => Some((path, None)),
+            Target::Open(_) | Target::Special(_) => None,
+        }
     }
 
     pub fn is_file(&self, path: &Path) -> bool {
@@ -78,34 +102,74 @@ impl Output {
 
     /// Sees that a file can be made where this one will be. A pipe or a device isn't tried.
     pub fn try_folder(&self) -> Result<(), Failure> {
-        let made = match &self.target {
-            Target::Plain(path, about) => create_beside(path, Some(about)),
-            Target::New(path) => create_beside(path, None),
-            Target::Open(_) | Target::Special(_) => return Ok(()),
+        let made = match (self.in_place, self.plain()) {
+            (false, Some((path, old))) => create_beside(path, old),
+            (true, Some((path, None))) => Unfinished::create(path.to_path_buf(), USUAL),
+            // No file is made.
+            (true, Some((_, Some(_)))) | (_, None) => return Ok(()),
         };
         // The file is removed at once.
         made.map(drop).map_err(|error| describe(&self.name, &error))
     }
 
+    /// Writes an answer front to back.
     pub fn write(&self, writing: &Writing) -> Result<(), Failure> {
+        let to_disk = |file: &File| write_buffered(file, writing).and_then(|()| file.sync_all());
         let outcome = match &self.target {
             Target::Open(file) => write_through(file, writing),
             Target::Special(path) => OpenOptions::new()
                 .write(true)
                 .open(path)
                 .and_then(|file| write_through(&file, writing)),
-            Target::Plain(path, about) => {
-                write_whole(path, Some(about), Temporary::rename, writing)
-            }
-            Target::New(path) if self.replaces => {
-                write_whole(path, None, Temporary::rename, writing)
-            }
-            Target::New(path) => write_whole(path, None, Temporary::take_free_name, writing),
+            Target::Plain(path, about) => self.write_whole(path, Some(about), &to_disk),
+            Target::New(path) => self.write_whole(path, None, &to_disk),
         };
+        if let (Ok(()), Some((path, _))) = (&outcome, self.plain()) {
+            // The file is whole under this name or under the old one.
+            let _ = sync_folder(path);
+        }
         outcome.map_err(|error| match error.kind() {
             ErrorKind::BrokenPipe => Failure::ReaderGone,
             _ => describe(&self.name, &error),
         })
+    }
+
+    /// Writes an archive: a plain file by its stores, and anything else front to back, since a pipe takes nothing in another order.
+    pub fn store(&self, archive: &[u8]) -> Result<(), Failure> {
+        let (path, old) = match self.plain() {
+            Some(plain) => plain,
+            None => return self.write(&|out| out.write_all(archive)),
+        };
+        let outcome = match (self.in_place, old) {
+            (false, _) => self.write_whole(path, old, &|file| carry_out(archive, file)),
+            (true, None) => match store_new(path, archive) {
+                Err(error) if self.replaces && error.kind() == ErrorKind::AlreadyExists => {
+                    store_over(path, archive)
+                }
+                outcome => outcome,
+            },
+            (true, Some(_)) => store_over(path, archive),
+        };
+        outcome.map_err(|error| describe(&self.name, &error))?;
+        match self.in_place {
+            true => Ok(()),
+            false => sync_folder(path).map_err(|error| doubt_name(&self.name, &error)),
+        }
+    }
+
+    /// Fills a file under a temporary name beside the target, and gives it its name once everything is there.
+    fn write_whole(
+        &self,
+        target: &Path,
+        old: Option<&Metadata>,
+        filling: &Filling,
+    ) -> io::Result<()> {
+        let new = create_beside(target, old)?;
+        filling(new.file())?;
+        match self.replaces {
+            true => new.rename(target),
+            false => new.take_free_name(target),
+        }
     }
 }
 
@@ -155,35 +219,28 @@ fn write_buffered(file: &File, writing: &Writing) -> io::Result<()> {
     outcome
 }
 
-/// How a temporary file gets its name.
-type Naming = fn(Temporary, &Path) -> io::Result<()>;
+/// What gives an empty file its contents, up to their being on the disk.
+type Filling<'a> = dyn Fn(&File) -> io::Result<()> + 'a;
 
-/// Writes under a temporary name beside the target, and gives the file its name once everything is there.
-fn write_whole(
-    target: &Path,
-    old: Option<&Metadata>,
-    naming: Naming,
-    writing: &Writing,
-) -> io::Result<()> {
-    let temporary = create_beside(target, old)?;
-    write_buffered(temporary.file(), writing)?;
-    naming(temporary, target)?;
-    // The file is whole under this name or under the old one. Some folders can't be synced; that is no failure.
-    let _ = File::open(folder_of(target)).and_then(|folder| folder.sync_all());
-    Ok(())
+/// Says what is left to fear where only the folder isn't on the disk.
+fn doubt_name(name: &str, error: &io::Error) -> Failure {
+    let words = "the archive is whole and in its place, but at a power cut its name may be lost";
+    Failure::Trouble(format!(
+        "{name}: {words}: {error}; look after the disk, then run sync"
+    ))
 }
 
-fn create_beside(target: &Path, old: Option<&Metadata>) -> io::Result<Temporary> {
+fn create_beside(target: &Path, old: Option<&Metadata>) -> io::Result<Unfinished> {
     let folder = folder_of(target);
     match old {
         Some(old) => create_like(old, folder),
-        None => Temporary::create_in(folder, 0o666),
+        None => Unfinished::create_in(folder, USUAL),
     }
 }
 
 /// Creates a file with the owner, the group and the permissions of the one that it will replace. Before, nobody else may open it.
-fn create_like(old: &Metadata, folder: &Path) -> io::Result<Temporary> {
-    let temporary = Temporary::create_in(folder, 0o600)
+fn create_like(old: &Metadata, folder: &Path) -> io::Result<Unfinished> {
+    let temporary = Unfinished::create_in(folder, 0o600)
         .map_err(|error| explain("no file can be made beside it", &error))?;
     let file = temporary.file();
     let new = file.metadata()?;

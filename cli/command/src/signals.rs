@@ -27,6 +27,25 @@ const ENDING: [libc::c_int; 13] = [
 /// The name of the unfinished file, or null.
 static UNFINISHED: AtomicPtr<libc::c_char> = AtomicPtr::new(ptr::null_mut());
 
+/// Does something without being interrupted by a signal that ends the process: one that comes meanwhile is handled afterwards, also SIGBUS,
+/// which `cut_files` handles. So no mapped file is read meanwhile. Other threads aren't told, and the command has none when it makes a file.
+pub fn hold_signals<T>(action: impl FnOnce() -> T) -> T {
+    // SAFETY: all zeros are a value of the sets, which are filled before they are read; the numbers are those of signals.
+    let usual = unsafe {
+        let (mut held, mut usual): (libc::sigset_t, libc::sigset_t) = std::mem::zeroed();
+        libc::sigemptyset(&mut held);
+        for signal in ENDING.iter().chain(&[libc::SIGBUS]) {
+            libc::sigaddset(&mut held, *signal);
+        }
+        libc::pthread_sigmask(libc::SIG_BLOCK, &held, &mut usual);
+        usual
+    };
+    let answer = action();
+    // SAFETY: the set is the one that was given above.
+    unsafe { libc::pthread_sigmask(libc::SIG_SETMASK, &usual, ptr::null_mut()) };
+    answer
+}
+
 /// From here on a signal that ends the process removes this file first, if it is there. One file is remembered.
 pub fn remember_unfinished(path: &Path) -> io::Result<()> {
     let name = CString::new(path.as_os_str().as_bytes())?;

@@ -70,17 +70,19 @@ fn make_meanwhile(folder: &Folder, words: &[&str]) -> Run {
 
 #[test]
 fn a_file_that_comes_to_be_there_is_kept() {
-    let folder = Folder::new();
-    let run = make_meanwhile(&folder, &[]);
-    let due = "zs: can't write out: it is there already; --force replaces it\n";
-    assert_eq!((run.status, run.out.len(), run.err.as_str()), (2, 0, due));
-    assert_eq!(contents(&folder, "out"), b"kept");
-    assert_eq!(folder.files(), ["out"]);
-    fs::remove_file(folder.name("out")).expect("a file");
-    let run = make_meanwhile(&folder, &["--force"]);
-    assert_eq!((run.status, run.err.as_str()), (0, ""));
-    assert_eq!(zs(&["validate", &folder.name("out")]).status, 0);
-    assert_eq!(folder.files(), ["out"]);
+    for words in [&[][..], &["--in-place"]] {
+        let folder = Folder::new();
+        let run = make_meanwhile(&folder, words);
+        let due = "zs: can't write out: it is there already; --force replaces it\n";
+        assert_eq!((run.status, run.out.len(), run.err.as_str()), (2, 0, due));
+        assert_eq!(contents(&folder, "out"), b"kept");
+        assert_eq!(folder.files(), ["out"]);
+        fs::remove_file(folder.name("out")).expect("a file");
+        let run = make_meanwhile(&folder, &[words, &["--force"]].concat());
+        assert_eq!((run.status, run.err.as_str()), (0, ""));
+        assert_eq!(zs(&["validate", &folder.name("out")]).status, 0);
+        assert_eq!(folder.files(), ["out"]);
+    }
 }
 
 #[test]

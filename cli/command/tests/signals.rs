@@ -6,6 +6,7 @@ use std::process::{Command, ExitStatus, Stdio};
 use std::thread::sleep;
 use std::time::Duration;
 
+use crate::support::faults::{zs_with_fault, Fault};
 use crate::support::{shell, zs, Folder, CONTACTS, SMALL, ZS};
 
 /// About 190 MB in all: after each of 1500 records nearly the longest argument that there can be.
@@ -70,6 +71,18 @@ fn an_archive_that_is_cut_leaves_the_old_file_and_nothing_else() {
     // SIGBUS comes where a mapped file is cut.
     let status = interrupt_in_time(&["--unchecked"], 7, &Folder::new());
     assert_eq!(status.code(), Some(2), "{status}");
+}
+
+#[test]
+fn no_signal_comes_before_a_file_is_known() {
+    // BUS is handled where a file is mapped, TERM everywhere.
+    for (signal, status) in [(7, 2), (15, -1)] {
+        let folder = Folder::new();
+        let words = ["dump", SMALL, "--unchecked", "-o", "out"];
+        let run = zs_with_fault(&words, &folder, Fault::SignalMade(1, signal));
+        assert_eq!(run.status, status, "{}", run.err);
+        assert_eq!(folder.files(), Vec::<String>::new(), "{signal}");
+    }
 }
 
 #[test]

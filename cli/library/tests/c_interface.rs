@@ -10,7 +10,7 @@ const CXX: &[&str] = &["-x", "c++", "-std=c++11"];
 const STRICT: &[&str] = &["-Wall", "-Wextra", "-Werror", "-pedantic"];
 const TWO_BLOCKS: &str = "crates/test_archives/data/two-blocks";
 
-/// What `interface.c` prints of the calls on the example with two data blocks, of writing its records, and of importing a phonebook.
+/// What `interface.c` prints of the calls on the example with two data blocks, of writing its records, of importing a phonebook, and of stores.
 const CALLS: &str = "\
 check 0 0 3 4
 work 0 0 0 0
@@ -39,6 +39,29 @@ import 32 0 0 0
 import 32 0 0 0
 import 34 0 0 0
 import 33 0 0 0
+write 0 0 154 0
+store 0 8 0 0
+store 106 48 0 0
+store 8 98 0 0
+store 0 8 0 0
+unfinished 1 1 0 0
+store 0 0 0 0
+the file 1 0 0 0
+unfinished 2 0 0 0
+cut header 0 0 0 0
+no block 106 0 0 0
+no magic 0 0 0 0
+write 31 0 0 0
+refused 0 0 0 0
+refused 0 0 0 0
+refused 0 0 0 0
+refused 0 0 0 0
+refused 0 0 0 0
+refused 0 0 0 0
+refused 0 0 0 0
+refused 0 0 0 0
+refused 0 0 0 0
+refused 0 0 0 0
 null file 3 0 0 0
 work 0 0 0 0
 null file 3 0 0 0
@@ -60,6 +83,11 @@ null all 30 0 0 0
 null dump 0 0 0 0
 null output 31 0 0 0
 null all 32 0 0 0
+null file 0 0 0 0
+null file 0 0 0 0
+null file 0 0 0 0
+null file 0 0 0 0
+null file 0 0 0 0
 ";
 
 /// What `lookup.c` prints.

@@ -145,6 +145,31 @@ static void import_and_check(void)
     call_import(dump, sizeof dump, 2, OUTPUT);
 }
 
+/* The stores of the example, which is written again, and one more than there are: carried out on an empty file, they give the example, whose
+ * header and blocks are there before its magic. Then what has no stores: a refused output, one byte less than a header, and no magic. */
+static void call_store(void)
+{
+    size_t written = (size_t)call_write(OUTPUT).length;
+    memset(archive, 0, sizeof archive);
+    for (uint64_t i = 0; i <= 4; i++) {
+        zs_part part = zs_store(output, written, i);
+        print_part("store", part);
+        if (i == 3)
+            print_four("unfinished", memcmp(archive, zs_unfinished, 8) == 0, memcmp(archive + 8, file + 8, length - 8) == 0, 0, 0);
+        memcpy(archive + part.offset, i == 0 ? zs_unfinished : output + part.offset, (size_t)part.length);
+    }
+    print_four("the file", memcmp(archive, file, length) == 0, zs_check(archive, length, work, WORK).number, 0, 0);
+    print_checked("unfinished", zs_check(zs_unfinished, 8, work, WORK));
+    print_part("cut header", zs_store(output, 105, 0));
+    print_part("no block", zs_store(output, 106, 1));
+    print_part("no magic", zs_store(output + 1, written - 1, 0));
+    zs_written refused = call_write(written - 1);
+    for (uint64_t i = 0; i <= 4; i++) {
+        print_part("refused", zs_store(output, (size_t)refused.length, i));
+        print_part("refused", zs_store(output, written - 1, i));
+    }
+}
+
 /* Every pointer is NULL once. */
 static void call_with_null(void)
 {
@@ -173,6 +198,9 @@ static void call_with_null(void)
     print_written("null dump", zs_import_sim(NULL, 0, 241, output, OUTPUT));
     print_written("null output", zs_import_sim((const uint8_t *)"\013 91234567890 ", 14, 0, NULL, 0));
     print_written("null all", zs_import_sim(NULL, 0, 242, NULL, 0));
+
+    for (uint64_t i = 0; i <= 4; i++)
+        print_part("null file", zs_store(NULL, 0, i));
 }
 
 /* Version, and the refusals of a file without its last byte and of a short list by their names. */
@@ -197,6 +225,7 @@ int main(int count, char **words)
     call_all();
     write_and_read();
     import_and_check();
+    call_store();
     call_with_null();
     print_words();
     return 0;

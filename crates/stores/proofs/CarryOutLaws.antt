@@ -1,6 +1,6 @@
 -- What a store does to a file: what stands in front of it stays, and how long the file is then.
 -- Assumes nothing.
-use mathlib.Core.Path.{_≡_, refl, sym, ap, _∙_}
+use mathlib.Core.Path.{_≡_, refl, ap, _∙_}
 use mathlib.Core.Logic.{_≢_}
 use mathlib.Core.Bool.{true}
 use mathlib.Core.List.{List, [], _∷_, _++_, append-nil}
@@ -27,7 +27,7 @@ front file at = take at (padded at file)
 at-least : (file : List ℕ) (at : ℕ) → at ≤ length (padded at file)
 at-least file at =
     let long : length (padded at file) ≡ length file + (at - length file) =
-      ap length (padded-append at file) ∙ length-append file (zeros (at - length file)) ∙ ap (λ (n : ℕ). length file + n) (length-zeros (at - length file)) in
+    ap length (padded-append at file) ∙ length-append file (zeros (at - length file)) ∙ ap (λ (n : ℕ). length file + n) (length-zeros (at - length file)) in
     omega (arith, long)
 
 length-front : (file : List ℕ) (at : ℕ) → length (front file at) ≡ at
@@ -77,6 +77,6 @@ overwritten-long file at [] most h k = h
 overwritten-long file at (x ∷ xs) most h k =
     let rest : List ℕ = drop (at + length (x ∷ xs)) file in
     let long : length (front file at ++ ((x ∷ xs) ++ rest)) ≡ at + (length (x ∷ xs) + (length file - (at + length (x ∷ xs)))) =
-      length-append (front file at) ((x ∷ xs) ++ rest) ∙ ap (λ (n : ℕ). n + length ((x ∷ xs) ++ rest)) (length-front file at)
-      ∙ ap (λ (n : ℕ). at + n) (length-append (x ∷ xs) rest ∙ ap (λ (n : ℕ). length (x ∷ xs) + n) (length-drop (at + length (x ∷ xs)) file)) in
+    length-append (front file at) ((x ∷ xs) ++ rest) ∙ ap (λ (n : ℕ). n + length ((x ∷ xs) ++ rest)) (length-front file at)
+    ∙ ap (λ (n : ℕ). at + n) (length-append (x ∷ xs) rest ∙ ap (λ (n : ℕ). length (x ∷ xs) + n) (length-drop (at + length (x ∷ xs)) file)) in
     omega (arith, long)

@@ -3,7 +3,7 @@
 use mathlib.Core.Path.{_≡_, refl, sym, ap, _∙_, subst}
 use mathlib.Core.Logic.{_≢_, _⊎_, inl, inr}
 use mathlib.Core.Bool.{Bool, true, false}
-use mathlib.Core.List.{List, [], _∷_, _++_}
+use mathlib.Core.List.{List, [], _++_}
 use Prim.Native.Nat.{ℕ, zero, suc, _+_, _^_, _≤_, _<_}
 use native.Mathlib.Omega.{arith}
 use lib.Dec.{leb}
@@ -20,7 +20,7 @@ use Rattle.header.specs.Header.{magic, unfinishedMagic, H, headerOf}
 use Rattle.header.proofs.RuleLaws.{header-unfinished, header-magic}
 use Rattle.checker.specs.Check.{checkWith, checkOf}
 use Rattle.stores.specs.Store.{Store, overwritten, carryOut, carryOutAll, cut}
-use Rattle.stores.specs.FileStores.{hasStores, fourStores, storesOf}
+use Rattle.stores.specs.FileStores.{hasStores, fourStores}
 use Rattle.stores.proofs.CarryOutLaws.{overwritten-none, overwritten-behind, overwritten-next, overwritten-end, overwritten-long}
 use Rattle.stores.proofs.FileStoreLaws.{hasStores⁻¹, stores-four}
 use Rattle.theorems_stores.specs.StoredByRules.{RefusedUnfinished, afterCut, CrashSafe}
@@ -170,6 +170,7 @@ module _ (file : List ℕ) (has : hasStores file ≡ true) where
         let cut-there : List ℕ = overwritten (unfinishedMagic ++ (header ++ blocks)) 0 (take k magic) in
         subst (λ (s : List ℕ). RefusedUnfinished (overwritten s 0 (take k magic)) ⊎ (overwritten s 0 (take k magic) ≡ file)) (sym header-stands)
         (subst (λ (f : List ℕ). RefusedUnfinished cut-there ⊎ (cut-there ≡ f)) apart (last-cut k (header ++ blocks) rest-long))
+
     cuts : (n k : ℕ) → let state = carryOutAll [] (cut n k (fourStores file)) in RefusedUnfinished state ⊎ (state ≡ file)
     unfolding carryOutAll carryOut cut fourStores
     cuts zero k = inl (first-cut k)
@@ -179,8 +180,8 @@ module _ (file : List ℕ) (has : hasStores file ≡ true) where
     cuts (suc (suc (suc zero))) k =
         from-first
         (λ s.
-          let state = overwritten (overwritten (overwritten s (24 + H file) blocks) 8 header) 0 (take k magic) in
-          RefusedUnfinished state ⊎ (state ≡ file))
+        let state = overwritten (overwritten (overwritten s (24 + H file) blocks) 8 header) 0 (take k magic) in
+        RefusedUnfinished state ⊎ (state ≡ file))
         (last-or-file k)
     cuts (suc (suc (suc (suc n)))) k = inr all-stand
 

@@ -15,7 +15,8 @@ use Rattle.header.specs.Header.{magic, unfinishedMagic, H}
 use Rattle.header.proofs.RuleLaws.{holdsHeader-of}
 use Rattle.stores.specs.Store.{Store}
 use Rattle.stores.specs.FileStores.{hasStores, fourStores, storesOf, storePart}
-use Rattle.stores.proofs.FileStoreLaws.{hasStores⁻¹, stores-four, stores-by-header, no-stores, first-store, blocks-store, header-store, last-store, no-more-stores}
+use Rattle.stores.proofs.FileStoreLaws.{hasStores⁻¹, stores-four, stores-by-header, no-stores}
+use Rattle.stores.proofs.FileStoreLaws.{first-store, blocks-store, header-store, last-store, no-more-stores}
 use Rattle.theorems_stores.specs.StoredByRules.{HasStore, bytesOf, StoreByRules}
 
 -- a file with the magic and its header has stores

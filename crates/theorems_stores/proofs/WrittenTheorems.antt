@@ -1,18 +1,17 @@
 -- The stores of what is written are as claimed.
 -- Assumes nothing.
 use mathlib.Core.Path.{_≡_, refl, sym, ap, _∙_, subst}
-use mathlib.Core.Logic.{_≢_}
-use mathlib.Core.Bool.{true, false}
-use mathlib.Core.List.{List, [], _∷_}
-use Prim.Native.Nat.{ℕ, zero, suc, _+_, _^_, _≤_}
+use mathlib.Core.Bool.{false}
+use mathlib.Core.List.{List, []}
+use Prim.Native.Nat.{ℕ, zero, suc}
 use native.Mathlib.Omega.{arith}
 use lib.ListN.{length, take, replicate}
 use Rattle.byte_string.specs.Order.{AreBytes, begins}
 use Rattle.byte_string.proofs.PrefixLaws.{begins-of-take}
-use Rattle.output_list.specs.OutputList.{padded, zeros}
+use Rattle.output_list.specs.OutputList.{zeros}
 use Rattle.output_list.proofs.OutputListLaws.{zeros-replicate, take-padded}
 use Rattle.outcome.specs.Outcome.{Outcome, answer, refused, numberOf, placeOf, countOf, listOf}
-use Rattle.header.specs.Header.{magic, unfinishedMagic}
+use Rattle.header.specs.Header.{magic}
 use Rattle.block.specs.Block.{Block}
 use Rattle.written.specs.declared.Written.{Written}
 use Rattle.written.specs.Written.{writtenAnswer, writtenOutput}

@@ -1,5 +1,6 @@
 // The C interface: thin exports. Each has the contract of the function that it calls, and beside it what the theorems say of that very call:
-// check, read, search, write and import are decided by the rules of their formats, and what is written can be stored safely. include/zs.h documents the interface for callers.
+// check, read, search, write and import are decided by the rules of their formats, and what is written can be stored so that no cut leaves a
+// wrong file. include/zs.h documents the interface for callers.
 //
 // C can't receive a slice as a result, so zs_record, zs_metadata and zs_store hand back where the part lies.
 ghost use mathlib.Core.Bool.{true};

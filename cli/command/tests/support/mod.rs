@@ -1,6 +1,8 @@
 //! Runs the command, and keeps its files in a folder that is removed afterwards.
 
+pub mod faults;
 pub mod sim;
+pub mod states;
 
 use std::ffi::OsStr;
 use std::fs;
