@@ -182,8 +182,8 @@ zs_written zs_import_sim(const uint8_t *dump, size_t dump_len, uint64_t name_len
  * one. Store i (0 to 3) goes to `offset` of the file on the disk, which is empty before store 0; bytes that are leapt over are zeros. The bytes
  * are `length` bytes of the lent file from `offset` on, but those of store 0 are zs_unfinished. In order: the unfinished magic, all blocks,
  * the header from byte 8 through its CRC, the magic. The stores must arrive in this order, and a sync goes before the last (and one after it,
- * where the file must be there for good). All four together give the file; after any of them, and any first part of the next, zs_check
- * refuses with 2 or 3, or the file is byte for byte the finished one.
+ * where the file must be there for good). All four give the file. Wherever they stop, between two stores or within one, zs_check refuses what
+ * is there with 2 or 3, unless it is the whole file already.
  * 0, 0 where there is no store: i is above 3, or the bytes don't begin with the magic, or are shorter than their header. So after a refusal of
  * zs_write there is none, neither of `length` bytes of the output, which are none, nor of the whole output. */
 zs_part zs_store(const uint8_t *file, size_t file_len, uint64_t i);

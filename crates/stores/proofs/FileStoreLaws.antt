@@ -1,12 +1,11 @@
 -- The stores of a file, one by one.
 -- Assumes nothing.
-use mathlib.Core.Path.{_≡_, sym, ap, _∙_}
-use mathlib.Core.Bool.{true, false}
+use mathlib.Core.Path.{_≡_, refl, sym, ap, _∙_}
+use mathlib.Core.Bool.{Bool, true, false, false≢true}
 use mathlib.Core.List.{List, []}
 use Prim.Native.Nat.{ℕ, zero, suc, _+_, _-_, _≤_}
 use native.Mathlib.Omega.{arith}
 use lib.ListN.{length, length-drop, getD}
-use Rattle.lists.proofs.ListsLaws.{both⁻¹, both-false, both-rest}
 use Rattle.byte_string.specs.Order.{begins}
 use Rattle.part.proofs.PartLaws.{length-part}
 use Rattle.header.specs.Header.{magic, unfinishedMagic, H, holdsHeader}
@@ -27,18 +26,19 @@ stores-none file h = rw h
 -- without the magic there are none, and with it the header decides
 pub stores-by-magic : (file : List ℕ) → begins magic file ≡ false → hasStores file ≡ false
 unfolding hasStores
-stores-by-magic file h = both-false (begins magic file) (holdsHeader file) h
+stores-by-magic file h = rw h
 
 pub stores-by-header : (file : List ℕ) → begins magic file ≡ true → hasStores file ≡ holdsHeader file
 unfolding hasStores
-stores-by-header file h = both-rest (begins magic file) (holdsHeader file) h
+stores-by-header file h = rw h
 
 -- a file with stores begins with the magic, and holds its header
 pub hasStores⁻¹ : (file : List ℕ) → hasStores file ≡ true → (begins magic file ≡ true) × (24 + H file ≤ length file)
-unfolding hasStores
-hasStores⁻¹ file h =
-    let parts = both⁻¹ (begins magic file) (holdsHeader file) h in
-    (parts .0, holdsHeader⁻¹ file (parts .1) .1)
+hasStores⁻¹ file h = go (begins magic file) refl
+  where
+    go : (b : Bool) → begins magic file ≡ b → (begins magic file ≡ true) × (24 + H file ≤ length file)
+    go true opens = (opens, holdsHeader⁻¹ file (sym (stores-by-header file opens) ∙ h) .1)
+    go false other = absurd (false≢true (sym (stores-by-magic file other) ∙ h))
 
 -- ---- where store i goes, and how long it is
 

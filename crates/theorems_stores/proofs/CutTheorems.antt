@@ -23,7 +23,7 @@ use Rattle.stores.specs.Store.{Store, overwritten, carryOut, carryOutAll, cut}
 use Rattle.stores.specs.FileStores.{hasStores, fourStores}
 use Rattle.stores.proofs.CarryOutLaws.{overwritten-none, overwritten-behind, overwritten-next, overwritten-end, overwritten-long}
 use Rattle.stores.proofs.FileStoreLaws.{hasStores⁻¹, stores-four}
-use Rattle.theorems_stores.specs.StoredByRules.{RefusedUnfinished, afterCut, CrashSafe}
+use Rattle.theorems_stores.specs.StoredByRules.{RefusedWith2Or3, afterCut, CrashSafe}
 
 -- ---- what the check refuses
 
@@ -32,24 +32,24 @@ unfolding checkOf checkWith
 check-refused file number places e = bind-refused (headerOf file) _ number 0 e
 
 -- the magic is the unfinished one: 2
-with-unfinished : (file : List ℕ) → length file ≤ 2 ^ 30 → begins unfinishedMagic file ≡ true → RefusedUnfinished file
-unfolding RefusedUnfinished
+with-unfinished : (file : List ℕ) → length file ≤ 2 ^ 30 → begins unfinishedMagic file ≡ true → RefusedWith2Or3 file
+unfolding RefusedWith2Or3
 with-unfinished file small u = λ places. inl (check-refused file 2 places (header-unfinished file small u))
 
 -- it is neither: 3
-with-neither : (file : List ℕ) → length file ≤ 2 ^ 30 → begins unfinishedMagic file ≡ false → begins magic file ≡ false → RefusedUnfinished file
-unfolding RefusedUnfinished
+with-neither : (file : List ℕ) → length file ≤ 2 ^ 30 → begins unfinishedMagic file ≡ false → begins magic file ≡ false → RefusedWith2Or3 file
+unfolding RefusedWith2Or3
 with-neither file small u m = λ places. inr (check-refused file 3 places (header-magic file small u m))
 
 -- ---- the magics
 
 -- some bytes of the unfinished magic, and nothing else: all of it, or too few for either
-first-cut : (k : ℕ) → RefusedUnfinished (overwritten [] 0 (take k unfinishedMagic))
+first-cut : (k : ℕ) → RefusedWith2Or3 (overwritten [] 0 (take k unfinishedMagic))
 unfolding unfinishedMagic magic begins
-first-cut k = subst RefusedUnfinished (sym (overwritten-none (take k unfinishedMagic))) (go (leb 8 k) refl)
+first-cut k = subst RefusedWith2Or3 (sym (overwritten-none (take k unfinishedMagic))) (go (leb 8 k) refl)
   where
-    go : (b : Bool) → leb 8 k ≡ b → RefusedUnfinished (take k unfinishedMagic)
-    go true e = subst RefusedUnfinished (sym (take-all k unfinishedMagic (leb-true 8 k e))) (with-unfinished unfinishedMagic (omega arith) refl)
+    go : (b : Bool) → leb 8 k ≡ b → RefusedWith2Or3 (take k unfinishedMagic)
+    go true e = subst RefusedWith2Or3 (sym (take-all k unfinishedMagic (leb-true 8 k e))) (with-unfinished unfinishedMagic (omega arith) refl)
     go false e =
         let few : length (take k unfinishedMagic) < 8 = omega (arith, length-take k unfinishedMagic, leb-false 8 k e) in
         with-neither _ (omega (arith, few)) (begins-short unfinishedMagic (take k unfinishedMagic) few) (begins-short magic (take k unfinishedMagic) few)
@@ -57,7 +57,7 @@ first-cut k = subst RefusedUnfinished (sym (overwritten-none (take k unfinishedM
 -- a finished file's bytes behind the unfinished magic, some of whose bytes the magic has replaced; the two differ in bytes 3 to 5
 last-cut : (k : ℕ) (rest : List ℕ) → 8 + length rest ≤ 2 ^ 30
     → let state = overwritten (unfinishedMagic ++ rest) 0 (take k magic) in
-    RefusedUnfinished state ⊎ (state ≡ magic ++ rest)
+    RefusedWith2Or3 state ⊎ (state ≡ magic ++ rest)
 unfolding overwritten unfinishedMagic magic begins
 last-cut zero rest small = inl (with-unfinished _ (omega arith) refl)
 last-cut (suc zero) rest small = inl (with-unfinished _ (omega arith) refl)
@@ -150,12 +150,12 @@ module _ (file : List ℕ) (has : hasStores file ≡ true) where
       (ap (λ (s : List ℕ). overwritten s 0 magic) header-stands ∙ magic-stands)
 
   module _ (small : length file ≤ 2 ^ 30) where
-    blocks-refused : (k : ℕ) → RefusedUnfinished (overwritten unfinishedMagic (24 + H file) (take k blocks))
+    blocks-refused : (k : ℕ) → RefusedWith2Or3 (overwritten unfinishedMagic (24 + H file) (take k blocks))
     blocks-refused k =
         let few : length (take k blocks) ≤ length blocks = omega (arith, length-take k blocks) in
         with-unfinished _ (omega (arith, blocks-cut-long (take k blocks) few)) (blocks-cut-opens (take k blocks))
 
-    header-refused : (k : ℕ) → RefusedUnfinished (overwritten blocks-stand 8 (take k header))
+    header-refused : (k : ℕ) → RefusedWith2Or3 (overwritten blocks-stand 8 (take k header))
     header-refused k =
         let few : length (take k header) ≤ length header = omega (arith, length-take k header) in
         with-unfinished _ (omega (arith, header-cut-long (take k header) few)) (header-cut-opens (take k header))
@@ -165,23 +165,23 @@ module _ (file : List ℕ) (has : hasStores file ≡ true) where
     unfolding magic
     rest-long = omega (arith, ap length apart)
 
-    last-or-file : (k : ℕ) → let state = overwritten (overwritten blocks-stand 8 header) 0 (take k magic) in RefusedUnfinished state ⊎ (state ≡ file)
+    last-or-file : (k : ℕ) → let state = overwritten (overwritten blocks-stand 8 header) 0 (take k magic) in RefusedWith2Or3 state ⊎ (state ≡ file)
     last-or-file k =
         let cut-there : List ℕ = overwritten (unfinishedMagic ++ (header ++ blocks)) 0 (take k magic) in
-        subst (λ (s : List ℕ). RefusedUnfinished (overwritten s 0 (take k magic)) ⊎ (overwritten s 0 (take k magic) ≡ file)) (sym header-stands)
-        (subst (λ (f : List ℕ). RefusedUnfinished cut-there ⊎ (cut-there ≡ f)) apart (last-cut k (header ++ blocks) rest-long))
+        subst (λ (s : List ℕ). RefusedWith2Or3 (overwritten s 0 (take k magic)) ⊎ (overwritten s 0 (take k magic) ≡ file)) (sym header-stands)
+        (subst (λ (f : List ℕ). RefusedWith2Or3 cut-there ⊎ (cut-there ≡ f)) apart (last-cut k (header ++ blocks) rest-long))
 
-    cuts : (n k : ℕ) → let state = carryOutAll [] (cut n k (fourStores file)) in RefusedUnfinished state ⊎ (state ≡ file)
+    cuts : (n k : ℕ) → let state = carryOutAll [] (cut n k (fourStores file)) in RefusedWith2Or3 state ⊎ (state ≡ file)
     unfolding carryOutAll carryOut cut fourStores
     cuts zero k = inl (first-cut k)
-    cuts (suc zero) k = inl (from-first (λ s. RefusedUnfinished (overwritten s (24 + H file) (take k blocks))) (blocks-refused k))
+    cuts (suc zero) k = inl (from-first (λ s. RefusedWith2Or3 (overwritten s (24 + H file) (take k blocks))) (blocks-refused k))
     cuts (suc (suc zero)) k =
-        inl (from-first (λ s. RefusedUnfinished (overwritten (overwritten s (24 + H file) blocks) 8 (take k header))) (header-refused k))
+        inl (from-first (λ s. RefusedWith2Or3 (overwritten (overwritten s (24 + H file) blocks) 8 (take k header))) (header-refused k))
     cuts (suc (suc (suc zero))) k =
         from-first
         (λ s.
         let state = overwritten (overwritten (overwritten s (24 + H file) blocks) 8 header) 0 (take k magic) in
-        RefusedUnfinished state ⊎ (state ≡ file))
+        RefusedWith2Or3 state ⊎ (state ≡ file))
         (last-or-file k)
     cuts (suc (suc (suc (suc n)))) k = inr all-stand
 
@@ -192,5 +192,5 @@ module _ (file : List ℕ) (has : hasStores file ≡ true) where
         record {
           four = ap length four;
           all = ap (carryOutAll []) four ∙ all-stand;
-          cuts = λ n k. subst (λ (ss : List Store). let state = carryOutAll [] (cut n k ss) in RefusedUnfinished state ⊎ (state ≡ file)) (sym four) (cuts n k);
+          cuts = λ n k. subst (λ (ss : List Store). let state = carryOutAll [] (cut n k ss) in RefusedWith2Or3 state ⊎ (state ≡ file)) (sym four) (cuts n k);
         }

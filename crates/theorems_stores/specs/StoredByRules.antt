@@ -40,8 +40,8 @@ pub record StoreByRules (file : List ℕ) (i : ℕ) (r : Part) : Type 0 where
 -- ---- cuts
 
 -- the check refuses with 2 or 3, whatever its work list
-unfoldable pub RefusedUnfinished : List ℕ → Type 0
-RefusedUnfinished file = (places : ℕ) → (checkOf file places ≡ refused 2 0) ⊎ (checkOf file places ≡ refused 3 0)
+unfoldable pub RefusedWith2Or3 : List ℕ → Type 0
+RefusedWith2Or3 file = (places : ℕ) → (checkOf file places ≡ refused 2 0) ⊎ (checkOf file places ≡ refused 3 0)
 
 -- what stands where the stores of a file went, from nothing, when so many whole ones and so many bytes of the next had arrived
 unfoldable pub afterCut : (file : List ℕ) (whole bytes : ℕ) → List ℕ
@@ -51,7 +51,7 @@ afterCut file whole bytes = carryOutAll [] (cut whole bytes (storesOf file))
 pub record CrashSafe (file : List ℕ) : Type 0 where
   pub four : length (storesOf file) ≡ 4
   pub all : carryOutAll [] (storesOf file) ≡ file
-  pub cuts : (whole bytes : ℕ) → RefusedUnfinished (afterCut file whole bytes) ⊎ (afterCut file whole bytes ≡ file)
+  pub cuts : (whole bytes : ℕ) → RefusedWith2Or3 (afterCut file whole bytes) ⊎ (afterCut file whole bytes ≡ file)
 
 -- ---- the writer's stores
 
