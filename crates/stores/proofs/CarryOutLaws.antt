@@ -1,13 +1,13 @@
 -- What a store does to a file: what stands in front of it stays, and how long the file is then.
 -- Assumes nothing.
-use mathlib.Core.Path.{_≡_, refl, ap, _∙_}
+use mathlib.Core.Path.{_≡_, refl, sym, ap, _∙_}
 use mathlib.Core.Logic.{_≢_}
 use mathlib.Core.Bool.{true}
 use mathlib.Core.List.{List, [], _∷_, _++_, append-nil}
 use Prim.Native.Nat.{ℕ, _+_, _-_, _≤_}
 use native.Mathlib.Omega.{arith}
 use lib.ListN.{length, take, drop, length-append, length-drop, drop-of-length-le}
-use lib.Seq.{drop-nil, length-take-le, take-append-le, take-take, drop-at}
+use lib.Seq.{take-all, drop-nil, length-take-le, take-append-le, take-take, drop-at}
 use Rattle.byte_string.specs.Order.{begins}
 use Rattle.byte_string.proofs.PrefixLaws.{begins-of-take, take-begins, length-begins}
 use Rattle.output_list.specs.OutputList.{padded, zeros}
@@ -58,8 +58,8 @@ overwritten-next p file (x ∷ xs) b some = ap (λ (q : List ℕ). q ++ ((x ∷ 
   where
     whole : front file (length p) ≡ p
     whole =
-        ap (take (length p)) (padded-append (length p) file)
-        ∙ take-append-le (length p) file (zeros (length p - length file)) (length-begins p file b) ∙ take-begins p file b
+        sym (take-all (length p) (front file (length p)) (omega (arith, length-front file (length p))))
+        ∙ front-begins p file (length p) b (omega arith)
 
 -- a store past the end is what stands there
 pub overwritten-end : (file : List ℕ) (at : ℕ) (bytes : List ℕ) → length file ≤ at → drop at (overwritten file at bytes) ≡ bytes
