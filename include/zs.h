@@ -21,6 +21,7 @@
  *   work      file_len / 11, since a block with records or entries takes 11 bytes or more
  *   opened    on a file that zs_check accepts: `blocks` of its answer
  *   results   on a file that zs_check accepts: twice `records` of its answer; for zs_read on any bytes: 2 * file_len
+ *   list      of zs_compare: five times the sum of `records` of both files
  *   output    of zs_write: 2^30 bytes, since no file is longer; of zs_import_sim: 2 * dump_len
  * On other bytes there is no such length for zs_search: they can lead to one block again and again, and only the length of the opened
  * list bounds how often.
@@ -40,9 +41,13 @@ typedef struct zs_read_answer { uint64_t number, place, matches; } zs_read_answe
 typedef struct zs_checked { uint64_t number, place, blocks, records; } zs_checked;
 typedef struct zs_found { uint64_t number, place, matches, opened; } zs_found;
 typedef struct zs_written { uint64_t number, place, length; } zs_written;
+typedef struct zs_compared { uint64_t number, place, which, differences; int64_t sum; } zs_compared;
 
 /* A part of the file. */
 typedef struct zs_part { uint64_t offset, length; } zs_part;
+
+/* A part of the first of two files (which is 1) or of the second (which is 2). */
+typedef struct zs_shown { uint64_t which, offset, length; } zs_shown;
 
 /* ---- Refusals: what `number` can be. README.md says what the place of each is, and what to do about it. */
 
@@ -81,7 +86,8 @@ typedef enum zs_refusal {
     ZS_OUTPUT_SHORT = 31,
     ZS_BAD_DUMP = 32,
     ZS_BAD_NAME = 33,
-    ZS_BAD_NUMBER_LENGTH = 34
+    ZS_BAD_NUMBER_LENGTH = 34,
+    ZS_DIFFERENCE_LIST_SHORT = 35
 } zs_refusal;
 
 /* What a number means, in a sentence. "This block" is the one at the place. */
@@ -123,6 +129,7 @@ static inline const char *zs_message(uint64_t number)
     case ZS_BAD_DUMP: return "the dump isn't whole records: its length is no multiple of the name length plus 14, or the name length is above 241";
     case ZS_BAD_NAME: return "the name of a record isn't formed as one, or isn't followed by FF bytes to the end of its field";
     case ZS_BAD_NUMBER_LENGTH: return "a record states a number of more than 11 bytes";
+    case ZS_DIFFERENCE_LIST_SHORT: return "there are more differences than the list has room for";
     default: return "no refusal has this number";
     }
 }
@@ -187,6 +194,21 @@ zs_written zs_import_sim(const uint8_t *dump, size_t dump_len, uint64_t name_len
  * 0, 0 where there is no store: i is above 3, or the bytes don't begin with the magic, or are shorter than their header. So after a refusal of
  * zs_write there is none, neither of `length` bytes of the output, which are none, nor of the whole output. */
 zs_part zs_store(const uint8_t *file, size_t file_len, uint64_t i);
+
+/* Compares two files: which records are stored a different number of times in them. The list receives five numbers for each such record, in
+ * rising order and once: the file from which it is shown, 1 or 2; the offset of its first copy there, and its length; how many copies the first
+ * file has, and how many the second. It is shown from the first file where it is stored there. `differences` counts them, and `sum` adds up the
+ * copies in the second less those in the first, which is the second file's number of records less the first's.
+ * Refusals in this order: those of zs_check for the first file, those for the second, each with its place and with `which` 1 or 2; then 35: the
+ * list hasn't five places for each difference. One work list serves both checks; it needs a place for each ordinary block of either file, and is
+ * all zeros after every call. After a refusal `sum` is 0 too; but for a refused file `which` is 0. */
+zs_compared zs_compare(const uint8_t *first, size_t first_len, const uint8_t *second, size_t second_len, uint64_t *work, size_t work_len,
+                       uint64_t *list, size_t list_len);
+
+/* Where a record lies that zs_compare lists, from the first three of its numbers: that part of the first file where `which` is 1, of the second
+ * where it is 2. 1, 0, 0 where `which` is any other number, or the part isn't within that file. */
+zs_shown zs_show(const uint8_t *first, size_t first_len, const uint8_t *second, size_t second_len, uint64_t which, uint64_t offset,
+                 uint64_t length);
 
 /* The bytes of store 0: with what an unfinished file begins. */
 static const uint8_t zs_unfinished[8] = {0xab, 0x5a, 0x53, 0x74, 0x6f, 0x42, 0x65, 0x01};

@@ -78,6 +78,22 @@ pub struct Written {
     pub length: u64,
 }
 
+/// Number and place of a refusal, both 0 without one, which of two files is refused, and how the files differ.
+#[repr(C)]
+#[derive(Clone, Copy, Debug, PartialEq, Eq)]
+pub struct Compared {
+    /// The refusal, or 0.
+    pub number: u64,
+    /// Its place, or 0.
+    pub place: u64,
+    /// The file that is refused, 1 or 2, or 0.
+    pub which: u64,
+    /// How many records are stored a different number of times.
+    pub differences: u64,
+    /// The copies of these in the second file less those in the first, added up.
+    pub sum: i64,
+}
+
 /// How many records a data block holds, and how many entries an index block.
 #[derive(Clone, Copy, Debug, PartialEq, Eq)]
 pub struct Counts {
@@ -92,6 +108,18 @@ pub struct Counts {
 #[derive(Clone, Copy, Debug, PartialEq, Eq)]
 pub struct Part {
     /// The offset of its first byte.
+    pub offset: u64,
+    /// Its length.
+    pub length: u64,
+}
+
+/// A part of one of two files.
+#[repr(C)]
+#[derive(Clone, Copy, Debug, PartialEq, Eq)]
+pub struct Shown {
+    /// The file, 1 or 2.
+    pub which: u64,
+    /// The offset of the part's first byte.
     pub offset: u64,
     /// Its length.
     pub length: u64,
@@ -150,6 +178,25 @@ extern "C" {
         output_len: usize,
     ) -> Written;
     fn zs_store(file: *const u8, file_len: usize, i: u64) -> Part;
+    fn zs_compare(
+        first: *const u8,
+        first_len: usize,
+        second: *const u8,
+        second_len: usize,
+        work: *mut u64,
+        work_len: usize,
+        list: *mut u64,
+        list_len: usize,
+    ) -> Compared;
+    fn zs_show(
+        first: *const u8,
+        first_len: usize,
+        second: *const u8,
+        second_len: usize,
+        which: u64,
+        offset: u64,
+        length: u64,
+    ) -> Shown;
 }
 
 /// Checks the file. `work` needs a place for each ordinary block and is all zeros afterwards.
@@ -278,6 +325,60 @@ pub fn import_sim(dump: &[u8], name_length: u64, output: &mut [u8]) -> Written {
             output.len(),
         )
     }
+}
+
+/// Compares two files. `list` holds five numbers for each record that is stored a different number of times, in rising order: the file from
+/// which it is shown (1 or 2), the offset of its first copy there, its length, its copies in the first file and in the second; then zeros.
+/// `work` needs a place for each ordinary block of either file and is all zeros afterwards.
+pub fn compare(first: &[u8], second: &[u8], work: &mut [u64], list: &mut [u64]) -> Compared {
+    // SAFETY: each pointer comes with the length of the slice it is taken from; `work` and `list` are each borrowed alone.
+    unsafe {
+        zs_compare(
+            first.as_ptr(),
+            first.len(),
+            second.as_ptr(),
+            second.len(),
+            work.as_mut_ptr(),
+            work.len(),
+            list.as_mut_ptr(),
+            list.len(),
+        )
+    }
+}
+
+/// Where a record of [`compare`]'s list lies; the first file's empty part at 0 where the numbers name no part of either file.
+pub fn show(first: &[u8], second: &[u8], which: u64, offset: u64, length: u64) -> Shown {
+    // SAFETY: each pointer comes with the length of the slice it is taken from.
+    unsafe {
+        zs_show(
+            first.as_ptr(),
+            first.len(),
+            second.as_ptr(),
+            second.len(),
+            which,
+            offset,
+            length,
+        )
+    }
+}
+
+/// That very part of one of the two files; the first file's empty part at 0 where the numbers name no part.
+pub fn shown<'a>(
+    first: &'a [u8],
+    second: &'a [u8],
+    which: u64,
+    offset: u64,
+    length: u64,
+) -> &'a [u8] {
+    let shown = show(first, second, which, offset, length);
+    let file = if shown.which == 2 { second } else { first };
+    bytes_of(
+        file,
+        Part {
+            offset: shown.offset,
+            length: shown.length,
+        },
+    )
 }
 
 /// With what an unfinished file begins.

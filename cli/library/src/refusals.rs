@@ -16,6 +16,8 @@ pub enum Call {
     Write,
     /// [`import_sim`](crate::import_sim).
     ImportSim,
+    /// [`compare`](crate::compare).
+    Compare,
 }
 
 /// A refusal.
@@ -42,6 +44,7 @@ const READ_AND_SEARCH: &[Call] = &[Call::Read, Call::Search];
 const WRITE: &[Call] = &[Call::Write];
 const OUTPUTS: &[Call] = &[Call::Write, Call::ImportSim];
 const IMPORT_SIM: &[Call] = &[Call::ImportSim];
+const COMPARE: &[Call] = &[Call::Compare];
 
 const ZERO: &str = "0";
 const BLOCK: &str = "the block's first byte";
@@ -127,6 +130,8 @@ pub const TABLE: &[Row] = &[
         "give the right length of the name field, or read the card again"),
     row(34, IMPORT_SIM, ZERO, "a record states a number of more than 11 bytes",
         "give the right length of the name field, or read the card again"),
+    row(35, COMPARE, ZERO, "there are more differences than the list has room for",
+        "give a list with five places per difference"),
 ];
 
 const fn row(
