@@ -1,6 +1,6 @@
 -- Laws of blocks as they lie in a file: of an accepted file they are its blocks.
 -- Assumes nothing.
-use mathlib.Core.Path.{_≡_, sym, ap, _∙_}
+use mathlib.Core.Path.{_≡_, refl, sym, ap, _∙_, subst}
 use mathlib.Core.List.{List, []}
 use Prim.Native.Nat.{ℕ, _+_, _-_, _≤_, _<_}
 use native.Mathlib.Omega.{arith}
@@ -12,7 +12,7 @@ use Rattle.items.specs.Items.{Step, soundFrom}
 use Rattle.items.proofs.ItemsLaws.{items⇒sound, items⇒sound-same}
 use Rattle.framing.specs.declared.Frame.{Frame}
 use Rattle.framing.specs.Frame.{frameAt}
-use Rattle.framing.proofs.FrameLaws.{soundFrame⁻¹}
+use Rattle.framing.proofs.FrameLaws.{soundFrame⁻¹, frame⇒Framed}
 use Rattle.payload.specs.Payload.{Text, Entry, textAt, entryAt, payloadAt, recordsAt, entriesAt}
 use Rattle.payload.proofs.ReadLaws.{payload⁻¹}
 use Rattle.block.specs.Block.{Block, blockIn, blockAt, blockStep, blocksAt}
@@ -30,6 +30,30 @@ module _ (file : List ℕ) (at : ℕ) where
   pub laid-refused : (number place : ℕ) → frameAt file at ≡ refused number place → laidAt file at ≡ refused number place
   unfolding laidAt
   laid-refused number place e = bind-refused (frameAt file at) _ number place e
+
+-- ---- a step over a block, taken apart
+
+module _ (file : List ℕ) where
+  pub record LaidStep (at : ℕ) (s : Step Block) : Type 0 where
+    pub framed : frameAt file at ≡ answer (s .item .frame)
+    pub block-is : laidIn file (s .item .frame) ≡ s .item
+    pub next-is : s .next ≡ at + s .item .frame .size
+
+  pub laid⁻¹ : (at : ℕ) (s : Step Block) → laidAt file at ≡ answer s → LaidStep at s
+  unfolding laidAt laidIn
+  laid⁻¹ at s e =
+      let all = bind⁻¹ (frameAt file at) _ s e in
+      subst (LaidStep at) (answer-injective _ s (all .2)) (record { framed = all .1; block-is = refl; next-is = refl })
+
+  pub laid-forward : (at : ℕ) (s : Step Block) → laidAt file at ≡ answer s → at < s .next
+  laid-forward at s e =
+      let q = laid⁻¹ at s e in
+      let next = q .next-is in
+      let l = frame⇒Framed file at (s .item .frame) (q .framed) in
+      let number = l .number in
+      let some = l .some in
+      let sized = l .sized in
+      omega arith
 
 -- ---- items by level
 

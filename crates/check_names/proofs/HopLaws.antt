@@ -20,9 +20,8 @@ use Rattle.framing.proofs.FrameLaws.{frame⇒Framed}
 use Rattle.block.specs.Block.{Block}
 use Rattle.block.specs.Survey.{ordinary}
 use Rattle.block.specs.Laid.{laidIn, laidAt, laidFrom}
-use Rattle.block.proofs.LaidLaws.{laid-found, laid-refused}
+use Rattle.block.proofs.LaidLaws.{laid-found, laid-refused, laid-forward}
 use Rattle.check_names.specs.Starts.{startsOf, Begins}
-use Rattle.check_names.proofs.LaidNamesLaws.{laid-forward}
 use Rattle.check_names.proofs.StartsLaws.{starts-ordinary, starts-reserved, length-starts}
 
 -- a store after the numbers puts one number more

@@ -6,7 +6,6 @@ use Prim.Native.Nat.{ℕ, _+_, _-_, _≤_, _<_}
 use native.Mathlib.Omega.{arith}
 use lib.ListN.{length}
 use Rattle.outcome.specs.Outcome.{answer}
-use Rattle.outcome.proofs.OutcomeLaws.{answer-injective, bind⁻¹}
 use Rattle.items.specs.Items.{Step}
 use Rattle.items.proofs.RunLaws.{Run, run-end, run-more, sound⇒run, ReadFrom, run-member}
 use Rattle.lists.proofs.ListsLaws.{Ascending, AscendingIn, ascending-wider, ascending-all}
@@ -15,32 +14,10 @@ use Rattle.framing.proofs.FrameLaws.{frame⇒Framed}
 use Rattle.payload.specs.Payload.{entryAt}
 use Rattle.block.specs.Block.{Block}
 use Rattle.block.specs.Laid.{laidItems, laidEntries, laidIn, laidAt, laidFrom}
-use Rattle.block.proofs.LaidLaws.{laid-data, laid-index, laid-reserved}
+use Rattle.block.proofs.LaidLaws.{LaidStep, laid⁻¹, laid-forward, laid-data, laid-index, laid-reserved}
 
 module _ (file : List ℕ) where
   -- ---- one block
-
-  -- a step over a block, taken apart
-  pub record LaidStep (at : ℕ) (s : Step Block) : Type 0 where
-    pub framed : frameAt file at ≡ answer (s .item .frame)
-    pub block-is : laidIn file (s .item .frame) ≡ s .item
-    pub next-is : s .next ≡ at + s .item .frame .size
-
-  pub laid⁻¹ : (at : ℕ) (s : Step Block) → laidAt file at ≡ answer s → LaidStep at s
-  unfolding laidAt laidIn
-  laid⁻¹ at s e =
-      let all = bind⁻¹ (frameAt file at) _ s e in
-      subst (LaidStep at) (answer-injective _ s (all .2)) (record { framed = all .1; block-is = refl; next-is = refl })
-
-  pub laid-forward : (at : ℕ) (s : Step Block) → laidAt file at ≡ answer s → at < s .next
-  laid-forward at s e =
-      let q = laid⁻¹ at s e in
-      let next = q .next-is in
-      let l = frame⇒Framed file at (s .item .frame) (q .framed) in
-      let number = l .number in
-      let some = l .some in
-      let sized = l .sized in
-      omega arith
 
   -- a block that lies in the file: the frame at its start is its own, and its items are those of the frame
   pub record LaidBlock (b : Block) : Type 0 where
@@ -48,7 +25,7 @@ module _ (file : List ℕ) where
     pub block-is : laidIn file (b .frame) ≡ b
     pub within : b .frame .start < length file
 
-  step⇒laid : (at : ℕ) (s : Step Block) → at < length file → LaidStep at s → LaidBlock (s .item)
+  step⇒laid : (at : ℕ) (s : Step Block) → at < length file → LaidStep file at s → LaidBlock (s .item)
   step⇒laid at s before q =
       let starts = frame⇒Framed file at (s .item .frame) (q .framed) .starts in
       record { framed = ap (frameAt file) starts ∙ q .framed; block-is = q .block-is; within = omega arith }
@@ -56,10 +33,10 @@ module _ (file : List ℕ) where
   pub laid-member : (from : ℕ) (b : Block) → List·Memᴰ b (laidFrom file from) → LaidBlock b
   unfolding laidFrom
   laid-member from b m =
-      go (run-member (laidAt file) (length file) laid-forward from _ (sound⇒run (laidAt file) (length file) (length file - from) from) b m)
+      go (run-member (laidAt file) (length file) (laid-forward file) from _ (sound⇒run (laidAt file) (length file) (length file - from) from) b m)
     where
       go : ReadFrom (laidAt file) (length file) from b → LaidBlock b
-      go q = subst LaidBlock (q .is-item) (step⇒laid (q .read-at) (q .read) (q .before) (laid⁻¹ (q .read-at) (q .read) (q .stepped)))
+      go q = subst LaidBlock (q .is-item) (step⇒laid (q .read-at) (q .read) (q .before) (laid⁻¹ file (q .read-at) (q .read) (q .stepped)))
 
   -- ---- entries by level
 
@@ -86,11 +63,11 @@ module _ (file : List ℕ) where
   unfolding AscendingIn
   run-ascending end at bs run-end inside long = inside
   run-ascending end at bs (run-more s more h e r) inside long =
-      let q = laid⁻¹ at s e in
+      let q = laid⁻¹ file at s e in
       let next = q .next-is in
       let l = frame⇒Framed file at (s .item .frame) (q .framed) in
       let starts = l .starts in
-      let forward = laid-forward at s e in
+      let forward = laid-forward file at s e in
       let within = l .within in
       let rest = run-ascending end (s .next) more r (omega arith) long in
       (omega arith, ascending-wider (s .next) end (s .item .frame .start + 1) end (map (λ b. b .frame .start) more) (omega arith) (omega arith) rest)

@@ -3,3 +3,4 @@ pub mod ItemsLaws
 pub mod RunLaws
 pub mod GoingLaws
 pub mod RefusalItemsLaws
+pub mod SoundLaws

@@ -1,0 +1,2 @@
+-- The laws of a cursor, for the proofs of its callers.
+pub mod CursorLaws

@@ -1,0 +1,9 @@
+use Rattle.cursor.proofs.CursorLaws.{follow-start}
+use Rattle.cursor.proofs.cursor_at.Statement.{statement}
+use Rattle.cursor.proofs.cursor_at.Tie as tie
+
+returns : tie.Need-returns
+returns c = λ file. follow-start file _
+
+pub cursor-at-spec : {M : Type 1} → statement M
+cursor-at-spec = tie.close (tie.spec returns)

@@ -1,0 +1,2 @@
+-- The meaning of a cursor.
+pub mod Cursor

@@ -1,0 +1,4 @@
+-- The meaning of what differs between two files.
+pub mod Differences
+pub mod Strict
+pub mod Merge

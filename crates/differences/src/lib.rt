@@ -1,0 +1,1 @@
+// What differs between two lists of records: definitions and laws only.

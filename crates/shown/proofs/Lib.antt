@@ -1,0 +1,2 @@
+-- The laws of a part of one of two files.
+pub mod ShownLaws

@@ -1,0 +1,2 @@
+-- The meaning of a part of one of two files.
+pub mod Shown
