@@ -1,6 +1,6 @@
 -- Laws of the records that follow a cursor.
 -- Assumes nothing.
-use mathlib.Core.Path.{_≡_, refl, sym, ap, _∙_}
+use mathlib.Core.Path.{_≡_, refl, sym, ap, _∙_, subst}
 use mathlib.Core.Bool.{Bool, true, false, cond}
 use mathlib.Core.List.{List, [], _∷_, _++_, flatMap}
 use Prim.Native.Nat.{ℕ, _+_, _-_, _≤_, _<_}
@@ -14,6 +14,7 @@ use Rattle.items.proofs.SoundLaws.{sound-same, sound-first, sound-none}
 use Rattle.framing.specs.declared.Frame.{Frame}
 use Rattle.framing.specs.Frame.{frameAt}
 use Rattle.framing.proofs.FrameLaws.{frame⇒Framed}
+use Rattle.part.specs.declared.Part.{Part}
 use Rattle.part.proofs.PartLaws.{part-take}
 use Rattle.payload.specs.Payload.{Text, textAt}
 use Rattle.payload.specs.Answers.{textIn}
@@ -26,7 +27,9 @@ use Rattle.block.proofs.LaidLaws.{laid-found, laid-refused, laid-forward, laid-
 use Rattle.matching.specs.Matching.{recordsFrom}
 use Rattle.matching.proofs.FrameRecordsLaws.{data-records}
 use Rattle.cursor.specs.declared.Cursor.{Cursor}
-use Rattle.cursor.specs.Cursor.{following}
+use Rattle.cursor.specs.declared.RecordOutcome.{RecordOutcome}
+use Rattle.cursor.specs.declared.RecordOutcome.the-variants.{Answer}
+use Rattle.cursor.specs.Cursor.{following, RecordWithin}
 
 -- ---- the records of a payload
 
@@ -94,7 +97,7 @@ module _ (file : List ℕ) where
       let before : start + n ≤ end = omega arith in (
         before,
         ap (λ (l : List Text). l ++ recordsOf (laidFrom file block)) first
-        ∙ ap (λ (b : List ℕ). record { at = start; bytes = b } ∷ (recordsFrom 0 s (start + n) ++ recordsOf (laidFrom file block))) (part-take file end start n before),
+            ∙ ap (λ (b : List ℕ). record { at = start; bytes = b } ∷ (recordsFrom 0 s (start + n) ++ recordsOf (laidFrom file block))) (part-take file end start n before),
       )
 
   -- no record is found there
@@ -126,3 +129,11 @@ module _ (file : List ℕ) where
     -- no block follows
     pub follow-none : (n p : ℕ) → frameAt file block ≡ refused n p → follow at end block ≡ []
     follow-none n p e = rest ∙ laid-none file block n p e
+
+-- ---- what an answer says
+
+-- the record that it names lies within the file
+pub within-told : (file : List ℕ) (r : RecordOutcome) (text : Part) (after : Cursor) → r ≡ Answer text after → RecordWithin file r
+    → text .offset + text .length ≤ length file
+unfolding RecordWithin
+within-told file r text after e h = subst (RecordWithin file) e h

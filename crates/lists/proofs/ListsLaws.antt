@@ -71,6 +71,15 @@ unfolding AscendingIn
 ascending-bounds from end [] h = h
 ascending-bounds from end (x ∷ xs) h = let first = h .0 in let rest = ascending-bounds (x + 1) end xs (h .1) in omega arith
 
+-- there are no more of them than numbers between the bounds
+pub ascending-few : {A : Type 0} (number : A → ℕ) (from end : ℕ) (xs : List A) → AscendingIn from end (map number xs) → length xs ≤ end
+unfolding AscendingIn
+ascending-few number from end xs h = let few = go number from end xs h in omega arith
+  where
+    go : {A : Type 0} (number : A → ℕ) (from end : ℕ) (xs : List A) → AscendingIn from end (map number xs) → from + length xs ≤ end
+    go number from end [] h = omega arith
+    go number from end (x ∷ xs) h = let first = h .0 in let rest = go number (number x + 1) end xs (h .1) in omega arith
+
 -- also within wider bounds
 pub ascending-wider : (from end low high : ℕ) (xs : List ℕ) → low ≤ from → end ≤ high → AscendingIn from end xs → AscendingIn low high xs
 unfolding AscendingIn

@@ -52,12 +52,22 @@ module _ (first second : List ℕ) where
 
     -- ---- the part
 
-    -- it lies within its file
-    fits : (b : Bool) → namesPart first second which offset n ≡ b → placeOf first second which offset n .offset + placeOf first second which offset n .length
-        ≤ length (fileOf first second (placeOf first second which offset n .which))
-    unfolding placeOf namesPart
-    fits true e =
-        rw e (within⁻¹ (fileOf first second which) offset n (both⁻¹ (eqb which 1 || eqb which 2) (isWithin (fileOf first second which) offset n) e .1))
+    -- a part that is named lies within its file, and is what is handed back
+    module _ (named : namesPart first second which offset n ≡ true) where
+      pub named-within : offset + n ≤ length (fileOf first second which)
+      unfolding namesPart
+      named-within =
+          within⁻¹ (fileOf first second which) offset n (both⁻¹ (eqb which 1 || eqb which 2) (isWithin (fileOf first second which) offset n) named .1)
+
+      pub named-place : placeOf first second which offset n ≡ record { which = which; offset = offset; length = n }
+      unfolding placeOf
+      named-place = rw named
+
+    -- what is handed back lies within its file
+    fits : (b : Bool) → namesPart first second which offset n ≡ b
+        → placeOf first second which offset n .offset + placeOf first second which offset n .length ≤ length (fileOf first second (placeOf first second which offset n .which))
+    unfolding placeOf
+    fits true e = rw e (named-within e)
     fits false e = rw e (omega arith)
 
     module _ (p : Shown) (is : p ≡ placeOf first second which offset n) where

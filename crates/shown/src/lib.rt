@@ -12,7 +12,13 @@ use crate::place::place_of;
 
 // The bytes of the part that the numbers name: that very part of the first file where `which` is 1, of the second where it is 2. Where they
 // name none, it is the first file's empty part at 0.
-pub fn shown<'a>(first: &'a [u8], second: &'a [u8], which: u64, offset: u64, length: u64) -> &'a [u8]
+pub fn shown<'a>(
+    first: &'a [u8],
+    second: &'a [u8],
+    which: u64,
+    offset: u64,
+    length: u64,
+) -> &'a [u8]
     ensures { λ r. ⌜ now r ≡ shownBytes (now (first .entry)) (now (second .entry))
         (placeOf (now (first .entry)) (now (second .entry)) which offset length) ⌝ }
     ensures { λ r. ⌜ ptr r ≡ cond (eqb (placeOf (now (first .entry)) (now (second .entry)) which offset length .which) 2)

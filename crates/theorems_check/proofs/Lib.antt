@@ -11,6 +11,7 @@ pub mod TreeRuleLaws
 pub mod BlockNumbers
 pub mod EarlyStages
 pub mod AcceptLaws
+pub mod RecordsSorted
 pub mod PlacesLaws
 pub mod CheckTheorems
 pub mod SmallestFile

@@ -1,9 +1,9 @@
 -- The search of an accepted file finds every record that matches: a block that is not opened leads to none.
 -- Assumes nothing.
-use mathlib.Core.Path.{_≡_, refl, sym, ap, ap₂, _∙_, subst}
+use mathlib.Core.Path.{_≡_, refl, sym, ap, ap₂, _∙_}
 use mathlib.Core.Bool.{Bool, true, false, cond}
 use mathlib.Core.Option.{Option, none, some}
-use mathlib.Core.List.{List, [], _∷_, _++_, map, flatMap, append-nil, List·Memᴰ}
+use mathlib.Core.List.{List, [], _∷_, _++_, flatMap, append-nil, List·Memᴰ}
 use Prim.Native.Nat.{ℕ, zero, suc, _+_}
 use lib.Seq.{append-snoc}
 use Rattle.outcome.specs.Outcome.{answer}
@@ -23,9 +23,9 @@ use Rattle.search.specs.Search.{nextKey}
 use Rattle.tree.specs.Tree.{blockEntries, blockRecords, blockLevel, leaves, under}
 use Rattle.checker.specs.Check.{acceptOf}
 use Rattle.tree.proofs.TreeWays.{Way, at-root, by-entry, turnsOf, root-records}
-use Rattle.theorems_check.specs.Rules.{Sorted, no-string, BlockIn, isDataBlock, isIndexBlock, isReservedBlock}
 use Rattle.theorems_check.proofs.TiledLaws.{tiled-block}
 use Rattle.theorems_check.proofs.AcceptLaws.{Accepted⇒Rules, accepted⇒Accepted}
+use Rattle.theorems_check.proofs.RecordsSorted.{records-rise}
 use Rattle.theorems_tree.proofs.TreeCuts.{lowerBound, upperBound, lowerOf, upperOf, UpTo, SearchTree}
 use Rattle.theorems_tree.proofs.TreeBounds.{under-bounds}
 use Rattle.theorems_tree.proofs.TreeFile.{rules⇒SearchTree}
@@ -100,11 +100,6 @@ module _ (bs : List Block) (root : ℕ) (k : SearchTree bs root) (q : Query) whe
   search-finds = events-find (blockLevel bs root) root (at-root refl refl) ∙ ap (matching q) (root-records bs root (k .tree) (k .walked))
 
 -- ---- an accepted file
-
-records-rise : (file : List ℕ) (at : ℕ) (b : Block) → BlockIn file at b → Sorted (map (λ r. r .bytes) (b .records))
-records-rise file at b (isDataBlock stands level fill filled sorted empty) = sorted
-records-rise file at b (isIndexBlock stands low high fill filled sorted empty) = subst (λ (rs : List Text). Sorted (map (λ r. r .bytes) rs)) (sym empty) no-string
-records-rise file at b (isReservedBlock stands high empty neither) = subst (λ (rs : List Text). Sorted (map (λ r. r .bytes) rs)) (sym empty) no-string
 
 pub accepted⇒SearchTree : (file : List ℕ) (bs : List Block) → acceptOf file ≡ answer bs → SearchTree bs (fieldAt file 16)
 accepted⇒SearchTree file bs e =

@@ -59,9 +59,12 @@ returns c =
     let found = c .before .before .found in
     let end-within = c .before .before .before .before .before .before .before .end-within in
     let text = follow-text (now (args .file)) (loop .at) (loop .end) (loop .block) _ _ (sym (text-at .ensures 0) ∙ ap (textSaid 0 (take
-    (loop .end) (now (args .file)))) (found .given .1)) in let before = text .0 in let within = loop .inv .0 in (sym (text .1) ∙
-    loop .inv .1 ∙ follow-cut (now (args .file)) (args .c .at) (args .c .end) (end-within .result) (args .c .block)
-    (end-within .ensures .1), omega arith)
+    (loop .end) (now (args .file)))) (found .given .1)) in let before = text .0 in let within = loop .inv .0 in (
+      sym (text .1) ∙
+          loop .inv .1 ∙ follow-cut (now (args .file)) (args .c .at) (args .c .end) (end-within .result) (args .c .block)
+          (end-within .ensures .1),
+      omega arith,
+    )
 
 enum-told : tie.Need-enum-told Inv-loop μ-loop
 enum-told c = search needs
@@ -80,11 +83,13 @@ returns-2 c =
     let text-at = c .before .before .before .before .before .text-at in
     let enum-told = c .before .before .before .enum-told in
     let frame-at = c .before .before .frame-at in
-    let end-within = c .before .before .before .before .before .before .before .before .end-within in
-    (sym (follow-none (now (args .file)) (loop .at) (loop .end) (loop .block) _ _ (sym (text-at .ensures 0) ∙ ap (textSaid 0 (take
-    (loop .end) (now (args .file)))) (enum-told .given .1)) _ _ (sym (frame-at .ensures) ∙ ap (frameSaid (loop .block))
-    (c .enum-told2 .given .1))) ∙ loop .inv .1 ∙ follow-cut (now (args .file)) (args .c .at) (args .c .end) (end-within .result)
-    (args .c .block) (end-within .ensures .1), tt)
+    let end-within = c .before .before .before .before .before .before .before .before .end-within in (
+      sym (follow-none (now (args .file)) (loop .at) (loop .end) (loop .block) _ _ (sym (text-at .ensures 0) ∙ ap (textSaid 0 (take
+          (loop .end) (now (args .file)))) (enum-told .given .1)) _ _ (sym (frame-at .ensures) ∙ ap (frameSaid (loop .block))
+          (c .enum-told2 .given .1))) ∙ loop .inv .1 ∙ follow-cut (now (args .file)) (args .c .at) (args .c .end) (end-within .result)
+          (args .c .block) (end-within .ensures .1),
+      tt,
+    )
 
 enum-known-frame : tie.Need-enum-known-frame Inv-loop μ-loop
 enum-known-frame c = search needs
@@ -136,10 +141,13 @@ loop-again c =
     let text-at = c .before .before .before .before .before .before .before .before .before .text-at in
     let enum-told = c .before .before .before .before .before .before .before .enum-told in
     let l = frame⇒Framed (now (args .file)) (loop .block) _ (sym (frame-at .ensures) ∙ ap (frameSaid (loop .block)) (the-frame .given .1))
-    in let number = l .number in let some = l .some in let sized = l .sized in let within = l .within in (end-few (isData _) _ _ _
-    (c .before .records-end .ensures) (omega arith), sym (follow-block (now (args .file)) (loop .at) (loop .end) (loop .block) _ _ (sym
-    (text-at .ensures 0) ∙ ap (textSaid 0 (take (loop .end) (now (args .file)))) (enum-told .given .1)) _ (sym (frame-at .ensures) ∙ ap
-    (frameSaid (loop .block)) (the-frame .given .1)) _ (c .before .records-end .ensures)) ∙ loop .inv .1)
+    in let number = l .number in let some = l .some in let sized = l .sized in let within = l .within in (
+      end-few (isData _) _ _ _
+          (c .before .records-end .ensures) (omega arith),
+      sym (follow-block (now (args .file)) (loop .at) (loop .end) (loop .block) _ _ (sym
+          (text-at .ensures 0) ∙ ap (textSaid 0 (take (loop .end) (now (args .file)))) (enum-told .given .1)) _ (sym (frame-at .ensures) ∙ ap
+          (frameSaid (loop .block)) (the-frame .given .1)) _ (c .before .records-end .ensures)) ∙ loop .inv .1,
+    )
 
 pub record-at-spec : {M : Type 1} → statement M
 record-at-spec =

@@ -36,11 +36,13 @@ part-result-end c =
 returns : tie.Need-returns
 returns c =
     let args = c .before .before .before .before .before .before .before .args in
-    let place-of = c .before .before .before .before .place-of in
-    ( shown-lent (now (args .first)) (now (args .second)) (args .which) (args .offset) (args .length) _ (place-of .ensures) _ (second-file
-    (now (args .first)) (now (args .second)) _ (c .before .if1 .taken)), shown-place (now (args .first)) (now (args .second)) (args .which)
-    (args .offset) (args .length) _ (place-of .ensures) (ptr (args .first)) (ptr (args .second)) _ (sym (ap (λ (b : Bool). cond b (ptr
-    (args .second)) (ptr (args .first))) (eq-eqb _ 2 (c .before .if1 .taken)))), )
+    let place-of = c .before .before .before .before .place-of in (
+      shown-lent (now (args .first)) (now (args .second)) (args .which) (args .offset) (args .length) _ (place-of .ensures) _ (second-file
+          (now (args .first)) (now (args .second)) _ (c .before .if1 .taken)),
+      shown-place (now (args .first)) (now (args .second)) (args .which)
+          (args .offset) (args .length) _ (place-of .ensures) (ptr (args .first)) (ptr (args .second)) _ (sym (ap (λ (b : Bool). cond b (ptr
+          (args .second)) (ptr (args .first))) (eq-eqb _ 2 (c .before .if1 .taken)))),
+    )
 
 sub-result-2 : tie.Need-sub-result-2
 sub-result-2 c = search needs
@@ -58,11 +60,13 @@ part-result-end-2 c =
 returns-2 : tie.Need-returns-2
 returns-2 c =
     let args = c .before .before .before .before .before .before .before .args in
-    let place-of = c .before .before .before .before .place-of in
-    ( shown-lent (now (args .first)) (now (args .second)) (args .which) (args .offset) (args .length) _ (place-of .ensures) _ (first-file
-    (now (args .first)) (now (args .second)) _ (c .before .if1 .left)), shown-place (now (args .first)) (now (args .second)) (args .which)
-    (args .offset) (args .length) _ (place-of .ensures) (ptr (args .first)) (ptr (args .second)) _ (sym (ap (λ (b : Bool). cond b (ptr
-    (args .second)) (ptr (args .first))) (ne-eqb _ 2 (c .before .if1 .left)))), )
+    let place-of = c .before .before .before .before .place-of in (
+      shown-lent (now (args .first)) (now (args .second)) (args .which) (args .offset) (args .length) _ (place-of .ensures) _ (first-file
+          (now (args .first)) (now (args .second)) _ (c .before .if1 .left)),
+      shown-place (now (args .first)) (now (args .second)) (args .which)
+          (args .offset) (args .length) _ (place-of .ensures) (ptr (args .first)) (ptr (args .second)) _ (sym (ap (λ (b : Bool). cond b (ptr
+          (args .second)) (ptr (args .first))) (ne-eqb _ 2 (c .before .if1 .left)))),
+    )
 
 pub shown-spec : {M : Type 1} → statement M
 shown-spec =

@@ -33,8 +33,10 @@ returns-2 c =
 
 returns-3 : tie.Need-returns-3
 returns-3 c =
-    place-if _ _ _ _ _ _ _ (sym (names-none _ _ _ _ _ (λ z. omega (arith, c .before .match .rest)) (λ z. omega (arith,
-    c .before .match .rest)))) (c .part-if3 .ensures)
+    place-if _ _ _ _ _ _ _ (sym (names-none _ _ _ _ _ (λ z. omega (arith, c .before .match .rest)) (λ z. omega (
+      arith,
+      c .before .match .rest,
+    )))) (c .part-if3 .ensures)
 
 pub place-of-spec : {M : Type 1} → statement M
 place-of-spec =

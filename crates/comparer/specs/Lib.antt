@@ -1,0 +1,3 @@
+-- The meaning of comparing two files.
+pub mod Compare
+pub mod Steps
