@@ -7,6 +7,7 @@
 //! * [`writer`] writes files from metadata and records.
 //! * [`stores`] gives the stores by which a finished file comes to a disk, and what a cut leaves of them.
 //! * [`sim`] imports SIM phonebooks: records for the writer.
+//! * [`compare`] lists what differs between two files, and hands back the records listed.
 //! * [`maker`] builds files: sound ones, unusual ones and damaged ones.
 //! * [`corpus`] names a fixed set of files and cases with the answers due.
 //! * [`samples`] makes the archives and the phonebook of fictitious contacts that `make demo` shows.
@@ -15,6 +16,7 @@
 #![warn(missing_docs)]
 
 pub mod checksums;
+pub mod compare;
 pub mod corpus;
 mod json;
 pub mod maker;

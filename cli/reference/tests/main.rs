@@ -1,5 +1,6 @@
 //! Tests of the independent reader, of the maker of files, and of the stored corpus.
 
+mod compare;
 mod corpus;
 mod drawn;
 mod examples;

@@ -3,6 +3,7 @@
 //! This shares nothing with the reader but the checksums, and leaves JSON to another parser. It answers
 //! which refusals apply to a file at all, so that tests can tell a single fault from several.
 
+pub mod compare;
 pub mod json;
 pub mod sim;
 pub mod tree;
