@@ -1,4 +1,4 @@
-//! A second, independent reader and writer of ZS files, and importer of SIM phonebooks.
+//! A second, independent reader, writer and comparison of ZS files, and importer of SIM phonebooks.
 //!
 //! It judges another implementation and shares no code with it; docs/DECISIONS.md says more. What it does, and the numbers of
 //! refusals, are those of docs/FORMAT.md.

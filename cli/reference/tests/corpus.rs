@@ -71,10 +71,12 @@ fn each_refusal_has_two_files() {
 }
 
 #[test]
-fn each_refusal_of_writer_and_import_has_two_cases() {
+fn each_refusal_of_writer_import_and_comparison_has_two_cases() {
+    let compared: Vec<u64> = (2..=25).chain([0, 35]).collect();
     for (call, numbers) in [
         (Call::Write, &[0, 9, 28, 29, 30, 31][..]),
         (Call::ImportSim, &[0, 31, 32, 33, 34]),
+        (Call::Compare, &compared),
     ] {
         let lines = Corpus::whole().with_calls(&[call]).lines();
         for number in numbers {
@@ -91,12 +93,24 @@ fn limits_hold() {
     assert_eq!(corpus.broken_limit(), None);
     let names: BTreeSet<&str> = corpus.files.iter().map(|file| file.name.as_str()).collect();
     assert_eq!(names.len(), corpus.files.len());
-    let asked: BTreeSet<&str> = corpus.cases.iter().map(|case| case.name.as_str()).collect();
-    assert_eq!(names, asked);
-    let mut in_order: Vec<&str> = corpus.cases.iter().map(|case| case.name.as_str()).collect();
-    in_order.dedup();
-    let files: Vec<&str> = corpus.files.iter().map(|file| file.name.as_str()).collect();
-    assert_eq!(in_order, files);
+    let named = corpus
+        .cases
+        .iter()
+        .flat_map(|case| [Some(case.name.as_str()), case.second()]);
+    assert_eq!(names, named.flatten().collect());
+    let in_order = |takes_two: bool| {
+        let cases = corpus.cases.iter();
+        let cases = cases.filter(move |case| case.call.takes_two() == takes_two);
+        let mut order: Vec<&str> = cases.map(|case| case.name.as_str()).collect();
+        order.dedup();
+        order
+    };
+    for takes_two in [false, true] {
+        let order = in_order(takes_two);
+        let files = corpus.files.iter().map(|file| file.name.as_str());
+        let asked: Vec<&str> = files.filter(|name| order.contains(name)).collect();
+        assert_eq!(order, asked);
+    }
     let longest = corpus.files.iter().map(|file| file.bytes.len()).max();
     assert_eq!(longest, Some(65_536));
 }
@@ -135,7 +149,7 @@ fn published_files_are_due() {
             let made = case.name.strip_prefix("write-").expect("the records' name");
             assert_eq!(bytes_of(made), published);
             assert_eq!(
-                case.line(bytes_of(&case.name)),
+                case.line(bytes_of(&case.name), b""),
                 case.line_of_file(published)
             );
             outputs.entry(made).or_default().push(case.result_places);
@@ -197,7 +211,7 @@ fn line(call: Call, change: impl FnOnce(&mut Case)) -> String {
     let two_blocks = corpus.files.iter().find(|file| file.name == "two-blocks");
     let mut case = Case::new("two-blocks", call);
     change(&mut case);
-    case.line(&two_blocks.expect("the file").bytes)
+    case.line(&two_blocks.expect("the file").bytes, b"")
 }
 
 #[test]
@@ -268,7 +282,7 @@ fn lines_of_writes_have_their_form() {
         per_block: 1,
         per_index: 2,
     };
-    let line = |output| Case::write("write-smallest", b"{}", counts, output).line(b"\0");
+    let line = |output| Case::write("write-smallest", b"{}", counts, output).line(b"\0", b"");
     let due = "write-smallest write 7b7d 1 2 131: number 0 place 0 length 130 \
                output b6205e55dfe96cc5a31c096347049957268d1f5ca5819dcb8227c505bb4ab3c9";
     assert_eq!(line(131), due);
@@ -281,11 +295,49 @@ fn lines_of_writes_have_their_form() {
 #[test]
 fn lines_of_imports_have_their_form() {
     let dump = b"A\xff\x01\x81\x02\x03\x04\x05\x06\x07\x08\x09\x0a\x0b\x0c\x0d";
-    let line = |output| Case::import("import-one", 2, output).line(dump);
+    let line = |output| Case::import("import-one", 2, output).line(dump, b"");
     let due = "import-one import_sim 2 17: number 0 place 0 length 16 \
                output 61d637cad13d137ba18ddb22e911f7b733ddf0d215403e2975dedfabb6029594";
     assert_eq!(line(17), due);
     let due = "import-one import_sim 2 15: number 31 place 0 length 0 \
                output 5322fecfc92a5e3248a297a3df3eddfb9bd9049504272e4f572b87fa36d4b3bd";
     assert_eq!(line(15), due);
+}
+
+#[test]
+fn lines_of_two_files_have_their_form() {
+    let corpus = Corpus::whole().with_calls(&[Call::Compare, Call::Shown]);
+    let lines = corpus.lines();
+    for due in [
+        "two-blocks compare smallest 3 20: number 0 place 0 which 0 differences 4 sum -3 \
+         list 2 109 0 0 1 1 109 1 1 0 1 111 2 2 0 1 127 1 1 0 work 0 0 0",
+        "two-blocks compare smallest 3 2: number 35 place 0 which 0 differences 0 sum 0 list 0 0 work 0 0 0",
+        "smallest compare smallest 1 0: number 18 place 0 which 1 differences 0 sum 0 list work 0",
+        "two-blocks compare 22-paper 12 6: number 22 place 106 which 2 differences 0 sum 0 \
+         list 0 0 0 0 0 0 work 0 0 0 0 0 0 0 0 0 0 0 0",
+        "two-blocks shown smallest 1 109 1: which 1 part 109 1 bytes 61",
+        "two-blocks shown smallest 2 109 0: which 2 part 109 0 bytes -",
+        "two-blocks shown smallest 2 130 1: which 1 part 0 0 bytes -",
+    ] {
+        assert!(lines.lines().any(|line| line == due), "{due}");
+    }
+}
+
+/// Every refused comparison says which file is refused, but for 35, and gives no difference.
+#[test]
+fn lines_of_refused_comparisons() {
+    let lines = Corpus::whole().with_calls(&[Call::Compare]).lines();
+    let mut times: BTreeMap<(bool, &str), usize> = BTreeMap::new();
+    for line in lines.lines() {
+        let words: Vec<&str> = line.split(' ').collect();
+        let at = |word: &str| words[1 + words.iter().position(|w| *w == word).expect("the word")];
+        let of_file = !["0", "35"].contains(&at("number"));
+        assert_eq!(of_file, at("which") != "0", "{line}");
+        if at("number") != "0" {
+            assert_eq!((at("differences"), at("sum")), ("0", "0"), "{line}");
+        }
+        *times.entry((of_file, at("which"))).or_default() += 1;
+    }
+    assert_eq!(times.len(), 3);
+    assert!(times.values().all(|count| *count > 50), "{times:?}");
 }

@@ -91,7 +91,7 @@ impl Corpus {
     }
 
     /// The bytes of a file added before.
-    fn bytes_of(&self, name: &str) -> Vec<u8> {
+    pub(super) fn bytes_of(&self, name: &str) -> Vec<u8> {
         let file = self.files.iter().find(|file| file.name == name);
         file.map_or_else(Vec::new, |file| file.bytes.clone())
     }

@@ -17,10 +17,14 @@ pub enum Call {
     ImportSim,
     /// Where a store of the file goes.
     Store,
+    /// Comparing the file with a second one.
+    Compare,
+    /// Handing back a part of the file or of a second one.
+    Shown,
 }
 
 /// Every call, in the order of their numbers.
-pub const ALL_CALLS: [Call; 7] = [
+pub const ALL_CALLS: [Call; 9] = [
     Call::Read,
     Call::Check,
     Call::Search,
@@ -28,6 +32,8 @@ pub const ALL_CALLS: [Call; 7] = [
     Call::Write,
     Call::ImportSim,
     Call::Store,
+    Call::Compare,
+    Call::Shown,
 ];
 
 impl Call {
@@ -41,6 +47,8 @@ impl Call {
             Call::Write => 5,
             Call::ImportSim => 6,
             Call::Store => 7,
+            Call::Compare => 8,
+            Call::Shown => 9,
         }
     }
 
@@ -54,11 +62,18 @@ impl Call {
             Call::Write => "write",
             Call::ImportSim => "import_sim",
             Call::Store => "store",
+            Call::Compare => "compare",
+            Call::Shown => "shown",
         }
     }
 
-    /// Whether the call is lent an output of bytes, and no list.
-    pub fn has_output(self) -> bool {
-        matches!(self, Call::Write | Call::ImportSim)
+    /// Whether the call is lent lists.
+    pub fn has_lists(self) -> bool {
+        !matches!(self, Call::Write | Call::ImportSim | Call::Shown)
+    }
+
+    /// Whether the call is one on two files.
+    pub fn takes_two(self) -> bool {
+        matches!(self, Call::Compare | Call::Shown)
     }
 }

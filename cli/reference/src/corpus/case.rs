@@ -7,8 +7,8 @@ use crate::sim::import;
 use crate::stores::store_part;
 use crate::writer::{write, Counts};
 
-/// A case. What its call doesn't use is zero or empty. A write, an import and a store have some of the fields for their own, as
-/// [`Case::write`], [`Case::import`] and [`Case::store`] say.
+/// A case. What its call doesn't use is zero or empty. A write, an import, a store and a call on two files have some of the fields for
+/// their own, as [`Case::write`], [`Case::import`], [`Case::store`], [`Case::compare`] and [`Case::shown`] say.
 #[derive(Debug, Clone, PartialEq, Eq)]
 pub struct Case {
     /// Name of the file.
@@ -110,8 +110,8 @@ impl Case {
         out
     }
 
-    /// The line due for the case, given the bytes of its file.
-    pub fn line(&self, file: &[u8]) -> String {
+    /// The line due for the case, given the bytes of its file, and those of the second one where it has two.
+    pub fn line(&self, file: &[u8], second: &[u8]) -> String {
         let answer = match self.call {
             Call::Read => self.read_line(file),
             Call::Check => self.check_line(file),
@@ -120,6 +120,8 @@ impl Case {
             Call::Write => self.write_line(self.written(file)),
             Call::ImportSim => self.import_line(file),
             Call::Store => self.store_line(file),
+            Call::Compare => self.compare_line(file, second),
+            Call::Shown => self.shown_line(file, second),
         };
         self.line_with(&answer)
     }
@@ -254,12 +256,12 @@ fn put_short(out: &mut Vec<u8>, bytes: &[u8]) {
 }
 
 /// The numbers of a list, each after a space.
-fn list(numbers: &[u64]) -> String {
+pub(super) fn list(numbers: &[u64]) -> String {
     numbers.iter().map(|number| format!(" {number}")).collect()
 }
 
 /// Bytes in hex, `-` for none.
-fn hex(bytes: &[u8]) -> String {
+pub(super) fn hex(bytes: &[u8]) -> String {
     if bytes.is_empty() {
         "-".to_string()
     } else {

@@ -7,6 +7,7 @@
 mod build;
 mod call;
 mod case;
+mod compared;
 mod drawn;
 mod examples;
 mod framing_faults;
@@ -16,6 +17,7 @@ mod imported;
 mod metadata;
 mod naming_faults;
 mod order_faults;
+mod pair;
 mod payload_faults;
 mod queried;
 mod sound;
@@ -44,6 +46,8 @@ const MORE_CASES: &str = "more-cases";
 const WRITE_CASES: &str = "write-cases";
 /// The file that holds those of the import.
 const IMPORT_CASES: &str = "import-cases";
+/// The file that holds those on two files.
+const COMPARE_CASES: &str = "compare-cases";
 
 /// What the maker of a file says that the check must answer, given room.
 #[derive(Debug, Clone, Copy, PartialEq, Eq)]
@@ -78,7 +82,7 @@ pub struct File {
 pub struct Corpus {
     /// The files in the order of their making.
     pub files: Vec<File>,
-    /// The cases, those of one file together.
+    /// The cases, those of one file together; after all others those on two files, with the first file's together.
     pub cases: Vec<Case>,
 }
 
@@ -100,39 +104,44 @@ impl Corpus {
         stored::add(&mut corpus);
         written::add(&mut corpus);
         imported::add(&mut corpus);
+        compared::add(&mut corpus);
         corpus.gather();
         corpus
     }
 
-    /// Brings the cases of one file together, in the order of the files.
+    /// Brings the cases of one file together, in the order of the files, those on two files last.
     fn gather(&mut self) {
         let names = self.files.iter().enumerate();
         let order: HashMap<&str, usize> = names
             .map(|(number, file)| (file.name.as_str(), number))
             .collect();
-        let position = |case: &Case| order.get(case.name.as_str()).copied();
+        let position = |case: &Case| {
+            let number = order.get(case.name.as_str()).copied();
+            (case.call.takes_two(), number)
+        };
         self.cases.sort_by_key(position);
     }
 
     /// The same corpus with the cases of some calls only, and the files they name.
     pub fn with_calls(mut self, calls: &[Call]) -> Self {
         self.cases.retain(|case| calls.contains(&case.call));
-        let named: Vec<&str> = self.cases.iter().map(|case| case.name.as_str()).collect();
-        self.files
-            .retain(|file| named.contains(&file.name.as_str()));
+        let names = |case: &Case| [Some(case.name.clone()), case.second().map(str::to_string)];
+        let named: Vec<String> = self.cases.iter().flat_map(names).flatten().collect();
+        self.files.retain(|file| named.contains(&file.name));
         self
     }
 
     /// The files with the cases, by name, in the order in which they are run.
-    pub fn case_files(&self) -> [(&'static str, Vec<u8>); 4] {
+    pub fn case_files(&self) -> [(&'static str, Vec<u8>); 5] {
         let (mut cases, mut more) = (Vec::new(), Vec::new());
-        let (mut writes, mut imports) = (Vec::new(), Vec::new());
+        let (mut writes, mut imports, mut pairs) = (Vec::new(), Vec::new(), Vec::new());
         for case in &self.cases {
             let encoded = case.encode();
             let fits = more.is_empty() && cases.len() + encoded.len() <= LONGEST_DATA;
             match case.call {
                 Call::Write => writes.extend(encoded),
                 Call::ImportSim => imports.extend(encoded),
+                Call::Compare | Call::Shown => pairs.extend(encoded),
                 _ if fits => cases.extend(encoded),
                 _ => more.extend(encoded),
             }
@@ -142,6 +151,7 @@ impl Corpus {
             (MORE_CASES, more),
             (WRITE_CASES, writes),
             (IMPORT_CASES, imports),
+            (COMPARE_CASES, pairs),
         ]
     }
 
@@ -154,9 +164,10 @@ impl Corpus {
         let mut out = String::new();
         for case in &self.cases {
             let file = bytes.get(case.name.as_str()).copied().unwrap_or(&[]);
+            let second = case.second().and_then(|name| bytes.get(name));
             let line = match published_file(case) {
                 Some(published) => case.line_of_file(published),
-                None => case.line(file),
+                None => case.line(file, second.copied().unwrap_or(&[])),
             };
             out.push_str(&line);
             out.push('\n');
@@ -176,7 +187,7 @@ impl Corpus {
         if let Some(file) = self.files.iter().find(|file| !is_good_name(&file.name)) {
             return Some(format!("{} is no good name", file.name));
         }
-        let mut lists = self.cases.iter().filter(|case| !case.call.has_output());
+        let mut lists = self.cases.iter().filter(|case| case.call.has_lists());
         let wide = |case: &&Case| case.result_places.max(case.other_places) > MOST_PLACES;
         if let Some(case) = lists.find(wide) {
             return Some(format!("a case of {} has too many places", case.name));
@@ -190,6 +201,6 @@ impl Corpus {
 /// Whether a name may stand in a case.
 fn is_good_name(name: &str) -> bool {
     let good = |byte: u8| matches!(byte, b'a'..=b'z' | b'0'..=b'9' | b'_' | b'-');
-    let taken = [CASES, MORE_CASES, WRITE_CASES, IMPORT_CASES].contains(&name);
+    let taken = [CASES, MORE_CASES, WRITE_CASES, IMPORT_CASES, COMPARE_CASES].contains(&name);
     (1..=LONGEST_NAME).contains(&name.len()) && !taken && name.bytes().all(good)
 }
