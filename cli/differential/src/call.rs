@@ -1,4 +1,4 @@
-//! A call on a file, of the writer on records, of the import on a dump, or on a text: which function, with what, and how much room.
+//! A call on a file or two, of the writer on records, of the import on a dump, or on a text: which function, with what, and how much room.
 
 use zs_reference::reader::Query;
 use zs_reference::writer::Counts;
@@ -66,6 +66,26 @@ pub enum Call {
         /// How many bytes of the next one.
         bytes: usize,
     },
+    /// Comparing the file with a second one.
+    Compare {
+        /// The second file.
+        second: Vec<u8>,
+        /// Places of the work list.
+        work: usize,
+        /// Places of the list.
+        list: usize,
+    },
+    /// Handing back a part of the file or of a second one.
+    Show {
+        /// The second file.
+        second: Vec<u8>,
+        /// Which of the two.
+        which: u64,
+        /// Offset of the part.
+        offset: u64,
+        /// Its length.
+        length: u64,
+    },
 }
 
 /// How the lists of a call, or its output, compare with what its answer needs.
@@ -77,7 +97,7 @@ pub enum Room {
     Exact,
     /// The opened list, the work list or the output is one place short.
     FirstShort,
-    /// The result list is one place short.
+    /// The result list, or the list of differences, is one place short.
     ResultsShort,
     /// The output is one byte too short for the file that has whole records as keys, which is longer.
     WholeShort,
@@ -86,6 +106,14 @@ pub enum Room {
 }
 
 impl Call {
+    /// The second file, where the call is one on two files.
+    pub fn second(&self) -> Option<&[u8]> {
+        match self {
+            Call::Compare { second, .. } | Call::Show { second, .. } => Some(second),
+            _ => None,
+        }
+    }
+
     /// The call in words, for a saved case.
     pub fn text(&self) -> String {
         match self {
@@ -127,6 +155,15 @@ impl Call {
                     "call: check after a cut\nwhole stores: {whole}\nbytes of the next: {bytes}\n"
                 )
             }
+            Call::Compare { work, list, .. } => {
+                format!("call: compare\nwork places: {work}\nplaces of the list: {list}\n")
+            }
+            Call::Show {
+                which,
+                offset,
+                length,
+                ..
+            } => format!("call: show\nwhich: {which}\noffset: {offset}\nlength: {length}\n"),
         }
     }
 }

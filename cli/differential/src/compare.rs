@@ -4,6 +4,7 @@ use crate::call::Call;
 use crate::frames::{data_payloads, frames, header_end};
 use crate::lent::Lent;
 use crate::outcome::Outcome;
+use crate::pair_cases::{compare_files, compare_shown};
 use crate::store_cases::{compare_after_write, compare_cut, compare_store};
 use zs_library as library;
 use zs_reference::maker::encode;
@@ -37,6 +38,15 @@ pub fn compare(random: &mut Random, bytes: &[u8], call: &Call) -> Outcome {
         } => import_sim(random, lent.part(), *name_length, *output),
         Call::Store { i } => compare_store(lent.part(), *i),
         Call::Cut { whole, bytes } => compare_cut(lent.part(), *whole, *bytes),
+        Call::Compare { second, work, list } => {
+            compare_files(random, lent.part(), second, *work, *list)
+        }
+        Call::Show {
+            second,
+            which,
+            offset,
+            length,
+        } => compare_shown(random, lent.part(), second, [*which, *offset, *length]),
     };
     outcome.require(lent.is_unchanged(), "the bytes were changed");
     outcome

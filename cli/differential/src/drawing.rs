@@ -9,6 +9,8 @@ use crate::faults::{draw_faulty, NUMBERS};
 use crate::hostile::draw_hostile;
 use crate::inputs::draw_input;
 use crate::keys::{keys, kinds, Kinds};
+use crate::pair_calls::draw_on_pair;
+use crate::pairs::{draw_pairs, Pair};
 use crate::queries::strings_of;
 use crate::shapes::shape;
 use crate::store_calls::{draw_cuts, draw_edge, draw_stores};
@@ -37,9 +39,9 @@ const DEPTHS: [usize; 14] = [1, 1, 1, 1, 2, 2, 2, 3, 3, 5, 20, 63, 64, 65];
 /// Bytes and the calls on them.
 #[derive(Debug, Clone)]
 pub struct Drawing {
-    /// The bytes of a file or those that may have stores, the records that a writer is given, a dump, or a text.
+    /// The bytes of a file, of the first of two, or those that may have stores, the records that a writer is given, a dump, or a text.
     pub bytes: Vec<u8>,
-    /// The root's level, where the independent reader accepts the file; 0 for a dump that isn't refused.
+    /// The root's level, where the independent reader accepts the file; 0 for a dump that isn't refused, and for two files that aren't.
     pub accepted: Option<u8>,
     /// The calls.
     pub calls: Vec<Asked>,
@@ -51,14 +53,14 @@ pub struct Drawing {
     pub random: Random,
 }
 
-/// Makes the drawings of this number: a file, records and the file written, a dump, bytes that may have stores, or texts. The same seed and
-/// number give the same ones.
+/// Makes the drawings of this number: a file and pairs with it, records and the file written, a dump, bytes that may have stores, or texts. The
+/// same seed and number give the same ones.
 pub fn draw(seed: u64, number: u64) -> Vec<Drawing> {
     let mut random = Random::new(Random::new(seed ^ number.rotate_left(32)).next());
     let (round, turn) = (number / TURNS, number % TURNS);
     if turn < READERS {
         let (image, file) = draw_file(&mut random, round * READERS + turn);
-        return vec![on_file(random, file, &strings_of(&image))];
+        return with_pairs(on_file(random, file, &strings_of(&image)));
     }
     let turn = turn - READERS;
     if turn < WRITERS {
@@ -127,7 +129,29 @@ fn on_file(mut random: Random, file: Vec<u8>, strings: &[Vec<u8>]) -> Drawing {
     }
 }
 
-/// Records and the calls of the writer on them; then, where they are written, the file, with cuts of its stores too.
+/// The drawing of a file, and those of pairs with it.
+fn with_pairs(mut drawing: Drawing) -> Vec<Drawing> {
+    let mut random = Random::new(drawing.random.next());
+    let pairs = draw_pairs(&mut random, &drawing.bytes);
+    let pairs = pairs.into_iter().map(|pair| on_pair(&mut random, pair));
+    std::iter::once(drawing).chain(pairs).collect()
+}
+
+/// Two files and the calls on them.
+fn on_pair(random: &mut Random, pair: Pair) -> Drawing {
+    let (calls, are_accepted) = draw_on_pair(random, &pair);
+    let [first, _] = pair;
+    Drawing {
+        bytes: first,
+        accepted: are_accepted.then_some(0),
+        calls,
+        kinds: Kinds::default(),
+        dump_kinds: dump_kinds::Kinds::default(),
+        random: Random::new(random.next()),
+    }
+}
+
+/// Records and the calls of the writer on them; then, where they are written, the file, with cuts of its stores too, and pairs with it.
 fn draw_written(mut random: Random, turn: u64) -> Vec<Drawing> {
     let input = draw_input(&mut random, turn);
     let calls = draw_writes(&mut random, &input);
@@ -147,7 +171,8 @@ fn draw_written(mut random: Random, turn: u64) -> Vec<Drawing> {
         bytes: input.records,
         random,
     };
-    std::iter::once(records).chain(file).collect()
+    let files = file.into_iter().flat_map(with_pairs);
+    std::iter::once(records).chain(files).collect()
 }
 
 /// A dump and the calls of the import on it.

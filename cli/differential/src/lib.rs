@@ -1,7 +1,7 @@
-//! Compares the proved library with the independent reader, writer, import and stores.
+//! Compares the proved library with the independent reader, writer, import, stores and comparison.
 //!
-//! A seed and a number give a [`drawing`]: one file and all calls to be made on it; or records, all calls of the writer on them, and the
-//! file written with all calls on that and cuts of its stores; or a dump of a SIM phonebook and all calls of the import on it; or a row of
+//! A seed and a number give a [`drawing`]: one file and all calls to be made on it, and pairs of files with all calls on these; or records, all
+//! calls of the writer on them, and the file written with all calls on that and cuts of its stores; or a dump of a SIM phonebook and all calls of the import on it; or a row of
 //! texts that may be metadata; or a row of bytes that may have stores. Each call is a case. Both implementations answer it, [`compare`] looks
 //! at everything that they gave and at everything that they were lent, [`tally`] counts, and [`run`] saves what differs.
 
@@ -23,10 +23,16 @@ pub mod inputs;
 pub mod keys;
 pub mod lent;
 pub mod outcome;
+pub mod pair_calls;
+mod pair_cases;
+pub mod pair_kinds;
+pub mod pairs;
 pub mod queries;
 mod report;
 pub mod run;
 pub mod shapes;
+mod shortfalls;
+pub mod show_kinds;
 pub mod store_calls;
 mod store_cases;
 pub mod store_kinds;

@@ -9,9 +9,12 @@ const MOST_PRINTED: usize = 3;
 #[derive(Debug, Clone, Default)]
 pub struct Outcome {
     /// The refusal that is due, or 0. For a record 0 if it lies within the file and 1 if not; for metadata 0 if there are any and 1 if not;
-    /// for a text 0 if it is metadata and 1 if not; for a store 0 if there is one and 1 if not; for a cut what the check gives then.
+    /// for a text 0 if it is metadata and 1 if not; for a store 0 if there is one and 1 if not; for a cut what the check gives then; for a part
+    /// of one of two files as for a record.
     pub number: u64,
-    /// How many matches are due.
+    /// Whether the refusal is of the second of two files.
+    pub second: bool,
+    /// How many matches, or differences of two files, are due.
     pub matches: u64,
     /// What differs, one line for each thing.
     pub differences: Vec<String>,
@@ -22,6 +25,7 @@ impl Outcome {
     pub fn of(number: u64, matches: u64) -> Self {
         Outcome {
             number,
+            second: false,
             matches,
             differences: Vec::new(),
         }

@@ -4,6 +4,8 @@ use std::fmt;
 
 use crate::dump_kinds;
 use crate::keys;
+use crate::pair_kinds;
+use crate::show_kinds;
 use crate::store_kinds;
 use crate::tally::Tally;
 use zs_library::refusals::GREATEST;
@@ -11,7 +13,10 @@ use zs_library::refusals::GREATEST;
 impl Tally {
     /// Writes how often each call gave each number.
     fn write_numbers(&self, out: &mut fmt::Formatter<'_>) -> fmt::Result {
-        writeln!(out, "number    check     read   search    write   import")?;
+        writeln!(
+            out,
+            "number    check     read   search    write   import  compare"
+        )?;
         for number in 0..=GREATEST {
             let counts = self.columns().map(|(_, column)| column.count(number));
             if counts.iter().any(|count| *count > 0) {
@@ -68,6 +73,30 @@ impl Tally {
         }
         Ok(())
     }
+
+    fn write_pairs(&self, out: &mut fmt::Formatter<'_>) -> fmt::Result {
+        writeln!(
+            out,
+            "pairs compared: {}, with differences: {}; one place short: {} work lists, {} lists; the second refused: {}",
+            self.compare.answered,
+            self.compare.matched,
+            self.compare.first_short,
+            self.compare.results_short,
+            self.compare_second.values().sum::<u64>()
+        )?;
+        for (name, count) in pair_kinds::names().zip(self.pair_kinds) {
+            writeln!(out, "    {count:4} have {name}")?;
+        }
+        let [there, none] = self.shown;
+        writeln!(
+            out,
+            "  parts of them: {there} that are there, {none} that aren't"
+        )?;
+        for (name, count) in show_kinds::names().zip(self.show_kinds) {
+            writeln!(out, "    {count:4} were asked for {name}")?;
+        }
+        Ok(())
+    }
 }
 
 impl fmt::Display for Tally {
@@ -103,6 +132,7 @@ impl fmt::Display for Tally {
         self.write_inputs(out)?;
         self.write_dumps(out)?;
         self.write_stores(out)?;
+        self.write_pairs(out)?;
         write!(
             out,
             "{} files, inputs, dumps and rows of bytes and texts, {} cases, {} differ",

@@ -71,7 +71,7 @@ impl Run {
         Ok(())
     }
 
-    /// Saves the file, the records, the dump or the text, and the call with what differs; prints the same.
+    /// Saves the file or both, the records, the dump or the text, and the call with what differs; prints the same.
     fn save(&self, name: &str, bytes: &[u8], call: &Call, outcome: &Outcome) -> io::Result<()> {
         if self.tally.differing > MOST_SAVED {
             return Ok(());
@@ -92,6 +92,9 @@ impl Run {
         );
         fs::create_dir_all(&self.folder)?;
         fs::write(self.folder.join(stored), bytes)?;
+        if let Some(second) = call.second() {
+            fs::write(self.folder.join(format!("{name}.second.zs")), second)?;
+        }
         fs::write(self.folder.join(format!("{name}.txt")), &text)?;
         println!("{text}saved in {}\n", self.folder.display());
         Ok(())

@@ -14,6 +14,24 @@ pub fn shape(random: &mut Random) -> Tree {
         1 => fill_wide(random, &kind, &mut tree),
         _ => fill_usual(random, &kind, &mut tree),
     }
+    finish(random, tree)
+}
+
+/// A sound file of these records, one or more.
+pub fn reshape(random: &mut Random, mut records: Vec<Vec<u8>>) -> Tree {
+    let mut tree = Tree::new::<Vec<u8>>(&[]);
+    records.sort();
+    let most = 1 + random.below(5);
+    while !records.is_empty() {
+        let size = 1 + random.below(most.min(records.len()));
+        tree.groups.push(records.drain(..size).collect());
+    }
+    draw_levels(random, &mut tree);
+    finish(random, tree)
+}
+
+/// Draws all that isn't the records and how many levels there are.
+fn finish(random: &mut Random, mut tree: Tree) -> Tree {
     if random.once_in(2) {
         tree.ragged = Some(random.next());
     }
@@ -30,6 +48,11 @@ pub fn shape(random: &mut Random) -> Tree {
 fn fill_usual(random: &mut Random, kind: &Kind, tree: &mut Tree) {
     let most = if kind.is_long() { 4 } else { 9 };
     tree.groups = groups(random, kind, most, 4);
+    draw_levels(random, tree);
+}
+
+/// One to four levels, or as many as the blocks need.
+fn draw_levels(random: &mut Random, tree: &mut Tree) {
     tree.fan_out = (0..1 + random.below(3))
         .map(|_| 1 + random.below(4))
         .collect();

@@ -1,5 +1,5 @@
-//! The proved library answers as the independent reader, writer and import do and gives the same stores, over files, inputs, dumps and texts
-//! drawn from a fixed seed.
+//! The proved library answers as the independent reader, writer, import and comparison do and gives the same stores, over files, pairs of files,
+//! inputs, dumps and texts drawn from a fixed seed.
 //! The table of counts is printed; run with `--nocapture` to see it.
 
 use std::path::Path;
@@ -7,7 +7,8 @@ use std::path::Path;
 use zs_differential::run::Run;
 
 const SEED: u64 = 20_261_115;
-/// Files, inputs, dumps and rows of bytes and texts drawn; a file or an input gets some twenty calls, a dump some four.
+/// Files, inputs, dumps and rows of bytes and texts drawn; a file or an input gets some twenty calls, a dump some four. With a file come one or two
+/// pairs, which get some nine calls where both files are accepted and else some two.
 const STEPS: u64 = 12_000;
 const LEAST_CASES: u64 = 20_000;
 

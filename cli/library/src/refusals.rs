@@ -16,7 +16,7 @@ pub enum Call {
     Write,
     /// [`import_sim`](crate::import_sim).
     ImportSim,
-    /// [`compare`](crate::compare).
+    /// [`compare`](crate::compare), which checks both files.
     Compare,
 }
 
@@ -35,11 +35,11 @@ pub struct Row {
     pub advice: &'static str,
 }
 
-const READERS: &[Call] = &[Call::Check, Call::Read, Call::Search];
-const EVERY: &[Call] = &[Call::Check, Call::Read, Call::Search, Call::Write];
-const CHECK: &[Call] = &[Call::Check];
+const READERS: &[Call] = &[Call::Check, Call::Read, Call::Search, Call::Compare];
+const EVERY: &[Call] = &[Call::Check, Call::Read, Call::Search, Call::Write, Call::Compare];
+const CHECK: &[Call] = &[Call::Check, Call::Compare];
 const SEARCH: &[Call] = &[Call::Search];
-const CHECK_AND_SEARCH: &[Call] = &[Call::Check, Call::Search];
+const CHECK_AND_SEARCH: &[Call] = &[Call::Check, Call::Search, Call::Compare];
 const READ_AND_SEARCH: &[Call] = &[Call::Read, Call::Search];
 const WRITE: &[Call] = &[Call::Write];
 const OUTPUTS: &[Call] = &[Call::Write, Call::ImportSim];

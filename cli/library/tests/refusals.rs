@@ -71,12 +71,13 @@ fn zs_h_has_a_name_and_the_sentence_for_each_number() {
 fn readme_says_which_call_gives_which_numbers() {
     let words = |call| in_words(&numbers(call).collect::<Vec<_>>());
     let due = format!(
-        "The check gives {}, reading front to back {}, the search {}, writing {}, importing a SIM phonebook {}.",
+        "The check gives {}, reading front to back {}, the search {}, writing {}, importing a SIM phonebook {}, comparing {}.",
         words(Call::Check),
         words(Call::Read),
         words(Call::Search),
         words(Call::Write),
-        words(Call::ImportSim)
+        words(Call::ImportSim),
+        words(Call::Compare)
     );
     assert!(refusals_section().contains(&due), "{due}");
 }
