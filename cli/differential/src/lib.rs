@@ -1,9 +1,10 @@
 //! Compares the proved library with the independent reader, writer, import, stores and comparison.
 //!
-//! A seed and a number give a [`drawing`]: one file and all calls to be made on it, and pairs of files with all calls on these; or records, all
-//! calls of the writer on them, and the file written with all calls on that and cuts of its stores; or a dump of a SIM phonebook and all calls of the import on it; or a row of
-//! texts that may be metadata; or a row of bytes that may have stores. Each call is a case. Both implementations answer it, [`compare`] looks
-//! at everything that they gave and at everything that they were lent, [`tally`] counts, and [`run`] saves what differs.
+//! A seed and a number give a [`drawing`]: one file and all calls to be made on it; or records, all calls of the writer on them, and the
+//! file written with all calls on that and cuts of its stores; or a dump of a SIM phonebook and all calls of the import on it; or a row of
+//! texts that may be metadata; or a row of bytes that may have stores. With a file come pairs of files and all calls on these. Each call is a
+//! case. Both implementations answer it, [`compare`] looks at everything that they gave and at everything that they were lent, [`tally`]
+//! counts, and [`run`] saves what differs.
 
 #![forbid(unsafe_code)]
 #![warn(missing_docs)]
