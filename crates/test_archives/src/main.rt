@@ -1,15 +1,17 @@
-// Runs the stored cases: for each case of the files `cases`, `more-cases`, `write-cases` and `import-cases` a call on the file that it
-// names, and a line with the answer.
+// Runs the stored cases: for each case of the files `cases`, `more-cases`, `write-cases`, `import-cases` and `compare-cases` a call on the file
+// or the two files that it names, and a line with the answer.
 ghost use Rattle.io.specs.Counts.{Counts};
 
 mod cases;
 mod check;
+mod compare_pair;
 mod import_sim;
 mod index_search;
 mod lists;
 mod print;
 mod read;
 mod record_part;
+mod shown_part;
 mod store_part;
 mod write;
 
@@ -27,6 +29,24 @@ fn fill(fd: i32, space: &mut [u8]) -> usize
     n
 }
 
+// Opens the second file of a case, or says why it can't, and makes the call on the bytes of both.
+fn answer_pair(first: &[u8], stored: &[u8], case: Case) {
+    let name_part = case.start;
+    let name = string(stored, name_part);
+    let fd = os::open_read(name);
+    if fd < 0 {
+        os::fail(name);
+        return;
+    }
+    let mut space = io::large_buffer();
+    let n = fill(fd, &mut space);
+    if case.call == 8 {
+        compare_pair::run(first, &space[..n], name, case);
+    } else {
+        shown_part::run(first, &space[..n], name, case);
+    }
+}
+
 // Makes the call of a case on the bytes of its file, and prints the line.
 fn answer(file: &[u8], stored: &[u8], case: Case) {
     let name = case.name;
@@ -40,6 +60,7 @@ fn answer(file: &[u8], stored: &[u8], case: Case) {
         5 => write::run(file, stored, case),
         6 => import_sim::run(file, case),
         7 => store_part::run(file, case),
+        8 | 9 => answer_pair(file, stored, case),
         _ => print::number(b" unknown call ", call as u64),
     }
     print::text(b"\n");
@@ -95,4 +116,5 @@ fn main() {
     run_file(b"more-cases");
     run_file(b"write-cases");
     run_file(b"import-cases");
+    run_file(b"compare-cases");
 }

@@ -1,4 +1,6 @@
 // Printing to standard output.
+ghost use mathlib.Core.Path.{_≡_};
+ghost use lib.IntN.{natAbs};
 use libc::STDOUT_FILENO;
 
 pub fn text(bytes: &[u8]) {
@@ -9,6 +11,26 @@ pub fn text(bytes: &[u8]) {
 pub fn number(label: &[u8], n: u64) {
     text(label);
     io::print_decimal(STDOUT_FILENO, n);
+}
+
+// How far a number is from 0. That of the least doesn't fit its type with another sign, so of a number below 0 one is added after the cast.
+fn magnitude(n: i64) -> u64
+    ensures { λ r. ⌜ r ≡ natAbs n ⌝ }
+{
+    if n < 0 {
+        (-1 - n) as u64 + 1
+    } else {
+        n as u64
+    }
+}
+
+// A number that may be below 0 after a label.
+pub fn signed(label: &[u8], n: i64) {
+    text(label);
+    if n < 0 {
+        text(b"-");
+    }
+    io::print_decimal(STDOUT_FILENO, magnitude(n));
 }
 
 // The numbers of a list after a label, a space in front of each.
