@@ -26,5 +26,10 @@ pub fn run(first: &[u8], second: &[u8], name: &[u8], case: Case) {
     print::text(name);
     print::number(b" ", work_places as u64);
     print::number(b" ", list_places as u64);
-    answer(first, second, &mut work[..work_places], &mut list[..list_places]);
+    answer(
+        first,
+        second,
+        &mut work[..work_places],
+        &mut list[..list_places],
+    );
 }

@@ -17,11 +17,7 @@ pub fn number(label: &[u8], n: u64) {
 fn magnitude(n: i64) -> u64
     ensures { λ r. ⌜ r ≡ natAbs n ⌝ }
 {
-    if n < 0 {
-        (-1 - n) as u64 + 1
-    } else {
-        n as u64
-    }
+    if n < 0 { (-1 - n) as u64 + 1 } else { n as u64 }
 }
 
 // A number that may be below 0 after a label.
