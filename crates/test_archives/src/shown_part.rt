@@ -4,7 +4,7 @@ use crate::print;
 use shown::place::place_of;
 use shown::shown;
 
-pub fn run(first: &[u8], second: &[u8], name: &[u8], case: Case) {
+pub fn run<'a>(first: &'a [u8], second: &'a [u8], name: &[u8], case: Case) {
     let which = case.result_places;
     let offset = case.offset;
     let length = case.length;
