@@ -36,7 +36,13 @@ pub struct Row {
 }
 
 const READERS: &[Call] = &[Call::Check, Call::Read, Call::Search, Call::Compare];
-const EVERY: &[Call] = &[Call::Check, Call::Read, Call::Search, Call::Write, Call::Compare];
+const EVERY: &[Call] = &[
+    Call::Check,
+    Call::Read,
+    Call::Search,
+    Call::Write,
+    Call::Compare,
+];
 const CHECK: &[Call] = &[Call::Check, Call::Compare];
 const SEARCH: &[Call] = &[Call::Search];
 const CHECK_AND_SEARCH: &[Call] = &[Call::Check, Call::Search, Call::Compare];
