@@ -1,6 +1,6 @@
 #!/usr/bin/env bash
-# Compares the proved library with the second implementation on drawn files, inputs, dumps, stores and texts until it is stopped, each time with a fresh
-# seed. What differs is saved in differences/.
+# Compares the proved library with the second implementation on drawn files, pairs of files, inputs, dumps, stores and texts until it is stopped,
+# each time with a fresh seed. What differs is saved in differences/.
 #   scripts/fuzz.sh [--seed N] [--cases N]
 set -eu
 cd "$(dirname "$0")/.."

@@ -1,7 +1,7 @@
 #!/usr/bin/env bash
 # Checks the layout of the sources, the scripts and what docs/CLAIMS.md cites, proves every crate from nothing, tries the must-fail edits and
 # runs the programs; then tests the second implementation, the command and the library, compares both implementations on drawn files,
-# inputs and stores and prints how many cases that were, and holds the stored cases to those that the second one makes.
+# pairs of files, inputs and stores and prints how many cases that were, and holds the stored cases to those that the second one makes.
 # `rt ci` removes target/, so whatever is built from the proved libraries comes after it.
 set -eu
 cd "$(dirname "$0")/.."
