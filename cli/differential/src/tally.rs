@@ -37,6 +37,21 @@ pub struct Column {
 }
 
 impl Column {
+    /// Counts a case on what is accepted by how much room it had.
+    fn add_room(&mut self, room: Room, outcome: &Outcome) {
+        let number = outcome.number;
+        match room {
+            Room::Plenty => {
+                self.answered += 1;
+                self.matched += u64::from(outcome.matches > 0);
+            }
+            Room::FirstShort => self.first_short += u64::from([18, 26, 31].contains(&number)),
+            Room::ResultsShort => self.results_short += u64::from([27, 35].contains(&number)),
+            Room::WholeShort => self.whole_short += u64::from(number == 0),
+            Room::Exact | Room::Any => {}
+        }
+    }
+
     /// Cases with this number.
     pub fn count(&self, number: u64) -> u64 {
         self.numbers.get(&number).copied().unwrap_or(0)
@@ -129,20 +144,10 @@ impl Tally {
             Some(level) => level,
             None => return,
         };
-        let matched = u64::from(outcome.matches > 0);
-        match room {
-            Room::Plenty => {
-                column.answered += 1;
-                column.matched += matched;
-            }
-            Room::FirstShort => column.first_short += u64::from([18, 26, 31].contains(&number)),
-            Room::ResultsShort => column.results_short += u64::from([27, 35].contains(&number)),
-            Room::WholeShort => column.whole_short += u64::from(number == 0),
-            Room::Exact | Room::Any => {}
-        }
+        column.add_room(room, outcome);
         if level >= 2 && room == Room::Plenty && matches!(call, Call::Search { .. }) {
             self.deep += 1;
-            self.deep_matched += matched;
+            self.deep_matched += u64::from(outcome.matches > 0);
         }
     }
 

@@ -141,19 +141,39 @@ fn add_copies(corpus: &mut Corpus) {
     corpus.ask_shown("compare-fewer", "compare-more");
 }
 
+/// Pairs of such files and of others, compared both ways.
+const STRINGS: [(&str, &str); 18] = [
+    ("compare-empty", "smallest"),
+    ("compare-empty", "keys-all-empty"),
+    ("compare-empty", "empty-records"),
+    ("compare-ff", "unsigned-order"),
+    ("compare-ff", "smallest"),
+    ("compare-ff", "compare-signed"),
+    ("compare-signed", "two-blocks"),
+    ("compare-begins", "compare-begun"),
+    ("compare-begins", "beginning-first"),
+    ("compare-even", "index-after"),
+    ("compare-after", "index-ahead"),
+    ("compare-after", "compare-begins"),
+    ("compare-long", "long-keys"),
+    ("reserved-all", "two-blocks"),
+    ("reserved-all", "index-between"),
+    ("keys-short", "seven-blocks"),
+    ("one-record", "end-of-prefix"),
+    ("long-records", "compare-begun"),
+];
+
 /// Empty records, bytes FF, strings that begin one another, and files that lie before, between and within one another.
 fn add_strings(corpus: &mut Corpus) {
     let (long, longer) = ([b'k'; 130], [b'k'; 131]);
+    let ff: &[&[&[u8]]] = &[
+        &[b"\xff"],
+        &[b"\xff\xff", b"\xff\xff\xff"],
+        &[b"\xff\xff\xff"],
+    ];
     let files: [(&str, &[&[&[u8]]]); 8] = [
         ("compare-empty", &[&[b"", b""], &[b"", b"", b"b"]]),
-        (
-            "compare-ff",
-            &[
-                &[b"\xff"],
-                &[b"\xff\xff", b"\xff\xff\xff"],
-                &[b"\xff\xff\xff"],
-            ],
-        ),
+        ("compare-ff", ff),
         (
             "compare-signed",
             &[&[b"a\x7f", b"a\x80"], &[b"a\xff", b"\x80"]],
@@ -167,26 +187,7 @@ fn add_strings(corpus: &mut Corpus) {
     for (name, groups) in files {
         corpus.add_groups(name, groups);
     }
-    for (one, other) in [
-        ("compare-empty", "smallest"),
-        ("compare-empty", "keys-all-empty"),
-        ("compare-empty", "empty-records"),
-        ("compare-ff", "unsigned-order"),
-        ("compare-ff", "smallest"),
-        ("compare-ff", "compare-signed"),
-        ("compare-signed", "two-blocks"),
-        ("compare-begins", "compare-begun"),
-        ("compare-begins", "beginning-first"),
-        ("compare-even", "index-after"),
-        ("compare-after", "index-ahead"),
-        ("compare-after", "compare-begins"),
-        ("compare-long", "long-keys"),
-        ("reserved-all", "two-blocks"),
-        ("reserved-all", "index-between"),
-        ("keys-short", "seven-blocks"),
-        ("one-record", "end-of-prefix"),
-        ("long-records", "compare-begun"),
-    ] {
+    for (one, other) in STRINGS {
         corpus.ask_both(one, other);
     }
     for (one, other) in [
