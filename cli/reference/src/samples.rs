@@ -42,6 +42,9 @@ const FAMILY: [&str; 14] = [
 ];
 const AREAS: [&str; 6] = ["201", "305", "412", "503", "617", "808"];
 
+/// Contacts that are drawn, and those whose names begin with bytes FF.
+const DRAWN: usize = 1400;
+const UNLISTED: usize = 60;
 /// A record that stands in many blocks, to show that equal records are all found.
 const REPEATED: &str = "Echo Repeated\t201-555-0100";
 const TIMES_REPEATED: usize = 40;
@@ -76,19 +79,41 @@ pub fn archives() -> Vec<Sample> {
     let sample = |name, bytes| Sample { name, bytes };
     vec![
         sample("contacts.zs", contacts()),
+        sample("contacts-older.zs", older_contacts()),
         sample("small.zs", small()),
     ]
 }
 
 /// About fifteen hundred contacts in four levels.
 fn contacts() -> Vec<u8> {
-    let mut random = Random::new(1955);
-    let mut records: Vec<Vec<u8>> = (0..1400).map(|_| contact(&mut random)).collect();
-    records.extend((0..60).map(unlisted_contact));
-    records.extend(vec![REPEATED.as_bytes().to_vec(); TIMES_REPEATED]);
     let about =
         br#"{"about": "invented sample contacts", "record": "name TAB number", "text": "Latin-1"}"#;
-    tree(records, 12, 6, about).bytes()
+    tree(contact_records(), 12, 6, about).bytes()
+}
+
+/// An older backup of the contacts, in larger blocks: three were added since, one got another number, one was deleted, and the repeated record
+/// was there less often.
+fn older_contacts() -> Vec<u8> {
+    let mut records = contact_records();
+    records.truncate(DRAWN + UNLISTED + TIMES_REPEATED - 2);
+    for added in [DRAWN + UNLISTED - 1, 1100, 700] {
+        records.remove(added);
+    }
+    if let Some(digit) = records[300].last_mut() {
+        *digit = b'0';
+    }
+    records.push(b"Greta Mockley\t617-555-0118".to_vec());
+    let about = br#"{"about": "invented sample contacts, an older backup"}"#;
+    tree(records, 50, 8, about).bytes()
+}
+
+/// The contacts in the order in which they are drawn.
+fn contact_records() -> Vec<Vec<u8>> {
+    let mut random = Random::new(1955);
+    let mut records: Vec<Vec<u8>> = (0..DRAWN).map(|_| contact(&mut random)).collect();
+    records.extend((0..UNLISTED).map(unlisted_contact));
+    records.extend(vec![REPEATED.as_bytes().to_vec(); TIMES_REPEATED]);
+    records
 }
 
 /// A few contacts, few enough for every bit to be flipped.
