@@ -12,7 +12,7 @@ use crate::refusals::Refusal;
 use crate::walk::measure;
 
 /// The least full size of an ordinary block: a number, a level, one byte of payload and the checksum.
-const SMALLEST_BLOCK: usize = 11;
+pub const SMALLEST_BLOCK: usize = 11;
 /// Places of a first list: a lookup finds few records.
 const FIRST_PLACES: usize = 1024;
 /// Besides, a first list has a place for so many bytes that may be searched.
@@ -43,13 +43,13 @@ impl Answer {
 }
 
 /// How long a list is, and how long it may become.
-struct Places {
+pub struct Places {
     now: usize,
     most: usize,
 }
 
 impl Places {
-    fn new(first: usize, most: usize) -> Self {
+    pub fn new(first: usize, most: usize) -> Self {
         Places {
             now: first.min(most),
             most,
@@ -57,14 +57,14 @@ impl Places {
     }
 
     /// Makes the list longer, unless it is as long as it may become.
-    fn grow(&mut self) -> bool {
+    pub fn grow(&mut self) -> bool {
         let before = self.now;
         let longer = before.saturating_mul(8).max(FIRST_PLACES);
         self.now = longer.min(self.most);
         self.now > before
     }
 
-    fn zeros(&self) -> Result<Vec<u64>, Failure> {
+    pub fn zeros(&self) -> Result<Vec<u64>, Failure> {
         zeros(self.now)
     }
 }
@@ -205,7 +205,7 @@ fn refuse_matches<T>(file: &[u8], limit: Option<u64>) -> Result<T, Failure> {
 }
 
 /// The bytes that may be looked at: a file above the limit is refused by its length, whatever its lists.
-fn readable(file: &[u8]) -> &[u8] {
+pub fn readable(file: &[u8]) -> &[u8] {
     match file.len() {
         length if length > LONGEST => &[],
         _ => file,

@@ -9,8 +9,9 @@ use zs_library::Query;
 
 use crate::escapes::{resolve, Bytes};
 use crate::help::{
-    ABOUT, DUMP_EXAMPLES, EXAMPLES, EXPLAIN_EXAMPLES, IMPORT_EXAMPLES, INFO_EXAMPLES,
-    MAKE_EXAMPLES, MAKE_INPUTS, OUT, SIM_EXAMPLES, SIM_INPUTS, STATUS, VALIDATE_EXAMPLES,
+    ABOUT, COMPARE_EXAMPLES, COMPARE_STATUS, DUMP_EXAMPLES, EXAMPLES, EXPLAIN_EXAMPLES,
+    IMPORT_EXAMPLES, INFO_EXAMPLES, MAKE_EXAMPLES, MAKE_INPUTS, OUT, SIM_EXAMPLES, SIM_INPUTS,
+    STATUS, VALIDATE_EXAMPLES,
 };
 use crate::import::{LONGEST_NAME, NUMBER_BYTES};
 use crate::records::Form;
@@ -38,6 +39,9 @@ pub enum Command {
     /// Write the records of a file, all or those asked for
     #[command(after_help = format!("{DUMP_EXAMPLES}\n\n{STATUS}"))]
     Dump(Dump),
+    /// Show which records two files hold a different number of times
+    #[command(after_help = format!("{COMPARE_EXAMPLES}\n\n{COMPARE_STATUS}"))]
+    Compare(Compare),
     /// Show what a file is, as JSON
     #[command(after_help = format!("{INFO_EXAMPLES}\n\n{STATUS}"))]
     Info(Info),
@@ -132,6 +136,22 @@ pub struct Dump {
     /// Refuse (27) where more than N records match
     #[arg(long, value_name = "N", value_parser = number_parser(0, u64::MAX), allow_hyphen_values = true)]
     pub max_results: Option<u64>,
+}
+
+#[derive(Args)]
+pub struct Compare {
+    /// The first archive, as an older backup; - is standard input
+    #[arg(value_name = "A")]
+    pub first: PathBuf,
+    /// The second archive, as a newer backup; - is standard input
+    #[arg(value_name = "B")]
+    pub second: PathBuf,
+    /// Only say how many records differ, and how many more B holds than A
+    #[arg(long)]
+    pub count: bool,
+    /// Write to this file, which appears once it is whole; - is standard output
+    #[arg(short, long, value_name = "OUT")]
+    pub output: Option<PathBuf>,
 }
 
 #[derive(Args)]

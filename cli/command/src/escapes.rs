@@ -1,5 +1,6 @@
 //! Bytes in arguments and in lines for people: `\t`, `\n`, `\r`, `\\` and `\x` with two hex digits; every other byte is itself.
 
+use std::borrow::Cow;
 use std::ffi::OsString;
 use std::fmt;
 use std::os::unix::ffi::{OsStrExt, OsStringExt};
@@ -7,6 +8,8 @@ use std::path::Path;
 
 /// Longer byte strings are cut for display.
 const LONGEST_QUOTE: usize = 40;
+/// So many bytes become escapes at a time.
+const LONGEST_PIECE: usize = 1 << 12;
 
 /// Bytes as an argument gives them, its escapes resolved.
 #[derive(Clone, Debug, Default, PartialEq, Eq)]
@@ -124,24 +127,49 @@ pub fn quote(bytes: &[u8]) -> String {
     }
 }
 
-/// Gives a file's name on one line: printable characters as they are, every other byte as an escape. In a line that goes on after the
-/// name, it ends at the first colon that a space follows.
+/// Gives a file's name on one line, as [`printable_pieces`] does. In a line that goes on after the name, it ends at the first colon that a
+/// space follows.
 pub fn escape_name(name: &Path) -> String {
-    let mut rest = name.as_os_str().as_bytes();
-    let mut text = String::with_capacity(rest.len());
-    while let [first, after @ ..] = rest {
-        match first_character(rest) {
-            Some(letter) if is_printable(letter) && letter != '\\' => {
-                text.push(letter);
-                rest = &rest[letter.len_utf8()..];
-            }
-            _ => {
-                text.push_str(&escape(&[*first]));
-                rest = after;
-            }
-        }
-    }
+    let text: String = printable_pieces(name.as_os_str().as_bytes()).collect();
     text.replace(": ", "\\x3a ")
+}
+
+/// Gives bytes on one line, piece by piece: printable characters as they are, save the backslash, and every other byte as an escape.
+pub fn printable_pieces(bytes: &[u8]) -> impl Iterator<Item = Cow<'_, str>> {
+    let mut rest = bytes;
+    std::iter::from_fn(move || {
+        let printable = printable_length(rest);
+        let length = match printable {
+            0 => hidden_length(rest),
+            length => length,
+        };
+        let (piece, after) = rest.split_at(length);
+        rest = after;
+        match std::str::from_utf8(piece) {
+            Ok("") => None,
+            Ok(text) if printable > 0 => Some(Cow::Borrowed(text)),
+            _ => Some(Cow::Owned(escape(piece))),
+        }
+    })
+}
+
+/// How many bytes at the front are shown as they are: letters of ASCII that follow one another, or one other character.
+fn printable_length(bytes: &[u8]) -> usize {
+    let is_plain = |byte: &&u8| matches!(byte, b' '..=b'~') && **byte != b'\\';
+    match bytes.iter().take_while(is_plain).count() {
+        0 => first_character(bytes)
+            .filter(|letter| is_printable(*letter) && *letter != '\\')
+            .map_or(0, char::len_utf8),
+        plain => plain,
+    }
+}
+
+/// How many bytes at the front aren't, up to the longest piece.
+fn hidden_length(bytes: &[u8]) -> usize {
+    let most = bytes.len().min(LONGEST_PIECE);
+    let mut places = 0..most;
+    let shown = places.find(|at| printable_length(&bytes[*at..]) > 0);
+    shown.unwrap_or(most)
 }
 
 /// Gives a text on one line, and no character that a terminal obeys. A backslash stays, so this doesn't say what the text was.
@@ -212,6 +240,8 @@ mod tests {
             let mut bytes = every_byte.clone();
             bytes.extend(letter.to_string().bytes());
             bytes.extend(&every_byte);
+            let shown: String = printable_pieces(&bytes).collect();
+            assert_eq!(of(&shown).as_ref(), Ok(&bytes));
             let name = escape_name(Path::new(OsStr::from_bytes(&bytes)));
             assert_eq!(of(&name), Ok(bytes));
         }
@@ -231,6 +261,19 @@ mod tests {
         }
         let latin_1 = OsStr::from_bytes(b"caf\xe9\xff.zs");
         assert_eq!(escape_name(Path::new(latin_1)), r"caf\xe9\xff.zs");
+    }
+
+    #[test]
+    fn pieces_are_whole_characters_or_escapes() {
+        let long = [&[0xff; LONGEST_PIECE + 1][..], "é\\é\t".as_bytes()].concat();
+        let pieces: Vec<Cow<str>> = printable_pieces(&long).collect();
+        let full = r"\xff".repeat(LONGEST_PIECE);
+        assert_eq!(pieces, [&full, r"\xff", "é", r"\\", "é", r"\t"]);
+        assert_eq!(
+            printable_pieces(b"a \"b\"~").collect::<String>(),
+            "a \"b\"~"
+        );
+        assert_eq!(printable_pieces(b"").count(), 0);
     }
 
     #[test]

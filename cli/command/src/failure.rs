@@ -6,7 +6,7 @@ use std::path::Path;
 use crate::escapes::escape_name;
 use crate::refusals::Refusal;
 
-/// The exit status. The worst of several is the greatest.
+/// The exit status. Where several files are checked, the greatest is the worst.
 #[derive(Clone, Copy, Debug, PartialEq, Eq, PartialOrd, Ord)]
 pub enum Status {
     /// There was an answer.
@@ -15,6 +15,8 @@ pub enum Status {
     Refused = 1,
     /// The arguments, an input or an output were at fault.
     Trouble = 2,
+    /// There was an answer: two files differ.
+    Different = 3,
 }
 
 /// Why a command didn't answer.

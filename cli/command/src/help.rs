@@ -1,8 +1,13 @@
 //! The texts of the help: what a command is about, and examples.
 
-pub const ABOUT: &str = "Makes, checks, reads and searches ZS archives (version 0.10, codec none), by a library that is proved.";
+pub const ABOUT: &str = "Makes, checks, reads, searches and compares ZS archives (version 0.10, codec none), by a library that is proved.";
 
 pub const STATUS: &str = "Exit status: 0 answered, 1 refused, 2 usage or input/output.
+A refusal has a number, a place (the first byte of the block meant, if one is) and a sentence.";
+
+/// Of the command that tells by its status what it found.
+pub const COMPARE_STATUS: &str =
+    "Exit status: 0 no differences, 1 refused, 2 usage or input/output, 3 differences.
 A refusal has a number, a place (the first byte of the block meant, if one is) and a sentence.";
 
 pub const EXAMPLES: &str = "Examples:
@@ -10,10 +15,11 @@ pub const EXAMPLES: &str = "Examples:
   zs import sim card.adn card.zs --name-length 14 --metadata '{\"about\": \"my card\"}'
   zs validate contacts.zs
   zs dump contacts.zs --prefix 'Ada '
+  zs compare older.zs contacts.zs
   zs info contacts.zs
   zs explain contacts.zs --prefix 'Ada '
 
-Exit status: 0 answered, 1 refused, 2 usage or input/output.
+Exit status: 0 answered, 1 refused, 2 usage or input/output, 3 differences found by compare.
 'zs COMMAND --help' says more about each command.";
 
 pub const MAKE_INPUTS: &str = "METADATA is one JSON object in UTF-8, in which objects and arrays are nested at most 64 deep. It is
@@ -88,6 +94,23 @@ Examples:
   zs dump contacts.zs --terminator '\\x00' | xargs -0 -n 1 echo
   zs dump contacts.zs --length-prefixed u64le -o out   out appears once it is whole
   gunzip -c contacts.zs.gz | zs dump - --prefix Ada    an archive on standard input";
+
+pub const COMPARE_EXAMPLES: &str = "Each line is a record that A and B hold a different number of times: the copies in A, those in B and
+the record, with a tab between them. Records rise, and each is on one line: what isn't printable is
+an escape, \\t \\n \\r \\\\ or \\x00 to \\xff. Both files are checked first. How their records are put into
+blocks, and their metadata, make no difference.
+
+With --count the line is, as an example, '5 differences, sum -2': so many lines there would be, and B
+holds two records less than A.
+
+Examples:
+  zs compare older.zs newer.zs                         what was added, removed or repeated
+  zs compare older.zs newer.zs | grep -P '^0\\t'        the records that only newer.zs holds
+  zs compare older.zs newer.zs | cut -f 3              the records alone
+  zs compare older.zs newer.zs -o differences          a file that appears once it is whole
+  zs compare older.zs newer.zs --count
+  gunzip -c older.zs.gz | zs compare - newer.zs
+  zs compare a.zs b.zs >/dev/null && echo the same records";
 
 pub const INFO_EXAMPLES: &str =
     "The file is checked first. Its metadata is a JSON object and is shown as it is stored; on a terminal

@@ -2,7 +2,7 @@
 
 use std::fs::{self, File};
 use std::io::{self, Read};
-use std::os::unix::fs::MetadataExt;
+use std::os::unix::fs::{FileTypeExt, MetadataExt};
 use std::path::Path;
 
 use zs_library::Mapping;
@@ -76,6 +76,18 @@ pub fn is_standard_input(path: &Path) -> bool {
     match (own, fs::metadata(path)) {
         _ if is_dash(path) => true,
         (Ok(own), Ok(other)) => (own.dev(), own.ino()) == (other.dev(), other.ino()),
+        _ => false,
+    }
+}
+
+/// Whether two paths lead to what can be read only once: standard input from where it stands, or a pipe.
+pub fn is_read_once(one: &Path, other: &Path) -> bool {
+    let about = |path| fs::metadata(system_path(path));
+    match (about(one), about(other)) {
+        _ if is_dash(one) && is_dash(other) => true,
+        (Ok(one), Ok(other)) => {
+            one.file_type().is_fifo() && (one.dev(), one.ino()) == (other.dev(), other.ino())
+        }
         _ => false,
     }
 }

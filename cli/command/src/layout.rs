@@ -80,16 +80,28 @@ pub fn block(file: &[u8], offset: u64) -> Option<Block<'_>> {
     })
 }
 
-/// How many data and index blocks follow one another after the header, up to the first block that can't be made out. Only the front of
-/// each is looked at.
-pub fn count_blocks(file: &[u8]) -> usize {
-    let mut count = 0;
+/// The blocks that follow one another after the header, up to the first that can't be made out.
+fn blocks(file: &[u8]) -> impl Iterator<Item = Block<'_>> {
     let mut next = header_end(file);
-    while let Some(found) = next.and_then(|offset| block(file, offset)) {
-        count += usize::from(found.level <= *INDEX.end());
+    std::iter::from_fn(move || {
+        let found = block(file, next?)?;
         next = Some(found.end);
-    }
-    count
+        Some(found)
+    })
+}
+
+/// How many data and index blocks these are. Only the front of each is looked at.
+pub fn count_blocks(file: &[u8]) -> usize {
+    let is_ordinary = |block: &Block| block.level <= *INDEX.end();
+    blocks(file).filter(is_ordinary).count()
+}
+
+/// The records of the data blocks among them, in that order.
+pub fn all_records(file: &[u8]) -> impl Iterator<Item = &[u8]> {
+    let data = blocks(file).filter(|block| block.level == 0);
+    data.flat_map(move |block| {
+        records(&block).map(move |(offset, length)| &file[offset as usize..][..length as usize])
+    })
 }
 
 /// Offset and length of each record of a data block, up to the first that can't be made out.

@@ -1,25 +1,27 @@
-//! The command `zs`: makes, checks, reads and searches ZS archives.
+//! The command `zs`: makes, checks, reads, searches and compares ZS archives.
 //!
-//! Every archive, every verdict, every match and every opened block comes from the proved library. This crate reads the arguments and the files, and
-//! prints the answers.
+//! Every archive, every verdict, every match, every opened block and every difference comes from the proved library. This crate reads the
+//! arguments and the files, and prints the answers.
 //!
 //! * [`arguments`], [`help`], [`escapes`] and [`usage`]: what a person asks for.
-//! * [`input`], [`memory`], [`cut_files`], [`archive`], [`answers`], [`refusals`]: bytes, checked or not, the library's answers with
-//!   lists that grow, and refusals in words.
+//! * [`input`], [`memory`], [`cut_files`], [`archive`], [`answers`], [`differences`], [`refusals`]: bytes, checked or not, the library's
+//!   answers with lists that grow, and refusals in words.
 //! * [`records`], [`encoding`], [`writing`], [`making`]: records one after the other in an input, and the archive that the library makes
 //!   of them, from what is asked to a file.
-//! * [`make`], [`import`], [`validate`], [`dump`], [`info`], [`explain`]: one module for each command.
+//! * [`make`], [`import`], [`validate`], [`dump`], [`compare`], [`info`], [`explain`]: one module for each command.
 //! * [`output`], [`target`], [`storing`], [`unfinished`], [`signals`], [`system`]: where answers are written, how an archive comes to the
 //!   disk, and how a file appears only when it is whole.
 //! * [`terminal`], [`progress`], [`failure`]: text and progress on a terminal, and what went wrong.
-//! * [`layout`], [`walk`], [`metadata`]: fields, bounds and faults for display, and what a check or a search would take.
+//! * [`layout`], [`walk`], [`metadata`]: fields, bounds and faults for display, and what a check, a search or a comparison would take.
 #![deny(unsafe_code)]
 
 mod answers;
 mod archive;
 mod arguments;
+mod compare;
 #[allow(unsafe_code)]
 mod cut_files;
+mod differences;
 mod dump;
 mod encoding;
 mod escapes;
@@ -79,6 +81,10 @@ fn run(command: &Command) -> Status {
             (import::file_at_fault(asked, &outcome), outcome)
         }
         Command::Validate(asked) => return report(None, validate::run(asked)),
+        Command::Compare(asked) => {
+            let (file, outcome) = compare::run(asked);
+            return report(file, outcome);
+        }
         Command::Dump(asked) => (Some(asked.file.as_path()), dump::run(asked)),
         Command::Info(asked) => (Some(asked.file.as_path()), info::run(asked)),
         Command::Explain(asked) => (Some(asked.file.as_path()), explain::run(asked)),

@@ -2,6 +2,8 @@
 
 mod answers;
 mod arguments;
+mod compare;
+mod compare_faults;
 mod counts;
 mod damage;
 mod import;

@@ -2,7 +2,7 @@
 
 use std::fs;
 
-use crate::support::{shell, Folder, CONTACTS, PHONEBOOK};
+use crate::support::{shell, Folder, CONTACTS, OLDER, PHONEBOOK};
 
 const README: &str = concat!(env!("CARGO_MANIFEST_DIR"), "/../../README.md");
 
@@ -41,10 +41,14 @@ fn every_step_gives_what_is_shown() {
     folder.write("contacts.zs", &sample);
     sample[4998] ^= 1;
     folder.write("damaged.zs", &sample);
-    let phonebook = fs::read(PHONEBOOK).expect("the sample");
-    folder.write("sim-phonebook.adn", &phonebook);
+    for (name, sample) in [
+        ("contacts-older.zs", OLDER),
+        ("sim-phonebook.adn", PHONEBOOK),
+    ] {
+        fs::copy(sample, folder.name(name)).expect("the sample");
+    }
     let steps = steps();
-    assert!(steps.len() >= 13, "{}", steps.len());
+    assert!(steps.len() >= 18, "{}", steps.len());
     for Step { command, shown } in steps {
         if let Some(name) = command.strip_prefix("cat ") {
             folder.write(name, shown.as_bytes());

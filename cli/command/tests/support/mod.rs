@@ -16,6 +16,10 @@ use std::time::Duration;
 use zs_reference::reader::{self, Query};
 pub const ZS: &str = env!("CARGO_BIN_EXE_zs");
 pub const CONTACTS: &str = concat!(env!("CARGO_MANIFEST_DIR"), "/../../samples/contacts.zs");
+pub const OLDER: &str = concat!(
+    env!("CARGO_MANIFEST_DIR"),
+    "/../../samples/contacts-older.zs"
+);
 pub const SMALL: &str = concat!(env!("CARGO_MANIFEST_DIR"), "/../../samples/small.zs");
 pub const PHONEBOOK: &str = concat!(
     env!("CARGO_MANIFEST_DIR"),
