@@ -10,7 +10,8 @@ const CXX: &[&str] = &["-x", "c++", "-std=c++11"];
 const STRICT: &[&str] = &["-Wall", "-Wextra", "-Werror", "-pedantic"];
 const TWO_BLOCKS: &str = "crates/test_archives/data/two-blocks";
 
-/// What `interface.c` prints of the calls on the example with two data blocks, of writing its records, of importing a phonebook, and of stores.
+/// What `interface.c` prints of the calls on the example with two data blocks, of writing its records, of importing a phonebook, of stores, and
+/// of comparing.
 const CALLS: &str = "\
 check 0 0 3 4
 work 0 0 0 0
@@ -100,6 +101,18 @@ Greta Mockley\t808-555-0136
 Greta Mockley\t808-555-0191
 ";
 
+/// What `backups.c` prints, with each byte as a character.
+const DIFFERENCES: &str = "\
+38 40 Echo Repeated\t201-555-0100
+1 0 Greta Mockley\t617-555-0118
+0 1 Jory Imagine\t412-555-0116
+1 0 Lou\u{ff}se Fictional\t412-555-0120
+0 1 Lou\u{ff}se Fictional\t412-555-0127
+0 1 Lou\u{ff}se Placeholder\t808-555-0142
+0 1 \u{ff}\u{ff}\u{ff}unlisted 59\t555-0159
+4 records more
+";
+
 /// A path of the repository.
 fn path(below: &str) -> PathBuf {
     Path::new(env!("CARGO_MANIFEST_DIR"))
@@ -175,4 +188,18 @@ fn the_example_finds_contacts() {
     let output = run("cc", C, "lookup.c", &[path("samples/contacts.zs"), prefix]);
     assert_eq!(String::from_utf8_lossy(&output.stdout), CONTACTS);
     assert!(output.status.success());
+}
+
+#[test]
+fn the_example_compares_backups() {
+    let [older, newer] = ["samples/contacts-older.zs", "samples/contacts.zs"].map(path);
+    let output = run("cc", C, "backups.c", &[older.clone(), newer]);
+    let printed: String = output.stdout.iter().map(|byte| char::from(*byte)).collect();
+    assert_eq!(printed, DIFFERENCES);
+    assert!(output.status.success());
+    // So many differences that the first list is too short.
+    let output = run("cc", C, "backups.c", &[older, path("samples/small.zs")]);
+    let printed = String::from_utf8_lossy(&output.stdout);
+    assert!(printed.lines().count() > 1000, "{printed}");
+    assert!(printed.ends_with("\n-1482 records more\n"), "{printed}");
 }

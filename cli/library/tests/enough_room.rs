@@ -3,7 +3,7 @@
 use std::path::Path;
 use std::thread;
 
-use zs_library::{check, import_sim, is_metadata, read, search, write, Counts, Query};
+use zs_library::{check, compare, import_sim, is_metadata, read, search, write, Counts, Query};
 use zs_reference::maker::{adn, Image, Plan};
 
 const STACK: usize = 64 << 10;
@@ -82,6 +82,25 @@ fn opened_and_result_places_by_the_counts_of_the_check() {
 }
 
 #[test]
+fn five_places_for_each_record_of_two_files() {
+    let files = files();
+    let counted = files.iter().filter_map(|file| {
+        let checked = check(file, &mut vec![7; file.len() / 11]);
+        (checked.number == 0).then_some((file, checked.records))
+    });
+    let accepted: Vec<(&Vec<u8>, u64)> = counted.collect();
+    assert!(accepted.len() > 50, "{} accepted files", accepted.len());
+    for pair in accepted.windows(2) {
+        let [(first, records), (second, others)] = [pair[0], pair[1]];
+        let mut work = vec![7; first.len().max(second.len()) / 11];
+        let mut list = vec![7; 5 * (records + others) as usize];
+        let compared = compare(first, second, &mut work, &mut list);
+        let sum = others as i64 - records as i64;
+        assert_eq!((compared.number, compared.sum), (0, sum));
+    }
+}
+
+#[test]
 fn two_result_places_for_each_byte_when_reading_anything() {
     for file in files() {
         assert_ne!(read(&file, &ALL, &mut vec![7; 2 * file.len()]).number, 27);
@@ -122,8 +141,9 @@ fn a_stack_of_64_kib() {
             &mut vec![7; 100 * RECORDS.len()],
         );
         let imported = import_sim(&dump, 241, &mut vec![7; 2 * dump.len()]);
+        let compared = compare(&file, &file, &mut [7; 64], &mut []);
         assert_eq!([checked.number, found.number, written.number], [0; 3]);
-        assert_eq!(imported.number, 0);
+        assert_eq!([imported.number, compared.number], [0; 2]);
         assert!(!is_metadata(&nested_arrays(100_000)));
         (checked.blocks, found.opened)
     };

@@ -4,11 +4,11 @@
 
 #include "zs.h"
 
-enum { WORK = 4, OPENED = 4, RESULTS = 6, OUTPUT = 200 };
+enum { WORK = 4, OPENED = 4, RESULTS = 6, LIST = 16, OUTPUT = 200 };
 
 static uint8_t file[65536], output[OUTPUT], archive[OUTPUT];
 static size_t length;
-static uint64_t work[WORK], opened[OPENED], results[RESULTS];
+static uint64_t work[WORK], opened[OPENED], results[RESULTS], list[LIST];
 
 static void print_list(const char *name, const uint64_t *list, size_t places)
 {
@@ -44,9 +44,20 @@ static void print_written(const char *name, struct zs_written answer)
     print_four(name, answer.number, answer.place, answer.length, 0);
 }
 
+static void print_compared(const char *name, struct zs_compared answer)
+{
+    print_four(name, answer.number, answer.place, answer.which, answer.differences);
+    printf("sum %lld\n", (long long)answer.sum);
+}
+
 static void print_part(const char *name, struct zs_part part)
 {
     print_four(name, part.offset, part.length, 0, 0);
+}
+
+static void print_shown(const char *name, struct zs_shown part)
+{
+    print_four(name, part.which, part.offset, part.length, 0);
 }
 
 /* Numbers that a call has to overwrite. */
@@ -55,6 +66,7 @@ static void fill_lists(void)
     memset(work, 7, sizeof work);
     memset(opened, 7, sizeof opened);
     memset(results, 7, sizeof results);
+    memset(list, 7, sizeof list);
 }
 
 /* The records that begin with `b`. */
@@ -170,6 +182,39 @@ static void call_store(void)
     }
 }
 
+/* Compares the example with a file in which one record is stored once more, one isn't and one is new, and the other way about. Then what the
+ * three numbers of a record lead to, refusals of either file, and lists that are too short. */
+static void call_compare(void)
+{
+    const uint8_t records[12] = {1, 'a', 1, 'a', 2, 'b', 0xff, 2, 'b', 0xff, 1, 'd'};
+    size_t other = (size_t)zs_write((const uint8_t *)"{}", 2, records, sizeof records, 3, 2, archive, OUTPUT).length;
+    fill_lists();
+    print_compared("compare", zs_compare(archive, other, file, length, work, WORK, list, LIST));
+    print_list("list", list, LIST);
+    print_list("work", work, WORK);
+    fill_lists();
+    print_compared("compare", zs_compare(file, length, archive, other, work, WORK, list, LIST));
+    print_list("list", list, LIST);
+    for (size_t i = 0; i < 15; i += 5) {
+        zs_shown part = zs_show(file, length, archive, other, list[i], list[i + 1], list[i + 2]);
+        print_shown("show", part);
+        printf("record %c\n", (part.which == 1 ? file : archive)[part.offset]);
+    }
+    print_shown("show", zs_show(file, length, archive, other, 0, 0, 1));
+    print_shown("show", zs_show(file, length, archive, other, 3, 0, 1));
+    print_shown("show", zs_show(file, length, archive, other, 2, other, 0));
+    print_shown("show", zs_show(file, length, archive, other, 2, other, 1));
+
+    print_compared("compare", zs_compare(file, length, file, length, work, WORK, list, 0));
+    print_compared("compare", zs_compare(file, length - 1, archive, other - 1, work, WORK, list, LIST));
+    print_compared("compare", zs_compare(file, length, archive, other - 1, work, WORK, list, LIST));
+    print_compared("compare", zs_compare(file, length, archive, other, work, 2, list, LIST));
+    print_compared("compare", zs_compare(file, length, archive, other, work, 3, list, 15));
+    fill_lists();
+    print_compared("compare", zs_compare(file, length, archive, other, work, WORK, list, 14));
+    print_list("list", list, 14);
+}
+
 /* Every pointer is NULL once. */
 static void call_with_null(void)
 {
@@ -201,6 +246,15 @@ static void call_with_null(void)
 
     for (uint64_t i = 0; i <= 4; i++)
         print_part("null file", zs_store(NULL, 0, i));
+
+    print_compared("null first", zs_compare(NULL, 0, file, length, work, WORK, list, LIST));
+    print_compared("null second", zs_compare(file, length, NULL, 0, work, WORK, list, LIST));
+    print_compared("null work", zs_compare(file, length, file, length, NULL, 0, list, LIST));
+    print_compared("null list", zs_compare(file, length, file, length, work, WORK, NULL, 0));
+    print_compared("null all", zs_compare(NULL, 0, NULL, 0, NULL, 0, NULL, 0));
+    print_shown("null first", zs_show(NULL, 0, file, length, 1, 0, 0));
+    print_shown("null second", zs_show(file, length, NULL, 0, 2, 0, 0));
+    print_shown("null second", zs_show(file, length, NULL, 0, 2, 0, 1));
 }
 
 /* Version, and the refusals of a file without its last byte and of a short list by their names. */
@@ -211,7 +265,7 @@ static void print_words(void)
     zs_checked full = zs_check(file, length, work, 1);
     enum zs_refusal named = ZS_WORK_LIST_SHORT;
     printf("names %d %d\n", cut.number == ZS_FILE_LENGTH, full.number == (uint64_t)named);
-    for (uint64_t number = ZS_OK; number <= ZS_BAD_NUMBER_LENGTH + 1; number++)
+    for (uint64_t number = ZS_OK; number <= ZS_DIFFERENCE_LIST_SHORT + 1; number++)
         printf("message %llu %s\n", (unsigned long long)number, zs_message(number));
 }
 
@@ -226,6 +280,7 @@ int main(int count, char **words)
     write_and_read();
     import_and_check();
     call_store();
+    call_compare();
     call_with_null();
     print_words();
     return 0;

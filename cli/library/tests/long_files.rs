@@ -1,7 +1,7 @@
 //! Refusals 1 and 31 at the limit of length: 1 over sparse files that are mapped and never written, 31 over outputs that are longer. The
 //! import has no such limit.
 use std::fs::OpenOptions;
-use zs_library::{check, import_sim, map, read, search, write, Counts, Query};
+use zs_library::{check, compare, import_sim, map, read, search, write, Counts, Query};
 
 const LONGEST: u64 = 1 << 30;
 
@@ -26,10 +26,12 @@ fn number_of_sparse(name: &str, length: u64) -> u64 {
     let answer = read(&map, &all, &mut results);
     let checked = check(&map, &mut [7; 4]);
     let found = search(&map, &all, &mut [7; 4], &mut [7; 4]);
+    let compared = compare(&map, b"", &mut [7; 4], &mut [7; 4]);
     drop(map);
     std::fs::remove_file(&path).expect("the temporary file");
     assert_eq!((answer.place, answer.matches, results), (0, 0, [0; 4]));
     assert_eq!([checked.number, found.number], [answer.number; 2]);
+    assert_eq!((compared.number, compared.which), (answer.number, 1));
     answer.number
 }
 
