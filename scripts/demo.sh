@@ -15,9 +15,9 @@ fi
 echo "Building the command zs over it."
 (cd cli && cargo build --offline --release --quiet --bin zs)
 
-# From here on the commands are those that a person would type beside a list of names and copies of two samples.
+# From here on the commands are those that a person would type beside a list of names and copies of three samples.
 PATH="$PWD/cli/target/release:$PATH"
-cp samples/contacts.zs samples/sim-phonebook.adn "$made"
+cp samples/contacts.zs samples/contacts-older.zs samples/sim-phonebook.adn "$made"
 cd "$made"
 printf '%s\t%s\n' 'Ned Unreal' 201-555-0152 'Ada Blank' 412-555-0193 'Greta Mockley' 808-555-0136 'Pia Invented' 305-555-0120 \
     'Bram Sample' 503-555-0132 'Greta Mockley' 201-555-0191 'Cleo Fiction' 617-555-0118 >names.txt
@@ -79,6 +79,13 @@ show 0 ".. and by reading front to back .." \
     "zs dump contacts.zs --start B --stop E --scan -o scanned"
 show 0 ".. are the same records." \
     "cmp searched scanned && wc -l searched"
+
+show 3 "An older backup of the contacts. Each line is a record that differs: copies in the older one, in the newer one, and the record." \
+    "zs compare contacts-older.zs contacts.zs"
+show 3 "How many differ, and how many records the newer one has more." \
+    "zs compare contacts-older.zs contacts.zs --count"
+show 0 "The same records in other blocks are no difference." \
+    "zs dump contacts.zs | zs make '{}' - other.zs --records-per-block 100 && zs compare contacts.zs other.zs"
 
 cp contacts.zs damaged.zs
 printf i | dd of=damaged.zs bs=1 seek=4998 conv=notrunc status=none
