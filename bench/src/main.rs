@@ -7,7 +7,8 @@
 //! and the growth curves into DOCS/growth.svg. `--library` names a shared object of the library, `--before-zs` and `--before-library` the
 //! command and the library of an earlier build, which are then measured too.
 //!
-//! * [`records`], [`shapes`], [`archive`]: what is measured on, made by the independent reader's maker; [`phonebooks`]: what is imported.
+//! * [`records`], [`shapes`], [`archive`]: what is measured on, made by the independent reader's maker; [`phonebooks`]: what is imported;
+//!   [`backups`]: what is compared.
 //! * [`input`]: what the proved writer is given.
 //! * [`clock`], [`others`], [`foreign`], [`idiomatic`]: time, other programs, other libraries, the same in plain Rust.
 //! * [`loaded`]: the library and an earlier build of it, loaded side by side.
@@ -16,6 +17,7 @@
 #![deny(unsafe_code)]
 
 mod archive;
+mod backups;
 mod chart;
 mod clock;
 #[allow(unsafe_code)]
@@ -41,8 +43,8 @@ use loaded::{Libraries, Library};
 use others::Programs;
 use report::Report;
 use sections::{
-    block_sizes, checking, checksums, crc_lengths, earlier_build, earlier_library, growth,
-    importing, keys, lookups, metadata, profile, writing, Setting, FULL, QUICK,
+    block_sizes, checking, checksums, comparing, crc_lengths, earlier_build, earlier_library,
+    growth, importing, keys, lookups, metadata, profile, writing, Setting, FULL, QUICK,
 };
 use shapes::Shape;
 
@@ -150,6 +152,7 @@ fn measure(arguments: Arguments, folder: &Path) -> (Report, [Panel; 2]) {
     metadata::measure(&setting, &mut report);
     writing::measure(&setting, &mut report);
     importing::measure(&setting, &mut report);
+    comparing::measure(&setting, &mut report);
     earlier_build::measure(&setting, &file, &mut report);
     block_sizes::measure(&setting, &mut report);
     keys::measure(&setting, &mut report);

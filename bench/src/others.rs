@@ -17,10 +17,11 @@ pub struct Programs {
     pub accelerated: PathBuf,
 }
 
-/// A program and its arguments.
+/// A program, its arguments, and the status with which it has to end.
 pub struct Call {
     program: PathBuf,
     arguments: Vec<String>,
+    status: i32,
 }
 
 impl Call {
@@ -29,7 +30,13 @@ impl Call {
         Call {
             program: program.as_ref().to_path_buf(),
             arguments: arguments.iter().map(|word| word.to_string()).collect(),
+            status: 0,
         }
+    }
+
+    /// The same call, which has to end with another status.
+    pub fn ending(self, status: i32) -> Self {
+        Call { status, ..self }
     }
 
     fn command(&self) -> Command {
@@ -42,15 +49,15 @@ impl Call {
     /// Runs the program and ignores its output.
     pub fn run(&self) {
         let status = self.command().stdout(Stdio::null()).status();
-        let fine = status.map_or(false, |status| status.success());
-        assert!(fine, "{self} failed");
+        let code = status.ok().and_then(|status| status.code());
+        assert!(code == Some(self.status), "{self} failed");
     }
 
     /// Runs the program and gives what it wrote.
     pub fn output(&self) -> Vec<u8> {
         let output = self.command().output();
         match output {
-            Ok(output) if output.status.success() => output.stdout,
+            Ok(output) if output.status.code() == Some(self.status) => output.stdout,
             _ => panic!("{self} failed"),
         }
     }

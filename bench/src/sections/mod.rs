@@ -3,6 +3,7 @@
 pub mod block_sizes;
 pub mod checking;
 pub mod checksums;
+pub mod comparing;
 pub mod crc_lengths;
 pub mod earlier_build;
 pub mod earlier_library;
