@@ -141,3 +141,75 @@ fn take_copies<'a>(records: &mut Peekable<impl Iterator<Item = &'a [u8]>>, recor
     }
     copies
 }
+
+#[cfg(test)]
+mod tests {
+    use super::*;
+    use zs_reference::maker::random::{tree, Random};
+    use zs_reference::maker::Tree;
+
+    /// Files without a common record, one of which has a block for each.
+    fn files_apart(number: usize) -> [Vec<u8>; 2] {
+        let of = |kind: char| -> Vec<String> {
+            let record = |number| format!("{number:05}{kind}");
+            (0..number).map(record).collect()
+        };
+        let (first, second) = (of('a'), of('b'));
+        let groups: Vec<&[String]> = first.chunks(1).collect();
+        [
+            Tree::new(&groups).bytes(),
+            Tree::new(&[second.as_slice()]).bytes(),
+        ]
+    }
+
+    #[test]
+    fn lists_that_are_too_short_grow() {
+        let files = files_apart(3000);
+        let files = [files[0].as_slice(), &files[1]];
+        for first in [[0, 0], [1, 4], [3000, 29_999], [usize::MAX, 30_000]] {
+            let found = compare_with(files, first);
+            let found = found.ok().expect("two sound files");
+            assert_eq!((found.count(), found.sum), (6000, 0));
+            assert_eq!(found.of(files).count(), 6000);
+        }
+    }
+
+    #[test]
+    fn the_differences_counted_are_those_listed() {
+        let mut random = Random::new(8);
+        for _ in 0..300 {
+            let files = [tree(&mut random, 60).bytes(), tree(&mut random, 60).bytes()];
+            let files = [files[0].as_slice(), &files[1]];
+            let found = compare(files).ok().expect("two sound files");
+            assert_eq!(count_differences(files) as u64, found.count());
+        }
+    }
+
+    #[test]
+    fn the_first_lists_suffice() {
+        let files = files_apart(100);
+        let mut work = vec![0; count_blocks(&files[0])];
+        let differences = count_differences([&files[0], &files[1]]);
+        let mut list = vec![0; NUMBERS * differences];
+        let answer = zs_library::compare(&files[0], &files[1], &mut work, &mut list);
+        assert_eq!((answer.number, answer.differences), (0, 200));
+        list.pop();
+        let answer = zs_library::compare(&files[0], &files[1], &mut work, &mut list);
+        assert_eq!(answer.number, 35);
+    }
+
+    #[test]
+    fn records_of_damaged_files_are_counted_within_their_length() {
+        let mut random = Random::new(9);
+        let sound = tree(&mut random, 60).bytes();
+        let mut file = sound.clone();
+        for _ in 0..3000 {
+            let at = random.below(file.len());
+            file[at] = random.next() as u8;
+            for files in [[&sound, &file], [&file, &sound], [&file, &file]] {
+                let files = files.map(Vec::as_slice);
+                assert!(count_differences(files) <= files[0].len() + files[1].len());
+            }
+        }
+    }
+}

@@ -107,7 +107,7 @@ fn mistakes_and_inputs_that_cannot_be_read() {
     for (words, says) in [
         ("", "<A>"),
         ("good.zs", "<B>"),
-        ("good.zs good.zs good.zs", "unexpected"),
+        ("good.zs good.zs good.zs", "Usage: zs compare "),
         ("good.zs good.zs --terminator x", "--terminator"),
         (
             "missing good.zs",

@@ -63,6 +63,36 @@ refused 0 0 0 0
 refused 0 0 0 0
 refused 0 0 0 0
 refused 0 0 0 0
+compare 0 0 0 3
+sum -1
+list 1 109 1 2 1 2 127 1 0 1 1 129 1 1 0 0
+work 0 0 0 0
+compare 0 0 0 3
+sum 1
+list 1 109 1 1 2 1 127 1 1 0 2 129 1 0 1 0
+show 1 109 1 0
+record a
+show 1 127 1 0
+record c
+show 2 129 1 0
+record d
+show 1 0 0 0
+show 1 0 0 0
+show 2 156 0 0
+show 1 0 0 0
+compare 0 0 0 0
+sum 0
+compare 8 0 1 0
+sum 0
+compare 8 0 2 0
+sum 0
+compare 18 0 1 0
+sum 0
+compare 0 0 0 3
+sum 1
+compare 35 0 0 0
+sum 0
+list 0 0 0 0 0 0 0 0 0 0 0 0 0 0
 null file 3 0 0 0
 work 0 0 0 0
 null file 3 0 0 0
@@ -89,6 +119,19 @@ null file 0 0 0 0
 null file 0 0 0 0
 null file 0 0 0 0
 null file 0 0 0 0
+null first 3 0 1 0
+sum 0
+null second 3 0 2 0
+sum 0
+null work 18 0 1 0
+sum 0
+null list 0 0 0 0
+sum 0
+null all 3 0 1 0
+sum 0
+null first 1 0 0 0
+null second 2 0 0 0
+null second 1 0 0 0
 ";
 
 /// What `lookup.c` prints.

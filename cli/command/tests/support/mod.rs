@@ -1,5 +1,6 @@
 //! Runs the command, and keeps its files in a folder that is removed afterwards.
 
+pub mod backups;
 pub mod faults;
 pub mod sim;
 pub mod states;
