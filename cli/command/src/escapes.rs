@@ -8,7 +8,7 @@ use std::path::Path;
 
 /// Longer byte strings are cut for display.
 const LONGEST_QUOTE: usize = 40;
-/// So many bytes become escapes at a time.
+/// About so many bytes are shown at a time.
 const LONGEST_PIECE: usize = 1 << 12;
 
 /// Bytes as an argument gives them, its escapes resolved.
@@ -138,38 +138,39 @@ pub fn escape_name(name: &Path) -> String {
 pub fn printable_pieces(bytes: &[u8]) -> impl Iterator<Item = Cow<'_, str>> {
     let mut rest = bytes;
     std::iter::from_fn(move || {
-        let printable = printable_length(rest);
-        let length = match printable {
-            0 => hidden_length(rest),
-            length => length,
-        };
-        let (piece, after) = rest.split_at(length);
+        let is_shown = printable_length(rest) > 0;
+        let (piece, after) = rest.split_at(piece_length(rest, is_shown));
         rest = after;
         match std::str::from_utf8(piece) {
             Ok("") => None,
-            Ok(text) if printable > 0 => Some(Cow::Borrowed(text)),
+            Ok(text) if is_shown => Some(Cow::Borrowed(text)),
             _ => Some(Cow::Owned(escape(piece))),
         }
     })
 }
 
-/// How many bytes at the front are shown as they are: letters of ASCII that follow one another, or one other character.
-fn printable_length(bytes: &[u8]) -> usize {
-    let is_plain = |byte: &&u8| matches!(byte, b' '..=b'~') && **byte != b'\\';
-    match bytes.iter().take_while(is_plain).count() {
-        0 => first_character(bytes)
-            .filter(|letter| is_printable(*letter) && *letter != '\\')
-            .map_or(0, char::len_utf8),
-        plain => plain,
+/// How many bytes at the front are all shown as they are, or all as escapes.
+fn piece_length(bytes: &[u8], is_shown: bool) -> usize {
+    let mut length = 0;
+    while length < bytes.len().min(LONGEST_PIECE) {
+        let next = printable_length(&bytes[length..]);
+        if (next > 0) != is_shown {
+            break;
+        }
+        length += next.max(1);
     }
+    length
 }
 
-/// How many bytes at the front aren't, up to the longest piece.
-fn hidden_length(bytes: &[u8]) -> usize {
-    let most = bytes.len().min(LONGEST_PIECE);
-    let mut places = 0..most;
-    let shown = places.find(|at| printable_length(&bytes[*at..]) > 0);
-    shown.unwrap_or(most)
+/// The length of the character at the front, if it is shown as it is, and otherwise 0.
+fn printable_length(bytes: &[u8]) -> usize {
+    match bytes.first() {
+        None | Some(b'\\') => 0,
+        Some(byte) if byte.is_ascii() => usize::from(matches!(byte, b' '..=b'~')),
+        Some(_) => first_character(bytes)
+            .filter(|letter| is_printable(*letter))
+            .map_or(0, char::len_utf8),
+    }
 }
 
 /// Gives a text on one line, and no character that a terminal obeys. A backslash stays, so this doesn't say what the text was.
@@ -197,8 +198,14 @@ fn first_character(bytes: &[u8]) -> Option<char> {
 
 /// Whether a character is seen, and leaves those around it where they are: no control character, no line end, no change of direction.
 fn is_printable(letter: char) -> bool {
+    if letter.is_ascii() {
+        return letter.is_ascii_graphic() || letter == ' ';
+    }
     // Rust's own rule for debugging output. After another letter, marks that combine with it count as printable.
-    letter.is_ascii_graphic() || letter == ' ' || format!("x{letter}").escape_debug().count() == 2
+    let mut text = *b"x0000";
+    let length = 1 + letter.encode_utf8(&mut text[1..]).len();
+    let text = std::str::from_utf8(&text[..length]);
+    text.map_or(false, |text| text.escape_debug().count() == 2)
 }
 
 #[cfg(test)]
@@ -265,10 +272,10 @@ mod tests {
 
     #[test]
     fn pieces_are_whole_characters_or_escapes() {
-        let long = [&[0xff; LONGEST_PIECE + 1][..], "é\\é\t".as_bytes()].concat();
+        let long = [&[0xff; LONGEST_PIECE + 1][..], "aé\\\té".as_bytes()].concat();
         let pieces: Vec<Cow<str>> = printable_pieces(&long).collect();
         let full = r"\xff".repeat(LONGEST_PIECE);
-        assert_eq!(pieces, [&full, r"\xff", "é", r"\\", "é", r"\t"]);
+        assert_eq!(pieces, [&full, r"\xff", "aé", r"\\\t", "é"]);
         assert_eq!(
             printable_pieces(b"a \"b\"~").collect::<String>(),
             "a \"b\"~"

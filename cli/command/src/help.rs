@@ -105,7 +105,7 @@ holds two records less than A.
 
 Examples:
   zs compare older.zs newer.zs                         what was added, removed or repeated
-  zs compare older.zs newer.zs | grep -P '^0\\t'        the records that only newer.zs holds
+  zs compare older.zs newer.zs | awk '$1 == 0'         the records that only newer.zs holds
   zs compare older.zs newer.zs | cut -f 3              the records alone
   zs compare older.zs newer.zs -o differences          a file that appears once it is whole
   zs compare older.zs newer.zs --count
