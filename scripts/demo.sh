@@ -85,7 +85,7 @@ show 3 "An older backup of the contacts. Each line is a record that differs: cop
 show 3 "How many differ, and how many records the newer one has more." \
     "zs compare contacts-older.zs contacts.zs --count"
 show 0 "The same records in other blocks are no difference." \
-    "zs dump contacts.zs | zs make '{}' - other.zs --records-per-block 100 && zs compare contacts.zs other.zs"
+    "zs dump contacts.zs | zs make '{}' - other.zs --records-per-block 100 && zs compare contacts.zs other.zs --count"
 
 cp contacts.zs damaged.zs
 printf i | dd of=damaged.zs bs=1 seek=4998 conv=notrunc status=none

@@ -7,7 +7,7 @@ A refusal has a number, a place (the first byte of the block meant, if one is) a
 
 /// Of the command that tells by its status what it found.
 pub const COMPARE_STATUS: &str =
-    "Exit status: 0 no differences, 1 refused, 2 usage or input/output, 3 differences.
+    "Exit status: 0 no differences, 1 refused, 2 usage or input/output, 3 A and B differ.
 A refusal has a number, a place (the first byte of the block meant, if one is) and a sentence.";
 
 pub const EXAMPLES: &str = "Examples:
@@ -19,7 +19,7 @@ pub const EXAMPLES: &str = "Examples:
   zs info contacts.zs
   zs explain contacts.zs --prefix 'Ada '
 
-Exit status: 0 answered, 1 refused, 2 usage or input/output, 3 differences found by compare.
+Exit status: 0 answered, 1 refused, 2 usage or input/output, 3 compared files differ.
 'zs COMMAND --help' says more about each command.";
 
 pub const MAKE_INPUTS: &str = "METADATA is one JSON object in UTF-8, in which objects and arrays are nested at most 64 deep. It is

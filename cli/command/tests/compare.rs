@@ -259,11 +259,11 @@ fn the_examples_of_the_help_work() {
     }
     let help = zs(&["compare", "--help"]).text();
     let status =
-        "Exit status: 0 no differences, 1 refused, 2 usage or input/output, 3 differences.";
+        "Exit status: 0 no differences, 1 refused, 2 usage or input/output, 3 A and B differ.";
     assert!(help.contains(status), "{help}");
     let help = zs(&["--help"]).text();
     assert!(
-        help.contains("  compare  ") && help.contains(", 3 differences "),
+        help.contains("  compare  ") && help.contains(", 3 compared files differ."),
         "{help}"
     );
 }

@@ -190,50 +190,47 @@ fn a_file_gets_what_standard_output_gets() {
 #[test]
 fn outputs_that_cannot_be_written() {
     let folder = with_files();
-    folder.write("out", b"kept");
+    fs::copy(CONTACTS, folder.name("other.zs")).expect("a copy");
     let full = "can't write standard output: No space left on device\n";
-    let long = format!("'{SMALL}' '{CONTACTS}' -o out");
-    for (line, says) in [
+    let closed = "can't write standard output: it is closed\n";
+    for (words, status, says) in [
+        ("good.zs other.zs >/dev/full", 2, full),
+        ("good.zs other.zs --count >/dev/full", 2, full),
+        ("good.zs good.zs --count >/dev/full", 2, full),
+        ("good.zs other.zs >&-", 2, closed),
+        ("good.zs good.zs >&-", 2, closed),
         (
-            "good.zs damaged.zs >/dev/full".to_string(),
-            "damaged.zs: refused 14",
-        ),
-        (format!("good.zs '{CONTACTS}' >/dev/full"), full),
-        (format!("good.zs '{CONTACTS}' --count >/dev/full"), full),
-        (
-            format!("good.zs '{CONTACTS}' >&-"),
-            "can't write standard output: it is closed\n",
-        ),
-        (
-            format!("good.zs '{CONTACTS}' -o missing/out"),
+            "good.zs other.zs -o missing/out",
+            2,
             "can't write missing/out: No such",
         ),
         (
-            format!("good.zs '{CONTACTS}' -o /dev/full"),
+            "good.zs other.zs -o /dev/full",
+            2,
             "can't write /dev/full: No space",
         ),
+        ("good.zs damaged.zs >/dev/full", 1, "damaged.zs: refused 14"),
     ] {
-        let run = compare(&line, &folder);
-        let status = if says.contains("refused") { 1 } else { 2 };
-        assert_eq!((run.status, run.out.len()), (status, 0), "{line}");
-        assert!(
-            run.err.starts_with(&format!("zs: {says}")),
-            "{line}: {}",
-            run.err
-        );
+        let run = compare(words, &folder);
+        assert_eq!((run.status, run.out.len()), (status, 0), "{words}");
+        let due = format!("zs: {says}");
+        assert!(run.err.starts_with(&due), "{words}: {}", run.err);
     }
-    let line = format!("trap '' XFSZ; ulimit -f 8; exec $ZS compare {long}");
-    let run = shell(&line, &folder);
-    assert!(
-        run.err.contains("can't write out: File too large"),
-        "{}",
-        run.err
-    );
-    assert_eq!(run.status, 2);
-    assert_eq!(fs::read(folder.name("out")).expect("the output"), b"kept");
     // Nothing is written there.
     let run = compare("good.zs good.zs >/dev/full", &folder);
     assert_eq!((run.status, run.err.as_str()), (0, ""));
+}
+
+#[test]
+fn an_output_cut_short_leaves_the_old_file() {
+    let folder = with_files();
+    folder.write("out", b"kept");
+    let line = format!("trap '' XFSZ; ulimit -f 8; exec $ZS compare good.zs '{CONTACTS}' -o out");
+    let run = shell(&line, &folder);
+    assert_eq!(run.status, 2);
+    let due = "can't write out: File too large";
+    assert!(run.err.contains(due), "{}", run.err);
+    assert_eq!(fs::read(folder.name("out")).expect("the output"), b"kept");
 }
 
 #[test]
