@@ -1,8 +1,8 @@
 // The C interface: thin exports. Each has the contract of the function that it calls, and beside it what the theorems say of that very call:
-// check, read, search, write and import are decided by the rules of their formats, and what is written can be stored so that no cut leaves a
-// wrong file. include/zs.h documents the interface for callers.
+// check, read, search, write, import and comparison are decided by the rules of their formats, and what is written can be stored so that no cut
+// leaves a wrong file. include/zs.h documents the interface for callers.
 //
-// C can't receive a slice as a result, so zs_record, zs_metadata and zs_store hand back where the part lies.
+// C can't receive a slice as a result, so zs_record, zs_metadata, zs_store and zs_show hand back where the part lies.
 ghost use mathlib.Core.Bool.{true};
 ghost use mathlib.Core.Logic.{_↔_};
 ghost use mathlib.Core.Path.{_≡_};
@@ -19,6 +19,8 @@ ghost use Rattle.written.specs.Written.{writtenAnswer, writtenOutput};
 ghost use Rattle.writer.specs.Write.{writeOf};
 ghost use Rattle.stores.specs.FileStores.{storePart};
 ghost use Rattle.sim_import.specs.Import.{importOf};
+ghost use Rattle.shown.specs.Shown.{placeOf};
+ghost use Rattle.comparer.specs.Compare.{compareAnswer, compareList};
 ghost use Rattle.theorems_check.specs.CheckedByRules.{CheckedByRules};
 ghost use Rattle.theorems_read.specs.ReadByRules.{ReadByRules};
 ghost use Rattle.theorems_search.specs.SearchedByRules.{SearchedByRules};
@@ -26,10 +28,13 @@ ghost use Rattle.theorems_search.specs.Locality.{SearchedLocally};
 ghost use Rattle.theorems_write.specs.WrittenByRules.{WrittenByRules};
 ghost use Rattle.theorems_stores.specs.StoredByRules.{StoreByRules, WrittenInStores};
 ghost use Rattle.theorems_import.specs.ImportedByRules.{ImportedByRules};
+ghost use Rattle.theorems_compare.specs.ComparedByRules.{ComparedByRules};
 use checker::Checked;
+use comparer::Compared;
 use part::Part;
 use reader::ReadAnswer;
 use search::Found;
+use shown::place::Shown;
 use written::Written;
 
 // Reads the file front to back (`reader::read`).
@@ -175,4 +180,36 @@ pub extern "C" fn zs_import_sim(dump: &[u8], name_length: u64, output: &mut [u8]
     ensures { λ r. ⌜ ImportedByRules (now (dump .entry)) «name_length» (length (now (output .entry))) r (now (output .exit)) ⌝ }
 {
     sim_import::import_sim(dump, name_length, output)
+}
+
+// Compares two files (`comparer::compare_files`).
+#[no_mangle]
+pub extern "C" fn zs_compare<'a>(
+    first: &'a [u8],
+    second: &'a [u8],
+    work: &mut [u64],
+    list: &mut [u64],
+) -> Compared
+    ensures { λ r. ⌜ r ≡ compareAnswer (now (first .entry)) (now (second .entry)) (length (now (work .entry))) (length (now (list .entry))) ⌝ }
+    ensures { λ r. ⌜ now (list .exit)
+        ≡ compareList (now (first .entry)) (now (second .entry)) (length (now (work .entry))) (length (now (list .entry))) ⌝ }
+    ensures { λ r. ⌜ now (work .exit) ≡ zeros (length (now (work .entry))) ⌝ }
+    ensures { λ r. ⌜ ComparedByRules (now (first .entry)) (now (second .entry)) (length (now (work .entry))) (length (now (list .entry)))
+        r (now (list .exit)) ⌝ }
+{
+    comparer::compare_files(first, second, work, list)
+}
+
+// Where a record lies that a comparison lists (`shown::shown`); no bytes of the first file at 0 where the numbers name no part.
+#[no_mangle]
+pub extern "C" fn zs_show(
+    first: &[u8],
+    second: &[u8],
+    which: u64,
+    offset: u64,
+    length: u64,
+) -> Shown
+    ensures { λ r. ⌜ r ≡ placeOf (now (first .entry)) (now (second .entry)) which offset length ⌝ }
+{
+    shown::place::place_of(first, second, which, offset, length)
 }

@@ -1,0 +1,3 @@
+-- What holds of comparing two files.
+pub mod DifferenceTheorems
+pub mod CompareTheorems

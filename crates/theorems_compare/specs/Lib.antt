@@ -1,0 +1,2 @@
+-- What is claimed of comparing two files.
+pub mod ComparedByRules

@@ -1,0 +1,1 @@
+// Theorems of comparing two files; no code.
