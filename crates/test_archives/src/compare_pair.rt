@@ -5,7 +5,7 @@ use crate::lists::room;
 use crate::print;
 
 // Compares the files with all of both lists lent, and prints the answer.
-fn answer(first: &[u8], second: &[u8], work: &mut [u64], list: &mut [u64]) {
+fn answer<'a>(first: &'a [u8], second: &'a [u8], work: &mut [u64], list: &mut [u64]) {
     let answer = comparer::compare_files(first, second, work, list);
     print::number(b": number ", answer.number);
     print::number(b" place ", answer.place);
@@ -17,7 +17,7 @@ fn answer(first: &[u8], second: &[u8], work: &mut [u64], list: &mut [u64]) {
     print::list(b" work", work);
 }
 
-pub fn run(first: &[u8], second: &[u8], name: &[u8], case: Case) {
+pub fn run<'a>(first: &'a [u8], second: &'a [u8], name: &[u8], case: Case) {
     let mut work = [RUBBISH; 128];
     let mut list = [RUBBISH; 128];
     let work_places = room(case.other_places, &work);
