@@ -18,10 +18,10 @@
  * they may share byte strings, which nobody may write meanwhile. A call takes less than 64 KiB of stack (measured, not proved).
  *
  * Lengths that always suffice:
- *   work      file_len / 11, since a block with records or entries takes 11 bytes or more
+ *   work      file_len / 11, since a block with records or entries takes 11 bytes or more; of zs_compare that of the longer file
  *   opened    on a file that zs_check accepts: `blocks` of its answer
  *   results   on a file that zs_check accepts: twice `records` of its answer; for zs_read on any bytes: 2 * file_len
- *   list      of zs_compare: five times the sum of `records` of both files
+ *   list      of zs_compare: five times the sum of `records` in zs_check's answers for both files
  *   output    of zs_write: 2^30 bytes, since no file is longer; of zs_import_sim: 2 * dump_len
  * On other bytes there is no such length for zs_search: they can lead to one block again and again, and only the length of the opened
  * list bounds how often.
@@ -201,7 +201,7 @@ zs_part zs_store(const uint8_t *file, size_t file_len, uint64_t i);
  * copies in the second less those in the first, which is the second file's number of records less the first's.
  * Refusals in this order: those of zs_check for the first file, those for the second, each with its place and with `which` 1 or 2; then 35: the
  * list hasn't five places for each difference. One work list serves both checks; it needs a place for each ordinary block of either file, and is
- * all zeros after every call. After a refusal `sum` is 0 too; but for a refused file `which` is 0. */
+ * all zeros after every call. After a refusal `sum` is 0 too. `which` is 0 unless a file is refused. */
 zs_compared zs_compare(const uint8_t *first, size_t first_len, const uint8_t *second, size_t second_len, uint64_t *work, size_t work_len,
                        uint64_t *list, size_t list_len);
 

@@ -4,4 +4,5 @@ pub mod PrefixLaws
 pub mod BytesLaws
 pub mod AgreeingLaws
 pub mod ComparisonLaws
+pub mod SameLaws
 mod WordLaws

@@ -78,3 +78,7 @@ saysEqual c = saysAtMost c && not (saysLess c)
 -- y begins with x, where x has so many bytes; x begins with y, where y has
 unfoldable pub saysBegins : (count : ℕ) → Comparison → Bool
 saysBegins count c = leb count (c .agreeing)
+
+-- x and y are the same byte string
+unfoldable pub same : List ℕ → List ℕ → Bool
+same x y = saysEqual (comparison x y)

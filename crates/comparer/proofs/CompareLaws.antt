@@ -1,10 +1,8 @@
 -- Laws of comparing two files: what is answered after each check, and after the merge.
 -- Assumes nothing.
 use mathlib.Core.Path.{_≡_, refl, sym, ap, ap₂, _∙_}
-use mathlib.Core.Bool.{true}
 use mathlib.Core.List.{List, []}
 use Prim.Native.Nat.{ℕ, _+_, _*_, _/_, _^_, _≤_, _<_}
-use native.Mathlib.Nat.{zero-add}
 use native.Mathlib.Omega.{arith}
 use borrow.Author.Tests.{le-leb, lt-leb}
 use lib.IntN.{ℤ, pos, _-ℤ_}
@@ -12,7 +10,7 @@ use lib.ListN.{length}
 use Rattle.output_list.specs.OutputList.{padded, zeros}
 use Rattle.output_list.proofs.OutputListLaws.{padded-nil}
 use Rattle.outcome.specs.Outcome.{Outcome, answer, refused, numberOf, placeOf, countOf, listOf}
-use Rattle.outcome.proofs.OutcomeLaws.{answer-injective, bind-answer, bind-refused, kept, broken}
+use Rattle.outcome.proofs.OutcomeLaws.{bind-answer, bind-refused, kept, broken}
 use Rattle.header.specs.declared.Header.{Header}
 use Rattle.header.specs.Header.{headerOf, blocksFrom, headerNumbers}
 use Rattle.header.proofs.HeaderLaws.{is-header}
@@ -20,7 +18,7 @@ use Rattle.block.specs.Block.{Block}
 use Rattle.block.specs.Laid.{laidFrom}
 use Rattle.block.specs.Survey.{recordsOf}
 use Rattle.block.proofs.LaidLaws.{blocks⇒laid}
-use Rattle.payload.specs.Payload.{Text, rising}
+use Rattle.payload.specs.Payload.{Text}
 use Rattle.checker.specs.declared.Checked.{Checked}
 use Rattle.checker.specs.Check.{checkOf, checkAnswer}
 use Rattle.theorems_check.proofs.AcceptLaws.{Accepted, check⇒Accepted}
@@ -34,8 +32,9 @@ use Rattle.cursor.specs.declared.Cursor.{Cursor}
 use Rattle.cursor.specs.Cursor.{following}
 use Rattle.comparer.specs.declared.Compared.{Compared}
 use Rattle.comparer.specs.Compare.{listedIn, compareOf, refusedFile, sumIn, answered, compareAnswer, compareList}
-use Rattle.comparer.specs.Steps.{withNumbers}
-use Rattle.comparer.proofs.ListLaws.{withNumbers-padded, length-numbersOf}
+use Rattle.output_list.specs.OutputList.{withNumbers}
+use Rattle.output_list.proofs.OutputListLaws.{withNumbers-padded}
+use Rattle.comparer.proofs.ListLaws.{length-numbersOf}
 
 -- ---- what is answered
 

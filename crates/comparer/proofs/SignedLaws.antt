@@ -20,9 +20,6 @@ mag-difference m (suc k) = go (ltb m (suc k))
     go false = omega arith
 
 module _ (m n : ℕ) (few : m ≤ 2 ^ 30) (few₂ : n ≤ 2 ^ 30) where
-  pub count-fits : (k : ℕ) → k ≤ 2 ^ 30 → SFits w64 (pos k)
-  count-fits k h = record { sfits = omega arith }
-
   -- each as the machine reads it back from its bits
   pub read-back : toZ w64 m -ℤ toZ w64 n ≡ pos m -ℤ pos n
   read-back = ap₂ (λ (x y : ℤ). x -ℤ y) (toZ-pos w64 m (omega arith)) (toZ-pos w64 n (omega arith))

@@ -6,7 +6,7 @@ use mathlib.Core.List.{List, [], _∷_, _++_, append-nil, append-assoc, flatMap}
 use Prim.Native.Nat.{ℕ, suc, _+_, _≤_, _<_}
 use native.Mathlib.Nat.{zero-add}
 use native.Mathlib.Omega.{arith}
-use lib.ListN.{length, drop, length-append, length-drop}
+use lib.ListN.{length, drop, length-append}
 use lib.Seq.{drop-drop}
 use Rattle.lists.proofs.ListsLaws.{flatMap-append}
 use Rattle.byte_string.specs.Order.{atMost}
@@ -14,19 +14,21 @@ use Rattle.part.specs.Part.{part}
 use Rattle.part.specs.declared.Part.{Part}
 use Rattle.payload.specs.Payload.{Text}
 use Rattle.payload.specs.Answers.{textIn}
-use Rattle.record.specs.Record.{isWithin}
 use Rattle.record.proofs.RecordLaws.{within-of}
 use Rattle.part.proofs.PartLaws.{length-part}
-use Rattle.shown.specs.Shown.{fileOf, namesPart, placeOf, shownBytes}
+use Rattle.shown.specs.Shown.{fileNamed, namesPart, partShown, shownBytes}
 use Rattle.shown.proofs.ShownLaws.{names-first, names-second, named-within, named-place}
-use Rattle.differences.specs.Differences.{Difference, same, numbersOf, roomFor}
-use Rattle.differences.specs.Merge.{Next, none, next, nextOf, leading, listed, merged}
+use Rattle.byte_string.specs.Order.{same}
+use Rattle.differences.specs.Differences.{Difference, numbersOf, roomFor}
+use Rattle.differences.specs.Merge.{none, next, nextOf, leading, listed, merged}
 use Rattle.differences.proofs.MergeLaws.{next-end, next-second-only, next-first-only, next-first, next-second, leading-end, leading-passed, leading-more}
 use Rattle.differences.proofs.MergeLaws.{merged-none, merged-next, merged-falls, listed-none, listed-one}
 use Rattle.comparer.specs.declared.merge.NextOutcome.{NextOutcome}
 use Rattle.comparer.specs.declared.merge.NextOutcome.the-variants.{Record, End}
-use Rattle.comparer.specs.Steps.{nextSaid, NextNamed, withNumbers}
-use Rattle.comparer.proofs.ListLaws.{withNumbers-append, length-numbersOf}
+use Rattle.comparer.specs.Steps.{nextSaid, NextNamed}
+use Rattle.output_list.specs.OutputList.{withNumbers}
+use Rattle.output_list.proofs.OutputListLaws.{withNumbers-append}
+use Rattle.comparer.proofs.ListLaws.{length-numbersOf}
 
 -- ---- the record that comes next
 
@@ -37,23 +39,23 @@ module _ (first second : List ℕ) (xs ys : List Text) where
 
   module _ (y : Part) (more : List Text) (f : textIn second (y .offset) (y .length) ∷ more ≡ ys) where
     pub least-second-only : [] ≡ xs → nextSaid first second (Record 2 y) ≡ nextOf xs ys
-    unfolding nextSaid fileOf
+    unfolding nextSaid fileNamed
     least-second-only e = sym (next-second-only _ more) ∙ ap₂ nextOf e f
 
   module _ (x : Part) (rest : List Text) (e : textIn first (x .offset) (x .length) ∷ rest ≡ xs) where
     pub least-first-only : [] ≡ ys → nextSaid first second (Record 1 x) ≡ nextOf xs ys
-    unfolding nextSaid fileOf
+    unfolding nextSaid fileNamed
     least-first-only f = sym (next-first-only _ rest) ∙ ap₂ nextOf e f
 
     module _ (y : Part) (more : List Text) (f : textIn second (y .offset) (y .length) ∷ more ≡ ys) where
       pub least-first : atMost (part first (x .offset) (x .length)) (part second (y .offset) (y .length)) ≡ true
           → nextSaid first second (Record 1 x) ≡ nextOf xs ys
-      unfolding nextSaid fileOf textIn
+      unfolding nextSaid fileNamed textIn
       least-first h = sym (next-first _ rest _ more h) ∙ ap₂ nextOf e f
 
       pub least-second : atMost (part first (x .offset) (x .length)) (part second (y .offset) (y .length)) ≡ false
           → nextSaid first second (Record 2 y) ≡ nextOf xs ys
-      unfolding nextSaid fileOf textIn
+      unfolding nextSaid fileNamed textIn
       least-second h = sym (next-second _ rest _ more h) ∙ ap₂ nextOf e f
 
 -- it is a part of its file
@@ -74,15 +76,15 @@ named-told first second r which text e h = subst (NextNamed first second) e h
 
 module _ (first second : List ℕ) (r : NextOutcome) (which : ℕ) (text : Part) (e : r ≡ Record which text) (named : NextNamed first second r) where
   -- its bytes are those that are handed back
-  pub text-shown : (b : List ℕ) → b ≡ shownBytes first second (placeOf first second which (text .offset) (text .length))
-      → b ≡ textIn (fileOf first second which) (text .offset) (text .length) .bytes
+  pub text-shown : (b : List ℕ) → b ≡ shownBytes first second (partShown first second which (text .offset) (text .length))
+      → b ≡ textIn (fileNamed first second which) (text .offset) (text .length) .bytes
   unfolding shownBytes textIn
   text-shown b is = is ∙ ap (shownBytes first second) (named-place first second which (text .offset) (text .length) (named-told first second r which text e named))
 
-  pub text-long : text .length ≡ length (textIn (fileOf first second which) (text .offset) (text .length) .bytes)
+  pub text-long : text .length ≡ length (textIn (fileNamed first second which) (text .offset) (text .length) .bytes)
   unfolding textIn
   text-long =
-      sym (length-part (fileOf first second which) (text .offset) (text .length)
+      sym (length-part (fileNamed first second which) (text .offset) (text .length)
       (named-within first second which (text .offset) (text .length) (named-told first second r which text e named)))
 
 -- ---- copies that are passed
@@ -126,7 +128,8 @@ module _ (x : List ℕ) (records : List Text) (count : ℕ) where
 
 -- ---- the merge
 
--- `list` was `before`, and has got the differences that are `done`, so many; those of xs and ys are left, of all of `whole`
+-- `done` of the differences `whole` stand on the list, which was `before`; those of xs and ys are left. `few` bounds the differences done and the
+-- records that are left.
 pub record Merging (before : List ℕ) (whole : List Difference) (few : ℕ) (count : ℕ) (list : List ℕ) (xs ys : List Text) : Type 0 where
   pub done : List Difference
   pub joined : done ++ merged xs ys ≡ whole

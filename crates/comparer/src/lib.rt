@@ -56,7 +56,7 @@ fn blocks_of(file: &[u8]) -> usize
 }
 
 // A count less another, as a signed number.
-fn less(count: u64, other: u64) -> i64
+fn minus(count: u64, other: u64) -> i64
     requires { ⌜ (count ≤ 2 ^ 30) × (other ≤ 2 ^ 30) ⌝ }
     ensures { λ r. ⌜ r ≡ pos count -ℤ pos other ⌝ }
 {
@@ -101,6 +101,6 @@ pub fn compare_files<'a>(
         place: 0,
         which: 0,
         differences: found as u64,
-        sum: less(two.records, one.records),
+        sum: minus(two.records, one.records),
     }
 }

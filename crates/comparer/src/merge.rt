@@ -3,12 +3,13 @@ ghost use mathlib.Core.Path.{_≡_};
 ghost use mathlib.Core.List.{[], _∷_};
 ghost use Prim.Native.Nat.{_+_, _^_, _≤_, _<_};
 ghost use lib.ListN.{length, drop};
-ghost use Rattle.byte_string.specs.Order.{atMost};
+ghost use Rattle.byte_string.specs.Order.{atMost, same};
 ghost use Rattle.part.specs.Part as parts;
 ghost use Rattle.cursor.specs.Cursor.{following};
 ghost use Rattle.differences.specs.Differences as definitions;
 ghost use Rattle.differences.specs.Merge.{leading, nextOf, merged};
-ghost use Rattle.comparer.specs.Steps.{nextSaid, NextNamed, withNumbers};
+ghost use Rattle.comparer.specs.Steps.{nextSaid, NextNamed};
+ghost use Rattle.output_list.specs.OutputList.{withNumbers};
 use byte_string::compare;
 use cursor::Cursor;
 use cursor::RecordOutcome;
@@ -44,16 +45,25 @@ fn least(first: &[u8], a: Cursor, second: &[u8], b: Cursor) -> NextOutcome
     let one = record_at(first, a);
     let two = record_at(second, b);
     match one {
-        RecordOutcome::End => match two {
-            RecordOutcome::End => NextOutcome::End,
-            RecordOutcome::Answer { text: y, after: _ } => NextOutcome::Record {
-                which: 2,
+        RecordOutcome::End(_) => match two {
+            RecordOutcome::End(_) => NextOutcome::End,
+            RecordOutcome::Answer {
                 text: y,
-            },
+                here: _,
+                after: _,
+            } => NextOutcome::Record { which: 2, text: y },
         },
-        RecordOutcome::Answer { text: x, after: _ } => match two {
-            RecordOutcome::End => NextOutcome::Record { which: 1, text: x },
-            RecordOutcome::Answer { text: y, after: _ } => {
+        RecordOutcome::Answer {
+            text: x,
+            here: _,
+            after: _,
+        } => match two {
+            RecordOutcome::End(_) => NextOutcome::Record { which: 1, text: x },
+            RecordOutcome::Answer {
+                text: y,
+                here: _,
+                after: _,
+            } => {
                 if at_most(first, x, second, y) {
                     NextOutcome::Record { which: 1, text: x }
                 } else {
@@ -67,7 +77,7 @@ fn least(first: &[u8], a: Cursor, second: &[u8], b: Cursor) -> NextOutcome
 // Whether a record of the file is a copy of x.
 fn is_copy(file: &[u8], text: Part, x: &[u8]) -> bool
     requires { ⌜ text .offset + text .length ≤ length (now file) ⌝ }
-    ensures { λ r. ⌜ r ≡ definitions.same (parts.part (now (file .entry)) (text .offset) (text .length)) (now (x .entry)) ⌝ }
+    ensures { λ r. ⌜ r ≡ same (parts.part (now (file .entry)) (text .offset) (text .length)) (now (x .entry)) ⌝ }
 {
     let from = text.offset;
     let end = from + text.length;
@@ -91,10 +101,10 @@ fn pass_copies(file: &[u8], c: Cursor, x: &[u8]) -> Copies
     loop {
         let next = record_at(file, at);
         match next {
-            RecordOutcome::End => return Copies { count, after: at },
-            RecordOutcome::Answer { text, after } => {
+            RecordOutcome::End(here) => return Copies { count, after: here },
+            RecordOutcome::Answer { text, here, after } => {
                 if !is_copy(file, text, x) {
-                    return Copies { count, after: at };
+                    return Copies { count, after: here };
                 }
                 count += 1;
                 at = after;

@@ -8,7 +8,7 @@ use native.Mathlib.Omega.{arith}
 use lib.ListN.{length, take, length-take}
 use borrow.Author.Tests.{eqb-true, eqb-false}
 use Rattle.outcome.specs.Outcome.{answer, refused}
-use Rattle.items.specs.Items.{Step, soundFrom}
+use Rattle.items.specs.Items.{soundFrom}
 use Rattle.items.proofs.ItemsLaws.{sound-end}
 use Rattle.items.proofs.SoundLaws.{sound-same, sound-first, sound-none}
 use Rattle.framing.specs.declared.Frame.{Frame}
@@ -19,10 +19,9 @@ use Rattle.part.proofs.PartLaws.{part-take}
 use Rattle.payload.specs.Payload.{Text, textAt}
 use Rattle.payload.specs.Answers.{textIn}
 use Rattle.payload.proofs.ReadLaws.{text-any-place, text-forward, text-within}
-use Rattle.block.specs.Block.{Block, isData}
+use Rattle.block.specs.Block.{isData}
 use Rattle.block.specs.Laid.{laidIn, laidAt, laidFrom, laidRecords}
 use Rattle.block.specs.Survey.{recordsOf}
-use Rattle.block.proofs.BlockLaws.{data-level, not-data-level}
 use Rattle.block.proofs.LaidLaws.{laid-found, laid-refused, laid-forward, laid-no-records}
 use Rattle.matching.specs.Matching.{recordsFrom}
 use Rattle.matching.proofs.FrameRecordsLaws.{data-records}
@@ -133,7 +132,7 @@ module _ (file : List ℕ) where
 -- ---- what an answer says
 
 -- the record that it names lies within the file
-pub within-told : (file : List ℕ) (r : RecordOutcome) (text : Part) (after : Cursor) → r ≡ Answer text after → RecordWithin file r
+pub within-told : (file : List ℕ) (r : RecordOutcome) (text : Part) (here after : Cursor) → r ≡ Answer text here after → RecordWithin file r
     → text .offset + text .length ≤ length file
 unfolding RecordWithin
-within-told file r text after e h = subst (RecordWithin file) e h
+within-told file r text here after e h = subst (RecordWithin file) e h

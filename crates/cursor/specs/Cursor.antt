@@ -17,10 +17,15 @@ following file c = recordsFrom 0 (take (c .end) file) (c .at) ++ recordsOf (laid
 
 -- what an answer says of the records that follow
 unfoldable pub recordSaid : List ℕ → RecordOutcome → List Text
-recordSaid file (Answer text after) = textIn file (text .offset) (text .length) ∷ following file after
-recordSaid file End = []
+recordSaid file (Answer text here after) = textIn file (text .offset) (text .length) ∷ following file after
+recordSaid file (End here) = []
 
 -- the record that an answer names lies within the file
 unfoldable pub RecordWithin : List ℕ → RecordOutcome → Type 0
-RecordWithin file (Answer text after) = text .offset + text .length ≤ length file
-RecordWithin file End = Unit {0}
+RecordWithin file (Answer text here after) = text .offset + text .length ≤ length file
+RecordWithin file (End here) = Unit {0}
+
+-- the cursor in front of what follows, behind blocks without records
+unfoldable pub hereOf : RecordOutcome → Cursor
+hereOf (Answer text here after) = here
+hereOf (End here) = here

@@ -8,7 +8,7 @@ ghost use lib.ListN.{length, take};
 ghost use Rattle.block.specs.Block.{isData};
 ghost use Rattle.block.specs.Laid.{laidFrom};
 ghost use Rattle.block.specs.Survey.{recordsOf};
-ghost use Rattle.cursor.specs.Cursor.{following, recordSaid, RecordWithin};
+ghost use Rattle.cursor.specs.Cursor.{following, recordSaid, RecordWithin, hereOf};
 use framing::Frame;
 use framing::FrameOutcome;
 use framing::frame_at;
@@ -24,9 +24,14 @@ pub struct Cursor {
 }
 
 pub enum RecordOutcome {
-    // A record, and the cursor behind it.
-    Answer { text: Part, after: Cursor },
-    End,
+    // A record, the cursor just in front of it, and the cursor behind it.
+    Answer {
+        text: Part,
+        here: Cursor,
+        after: Cursor,
+    },
+    // No record follows, nor one behind this cursor.
+    End(Cursor),
 }
 
 // The cursor in front of the blocks from an offset on.
@@ -54,10 +59,12 @@ fn end_within(file: &[u8], end: usize) -> usize
     if file.len() < end { file.len() } else { end }
 }
 
-// The record that follows the cursor.
+// The record that follows the cursor. Blocks without records are passed, and the cursor that is handed back stands behind them: who goes on with
+// it doesn't pass them again.
 pub fn record_at(file: &[u8], c: Cursor) -> RecordOutcome
     ensures { λ r. ⌜ recordSaid (now (file .entry)) r ≡ following (now (file .entry)) c ⌝ }
     ensures { λ r. ⌜ RecordWithin (now (file .entry)) r ⌝ }
+    ensures { λ r. ⌜ following (now (file .entry)) (hereOf r) ≡ following (now (file .entry)) c ⌝ }
 {
     let mut at = c.at;
     let mut end = end_within(file, c.end);
@@ -67,6 +74,7 @@ pub fn record_at(file: &[u8], c: Cursor) -> RecordOutcome
         match found {
             TextOutcome::Answer(text) => return RecordOutcome::Answer {
                 text,
+                here: Cursor { at, end, block },
                 after: Cursor {
                     at: text.offset + text.length,
                     end,
@@ -77,7 +85,7 @@ pub fn record_at(file: &[u8], c: Cursor) -> RecordOutcome
         }
         let frame = frame_at(file, block);
         match frame {
-            FrameOutcome::Refused(_) => return RecordOutcome::End,
+            FrameOutcome::Refused(_) => return RecordOutcome::End(Cursor { at, end, block }),
             FrameOutcome::Answer(f) => {
                 at = f.body + 1;
                 end = records_end(f);

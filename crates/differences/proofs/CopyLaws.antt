@@ -1,19 +1,20 @@
 -- The laws of `copies` and `firstCopy`: how many records hold a byte string, and which of them is the first.
 -- Assumes nothing.
-use Prim.Native.Nat.{ℕ, suc, _+_, _≤_, _<_}
+use Prim.Native.Nat.{ℕ, suc, _≤_, _<_}
 use native.Mathlib.Omega.{arith}
 use mathlib.Core.Path.{_≡_, refl, sym, ap, _∙_}
 use mathlib.Core.Bool.{Bool, true, false}
 use mathlib.Core.Logic.{_⊎_, inl, inr}
-use mathlib.Core.List.{List, [], _∷_, _++_, map, List·Memᴰ, List·Memᴰ·head, List·Memᴰ·tail, List·Memᴰ·not-nil, List·Memᴰ·cases-cons}
+use mathlib.Core.List.{List, [], _∷_, map, List·Memᴰ, List·Memᴰ·head, List·Memᴰ·tail, List·Memᴰ·not-nil, List·Memᴰ·cases-cons}
 use lib.ListN.{length, length-map}
 use Rattle.lists.specs.Lists.{keep}
 use Rattle.lists.proofs.ListsLaws.{Ascending, below-member, keep-first, keep-later, keep-member}
 use Rattle.lists.proofs.RisingLaws.{some-member}
-use Rattle.lists.proofs.CountLaws.{keep-map, keep-none, count-append, count-member}
+use Rattle.lists.proofs.CountLaws.{keep-map, keep-none, count-member}
 use Rattle.payload.specs.Payload.{Text}
-use Rattle.differences.specs.Differences.{same, strings, copies, firstCopy}
-use Rattle.differences.proofs.SameLaws.{same-eq, eq-same, same-not, not-same}
+use Rattle.byte_string.specs.Order.{same}
+use Rattle.differences.specs.Differences.{strings, copies, firstCopy}
+use Rattle.byte_string.proofs.SameLaws.{same-eq, eq-same, same-not, not-same}
 
 -- ---- how many there are
 
@@ -28,10 +29,6 @@ copies-here r rs x e = ap length (keep-first (λ (q : Text). same (q .bytes) x) 
 pub copies-passed : (r : Text) (rs : List Text) (x : List ℕ) → same (r .bytes) x ≡ false → copies (r ∷ rs) x ≡ copies rs x
 unfolding copies
 copies-passed r rs x e = ap length (keep-later (λ (q : Text). same (q .bytes) x) r rs e)
-
-pub copies-append : (rs qs : List Text) (x : List ℕ) → copies (rs ++ qs) x ≡ copies rs x + copies qs x
-unfolding copies
-copies-append rs qs x = count-append (λ (r : Text). same (r .bytes) x) rs qs
 
 pub copies-none : (rs : List Text) (x : List ℕ) → ((r : Text) → List·Memᴰ r rs → r .bytes ≡ x → ⊥) → copies rs x ≡ 0
 unfolding copies

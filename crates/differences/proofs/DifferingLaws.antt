@@ -6,25 +6,20 @@ use mathlib.Core.Path.{_≡_, refl, sym, ap}
 use mathlib.Core.Bool.{not}
 use mathlib.Core.List.{List, [], _++_, List·Memᴰ, Memᴰ·append-left, Memᴰ·append-right, Memᴰ·cast, Memᴰ·map}
 use lib.Dec.{eqb}
-use borrow.Author.Tests.{eqb-false, eq-eqb, ne-eqb}
+use borrow.Author.Tests.{eqb-false, eq-eqb, ne-eqb, not-true}
 use Rattle.lists.proofs.ListsLaws.{keep-member, member-keep}
 use Rattle.lists.proofs.CountLaws.{keep-none}
 use Rattle.payload.specs.Payload.{Text}
-use Rattle.sorting.specs.Sorting.{sorted, Permutation, empty, skip, swap, trans}
-use Rattle.sorting.proofs.PermutationLaws.{permutation-member}
+use Rattle.sorting.specs.Sorting.{sorted}
+use Rattle.sorting.proofs.PermutationLaws.{permutation-member, permutation-back}
 use Rattle.sorting.proofs.SortedLaws.{sorted-permutation, rising-sorted}
-use Rattle.differences.specs.Differences.{same, strings, copies, once, differing}
-use Rattle.differences.specs.Strict.{Strict}
+use Rattle.byte_string.specs.Order.{same}
+use Rattle.differences.specs.Differences.{strings, copies, once, differing}
+use Rattle.byte_string.specs.Rising.{Strict}
 use Rattle.differences.proofs.CopyLaws.{copies-member, copies-strings}
-use Rattle.differences.proofs.StrictLaws.{strict-keep, once-strict, member-once, not-true}
+use Rattle.differences.proofs.StrictLaws.{strict-keep, once-strict, member-once}
 
 -- ---- the byte strings of both, sorted
-
-permutation-back : {xs ys : List (List ℕ)} → Permutation xs ys → Permutation ys xs
-permutation-back empty = empty
-permutation-back (skip s) = skip (permutation-back s)
-permutation-back swap = swap
-permutation-back (trans s t) = trans (permutation-back t) (permutation-back s)
 
 member-sorted : (xs : List (List ℕ)) (x : List ℕ) → List·Memᴰ x xs → List·Memᴰ x (sorted xs)
 member-sorted xs x m = permutation-member x (permutation-back (sorted-permutation xs)) m

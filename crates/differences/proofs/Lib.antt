@@ -1,5 +1,4 @@
 -- The laws of what differs between two files.
-pub mod SameLaws
 pub mod MergeLaws
 pub mod SumLaws
 pub mod CopyLaws

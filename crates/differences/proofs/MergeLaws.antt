@@ -10,9 +10,10 @@ use lib.ListN.{length, drop, length-drop, length-append}
 use borrow.Author.Tests.{eqb-true, eqb-false, eq-eqb, ne-eqb}
 use Rattle.byte_string.specs.Order.{atMost}
 use Rattle.payload.specs.Payload.{Text}
-use Rattle.differences.specs.Differences.{same, Difference}
+use Rattle.byte_string.specs.Order.{same}
+use Rattle.differences.specs.Differences.{Difference}
 use Rattle.differences.specs.Merge.{leading, Next, none, next, nextOf, listed, mergedBy, mergedWith, merged}
-use Rattle.differences.proofs.SameLaws.{same-refl}
+use Rattle.byte_string.proofs.SameLaws.{same-refl}
 
 -- ---- the copies at the front
 

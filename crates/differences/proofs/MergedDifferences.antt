@@ -14,10 +14,11 @@ use Rattle.byte_string.specs.Order.{less, atMost}
 use Rattle.byte_string.specs.Rising.{rising}
 use Rattle.byte_string.proofs.OrderLaws.{atMost-trans, atMost-of-less, less-of-not-atMost, less-atMost-trans}
 use Rattle.payload.specs.Payload.{Text}
-use Rattle.differences.specs.Differences.{same, strings, copies, firstCopy, Difference, differing, differenceOf, differences}
-use Rattle.differences.specs.Strict.{Strict, no-string, one-string}
+use Rattle.byte_string.specs.Order.{same}
+use Rattle.differences.specs.Differences.{strings, copies, firstCopy, Difference, differing, differenceOf, differences}
+use Rattle.byte_string.specs.Rising.{Strict, no-string, one-string}
 use Rattle.differences.specs.Merge.{leading, Next, none, next, nextOf, listed, merged}
-use Rattle.differences.proofs.SameLaws.{same-refl, same-eq, not-same}
+use Rattle.byte_string.proofs.SameLaws.{same-refl, same-eq, not-same}
 use Rattle.differences.proofs.CopyLaws.{copies-here, copies-none, copies-member, first-here}
 use Rattle.differences.proofs.StrictLaws.{less-not-eq, strict-unique}
 use Rattle.differences.proofs.DifferingLaws.{differing-strict, differing-member, member-differing}

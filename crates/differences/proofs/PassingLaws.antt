@@ -10,9 +10,10 @@ use Rattle.byte_string.specs.Order.{less, atMost}
 use Rattle.byte_string.specs.Rising.{rising}
 use Rattle.byte_string.proofs.OrderLaws.{atMost-refl, less-atMost-trans}
 use Rattle.payload.specs.Payload.{Text}
-use Rattle.differences.specs.Differences.{same, strings, copies, firstCopy}
+use Rattle.byte_string.specs.Order.{same}
+use Rattle.differences.specs.Differences.{strings, copies, firstCopy}
 use Rattle.differences.specs.Merge.{leading}
-use Rattle.differences.proofs.SameLaws.{same-eq, same-not, not-same}
+use Rattle.byte_string.proofs.SameLaws.{same-eq, same-not, not-same}
 use Rattle.differences.proofs.CopyLaws.{copies-nil, copies-here, copies-passed, copies-none, first-passed}
 use Rattle.differences.proofs.StrictLaws.{less-not-eq, rising-rest, rising-least, atMost-less}
 use Rattle.differences.proofs.MergeLaws.{leading-end, leading-passed, leading-more}

@@ -5,15 +5,17 @@ use mathlib.Core.Path.{_≡_, refl, sym, ap, _∙_, subst}
 use mathlib.Core.Bool.{Bool, true, false, not, false≢true}
 use mathlib.Core.Logic.{_⊎_, inl, inr}
 use mathlib.Core.List.{List, [], _∷_, List·Memᴰ, List·Memᴰ·head, List·Memᴰ·tail, List·Memᴰ·not-nil, List·Memᴰ·cases-cons}
+use borrow.Author.Tests.{not-true}
 use Rattle.lists.specs.Lists.{keep}
 use Rattle.lists.proofs.ListsLaws.{both⁻¹, keep-member, member-keep, keep-first, keep-later}
 use Rattle.byte_string.specs.Order.{less, atMost}
 use Rattle.byte_string.specs.Rising.{rising, risingFrom}
 use Rattle.byte_string.proofs.OrderLaws.{less-irrefl, less-trans, atMost-cases}
 use Rattle.payload.proofs.ScanLaws.{risingFrom-each}
-use Rattle.differences.specs.Differences.{same, once}
-use Rattle.differences.specs.Strict.{Strict, no-string, one-string}
-use Rattle.differences.proofs.SameLaws.{same-eq, not-same}
+use Rattle.byte_string.specs.Order.{same}
+use Rattle.differences.specs.Differences.{once}
+use Rattle.byte_string.specs.Rising.{Strict, no-string, one-string}
+use Rattle.byte_string.proofs.SameLaws.{same-eq, not-same}
 
 -- ---- strings that rise strictly
 
@@ -70,13 +72,6 @@ strict-keep test xs (one-string {x = x} {xs = ys} h s) = go (test x) refl (stric
 
 -- ---- each once
 
-pub not-true : (b : Bool) → not b ≡ true → b ≡ false
-not-true true e = absurd (false≢true e)
-not-true false e = refl
-
-false-not : (b : Bool) → b ≡ false → not b ≡ true
-false-not b e = ap not e
-
 pub once-member : (xs : List (List ℕ)) (x : List ℕ) → List·Memᴰ x (once xs) → List·Memᴰ x xs
 unfolding once
 once-member [] x m = m
@@ -95,7 +90,7 @@ member-once (y ∷ xs) x m = go (same y x) refl (List·Memᴰ·cases-cons m) (me
         → List·Memᴰ x (y ∷ keep (λ z. not (same y z)) (once xs))
     go true e c rest = List·Memᴰ·head (sym (same-eq y x e))
     go false e (inl own) rest = List·Memᴰ·head own
-    go false e (inr later) rest = List·Memᴰ·tail (member-keep (λ (z : List ℕ). not (same y z)) (once xs) x (rest later) (false-not (same y x) e))
+    go false e (inr later) rest = List·Memᴰ·tail (member-keep (λ (z : List ℕ). not (same y z)) (once xs) x (rest later) (ap not e))
 
 pub rising-rest : (x : List ℕ) (xs : List (List ℕ)) → rising (x ∷ xs) ≡ true → rising xs ≡ true
 unfolding rising risingFrom

@@ -1,18 +1,14 @@
 -- What differs between the records of two files: the byte strings that are stored a different number of times in them.
 use Prim.Native.Nat.{ℕ, _*_}
-use mathlib.Core.Bool.{Bool, not, cond}
+use mathlib.Core.Bool.{not, cond}
 use mathlib.Core.List.{List, [], _∷_, _++_, map, flatMap}
 use lib.Dec.{eqb}
 use lib.IntN.{ℤ, pos, _+ℤ_, _-ℤ_}
 use lib.ListN.{length}
 use Rattle.lists.specs.Lists.{keep}
-use Rattle.byte_string.specs.Order.{comparison, saysEqual}
+use Rattle.byte_string.specs.Order.{same}
 use Rattle.sorting.specs.Sorting.{sorted}
 use Rattle.payload.specs.Payload.{Text}
-
--- x and y are the same byte string
-unfoldable pub same : List ℕ → List ℕ → Bool
-same x y = saysEqual (comparison x y)
 
 -- ---- the records of one file
 

@@ -1,4 +1,3 @@
 -- The meaning of what differs between two files.
 pub mod Differences
-pub mod Strict
 pub mod Merge

@@ -5,9 +5,9 @@ use mathlib.Core.Bool.{cond}
 use mathlib.Core.List.{List, [], _∷_, _++_}
 use lib.Dec.{eqb}
 use lib.ListN.{length, drop}
-use Rattle.byte_string.specs.Order.{atMost}
+use Rattle.byte_string.specs.Order.{atMost, same}
 use Rattle.payload.specs.Payload.{Text}
-use Rattle.differences.specs.Differences.{same, Difference}
+use Rattle.differences.specs.Differences.{Difference}
 
 -- how many records at the front are copies of x
 unfoldable pub leading : List ℕ → List Text → ℕ

@@ -12,7 +12,7 @@ use lib.Dec.{leb, ltb}
 use lib.ListN.{length, getD, set, take, drop, replicate, length-append, length-replicate, length-set, List·getD-append}
 use lib.Seq.{drop-length, take-append-seam, drop-append-seam, set-append-seam, getD-append-add, append-snoc}
 use Rattle.lists.proofs.ListsLaws.{zeros-at}
-use Rattle.output_list.specs.OutputList.{padded, zeros, hasPlace, withNumber, hasRoom, withPair}
+use Rattle.output_list.specs.OutputList.{padded, zeros, hasPlace, withNumber, withNumbers, hasRoom, withPair}
 
 -- ---- zeros
 
@@ -143,6 +143,34 @@ withNumber-padded room l count number e h =
     let long = length-padded room l (omega arith) in
     sym (place-some (padded room l) count number (omega arith) .1) ∙ ap (λ (n : ℕ). set (padded room l) n number) (sym e)
     ∙ set-padded room l number (omega arith)
+
+-- ---- numbers one after the other
+
+-- a lent list keeps its length
+pub length-withNumbers : (list : List ℕ) (count : ℕ) (ns : List ℕ) → length (withNumbers list count ns) ≡ length list
+unfolding withNumbers
+length-withNumbers list count [] = refl
+length-withNumbers list count (n ∷ ns) = length-withNumbers (withNumber list count n) (count + 1) ns ∙ length-withNumber list count n
+
+-- some numbers, and then others
+pub withNumbers-append : (list : List ℕ) (count : ℕ) (ms ns : List ℕ)
+    → withNumbers list count (ms ++ ns) ≡ withNumbers (withNumbers list count ms) (count + length ms) ns
+unfolding withNumbers
+withNumbers-append list count [] ns = ap (λ (k : ℕ). withNumbers list k ns) (let same : count ≡ count + 0 = omega arith in same)
+withNumbers-append list count (m ∷ ms) ns =
+    withNumbers-append (withNumber list count m) (count + 1) ms ns
+    ∙ ap (λ (k : ℕ). withNumbers (withNumbers (withNumber list count m) (count + 1) ms) k ns)
+    (let same : count + 1 + length ms ≡ count + length (m ∷ ms) = omega arith in same)
+
+-- with room for all of them they stand after the numbers that were there
+pub withNumbers-padded : (room : ℕ) (l : List ℕ) (count : ℕ) (ns : List ℕ) → length l ≡ count → count + length ns ≤ room
+    → withNumbers (padded room l) count ns ≡ padded room (l ++ ns)
+unfolding withNumbers
+withNumbers-padded room l count [] e h = ap (padded room) (sym (append-nil l))
+withNumbers-padded room l count (n ∷ ns) e h =
+    ap (λ (list : List ℕ). withNumbers list (count + 1) ns) (withNumber-padded room l count n e (omega arith))
+    ∙ withNumbers-padded room (l ++ (n ∷ [])) (count + 1) ns (length-append l (n ∷ []) ∙ ap (λ (k : ℕ). k + 1) e) (omega arith)
+    ∙ ap (padded room) (append-snoc l n ns)
 
 -- ---- pairs
 

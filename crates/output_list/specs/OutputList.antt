@@ -2,7 +2,7 @@
 -- zeros after them.
 use Prim.Native.Nat.{ℕ, _+_, _-_, _*_}
 use mathlib.Core.Bool.{Bool, cond}
-use mathlib.Core.List.{List, [], _++_}
+use mathlib.Core.List.{List, [], _∷_, _++_}
 use lib.Dec.{leb, ltb}
 use lib.ListN.{length, set, replicate}
 
@@ -21,6 +21,11 @@ hasPlace list count = ltb count (length list)
 -- the list with a number stored after `count` numbers, where there is room, or as it is
 unfoldable pub withNumber : List ℕ → (count number : ℕ) → List ℕ
 withNumber list count number = cond (hasPlace list count) (set list count number) list
+
+-- the list with numbers put after `count` numbers, as far as there is room
+unfoldable pub withNumbers : List ℕ → (count : ℕ) → List ℕ → List ℕ
+withNumbers list count [] = list
+withNumbers list count (n ∷ ns) = withNumbers (withNumber list count n) (count + 1) ns
 
 -- there is room for a pair after `count` pairs
 unfoldable pub hasRoom : List ℕ → ℕ → Bool

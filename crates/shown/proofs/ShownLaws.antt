@@ -15,28 +15,28 @@ use Rattle.part.proofs.PartLaws.{lent-part}
 use Rattle.record.specs.Record.{isWithin}
 use Rattle.record.proofs.RecordLaws.{within⁻¹}
 use Rattle.shown.specs.declared.place.Shown.{Shown}
-use Rattle.shown.specs.Shown.{fileOf, namesPart, placeOf, shownBytes}
+use Rattle.shown.specs.Shown.{fileNamed, namesPart, partShown, shownBytes}
 
 module _ (first second : List ℕ) where
   -- ---- the file of a part
 
-  pub first-file : (which : ℕ) → (which ≡ 2 → ⊥) → fileOf first second which ≡ first
-  unfolding fileOf
+  pub first-file : (which : ℕ) → (which ≡ 2 → ⊥) → fileNamed first second which ≡ first
+  unfolding fileNamed
   first-file which h = rw (ne-eqb which 2 h)
 
-  pub second-file : (which : ℕ) → which ≡ 2 → fileOf first second which ≡ second
-  unfolding fileOf
+  pub second-file : (which : ℕ) → which ≡ 2 → fileNamed first second which ≡ second
+  unfolding fileNamed
   second-file which h = rw (eq-eqb which 2 h)
 
   module _ (which offset n : ℕ) where
     -- ---- whether a part is named
 
     pub names-first : which ≡ 1 → namesPart first second which offset n ≡ isWithin first offset n
-    unfolding namesPart fileOf
+    unfolding namesPart fileNamed
     names-first h = rw h
 
     pub names-second : which ≡ 2 → namesPart first second which offset n ≡ isWithin second offset n
-    unfolding namesPart fileOf
+    unfolding namesPart fileNamed
     names-second h = rw h
 
     pub names-none : (which ≡ 1 → ⊥) → (which ≡ 2 → ⊥) → namesPart first second which offset n ≡ false
@@ -45,8 +45,8 @@ module _ (first second : List ℕ) where
 
     pub place-if : (named : Bool) (r : Shown) → named ≡ namesPart first second which offset n
         → r ≡ cond named (record { which = which; offset = offset; length = n }) (record { which = 1; offset = 0; length = 0 })
-        → r ≡ placeOf first second which offset n
-    unfolding placeOf
+        → r ≡ partShown first second which offset n
+    unfolding partShown
     place-if named r e is =
         is ∙ ap (λ (b : Bool). cond b (record { which = which; offset = offset; length = n }) (record { which = 1; offset = 0; length = 0 })) e
 
@@ -54,26 +54,26 @@ module _ (first second : List ℕ) where
 
     -- a part that is named lies within its file, and is what is handed back
     module _ (named : namesPart first second which offset n ≡ true) where
-      pub named-within : offset + n ≤ length (fileOf first second which)
+      pub named-within : offset + n ≤ length (fileNamed first second which)
       unfolding namesPart
       named-within =
-          within⁻¹ (fileOf first second which) offset n (both⁻¹ (eqb which 1 || eqb which 2) (isWithin (fileOf first second which) offset n) named .1)
+          within⁻¹ (fileNamed first second which) offset n (both⁻¹ (eqb which 1 || eqb which 2) (isWithin (fileNamed first second which) offset n) named .1)
 
-      pub named-place : placeOf first second which offset n ≡ record { which = which; offset = offset; length = n }
-      unfolding placeOf
+      pub named-place : partShown first second which offset n ≡ record { which = which; offset = offset; length = n }
+      unfolding partShown
       named-place = rw named
 
     -- what is handed back lies within its file
     fits : (b : Bool) → namesPart first second which offset n ≡ b
-        → placeOf first second which offset n .offset + placeOf first second which offset n .length ≤ length (fileOf first second (placeOf first second which offset n .which))
-    unfolding placeOf
+        → partShown first second which offset n .offset + partShown first second which offset n .length ≤ length (fileNamed first second (partShown first second which offset n .which))
+    unfolding partShown
     fits true e = rw e (named-within e)
     fits false e = rw e (omega arith)
 
-    module _ (p : Shown) (is : p ≡ placeOf first second which offset n) where
-      pub shown-fits : p .offset + p .length ≤ length (fileOf first second (p .which))
+    module _ (p : Shown) (is : p ≡ partShown first second which offset n) where
+      pub shown-fits : p .offset + p .length ≤ length (fileNamed first second (p .which))
       shown-fits =
-          subst (λ (q : Shown). q .offset + q .length ≤ length (fileOf first second (q .which))) (sym is)
+          subst (λ (q : Shown). q .offset + q .length ≤ length (fileNamed first second (q .which))) (sym is)
           (fits (namesPart first second which offset n) refl)
 
       -- and ends below what the lengths of both files are below
@@ -91,8 +91,8 @@ module _ (first second : List ℕ) where
               omega arith
 
       -- its bytes, as they are lent
-      pub shown-lent : (file : List ℕ) → fileOf first second (p .which) ≡ file
-          → take (p .offset + p .length - p .offset) (drop (p .offset) file) ≡ shownBytes first second (placeOf first second which offset n)
+      pub shown-lent : (file : List ℕ) → fileNamed first second (p .which) ≡ file
+          → take (p .offset + p .length - p .offset) (drop (p .offset) file) ≡ shownBytes first second (partShown first second which offset n)
       unfolding shownBytes
       shown-lent file e =
           lent-part file (p .offset) (p .length)
@@ -102,9 +102,9 @@ module _ (first second : List ℕ) where
       -- where it begins, from the pointers to the files
       pub shown-place : (first-at second-at : ℕ × ℕ) (at : ℕ × ℕ) → at ≡ cond (eqb (p .which) 2) second-at first-at
           → _≡_ {A = ℕ × ℕ} (at .0, p .offset + at .1)
-          (cond (eqb (placeOf first second which offset n .which) 2)
-          (second-at .0, second-at .1 + placeOf first second which offset n .offset)
-          (first-at .0, first-at .1 + placeOf first second which offset n .offset))
+          (cond (eqb (partShown first second which offset n .which) 2)
+          (second-at .0, second-at .1 + partShown first second which offset n .offset)
+          (first-at .0, first-at .1 + partShown first second which offset n .offset))
       shown-place first-at second-at at e =
           subst (λ (q : Shown). _≡_ {A = ℕ × ℕ} (at .0, p .offset + at .1)
           (cond (eqb (q .which) 2) (second-at .0, second-at .1 + q .offset) (first-at .0, first-at .1 + q .offset))) is (go (eqb (p .which) 2) e)

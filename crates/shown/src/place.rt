@@ -1,7 +1,7 @@
 // Where a part of one of two files lies.
 ghost use mathlib.Core.Bool.{cond};
 ghost use mathlib.Core.Path.{_≡_};
-ghost use Rattle.shown.specs.Shown.{placeOf};
+ghost use Rattle.shown.specs.Shown.{partShown};
 use record::is_within;
 
 // A part of the first file where `which` is 1, of the second where it is 2.
@@ -32,8 +32,8 @@ fn part_if(named: bool, which: u64, offset: u64, length: u64) -> Shown
 }
 
 // Where the part lies that the numbers name; no bytes of the first file at 0 where they name none.
-pub fn place_of(first: &[u8], second: &[u8], which: u64, offset: u64, length: u64) -> Shown
-    ensures { λ r. ⌜ r ≡ placeOf (now (first .entry)) (now (second .entry)) which offset length ⌝ }
+pub fn part_shown(first: &[u8], second: &[u8], which: u64, offset: u64, length: u64) -> Shown
+    ensures { λ r. ⌜ r ≡ partShown (now (first .entry)) (now (second .entry)) which offset length ⌝ }
 {
     match which {
         1 => part_if(is_within(first, offset, length), which, offset, length),

@@ -16,6 +16,12 @@ module _ {A : Type 0} where
   permutation-refl [] = empty
   permutation-refl (x ∷ xs) = skip (permutation-refl xs)
 
+  pub permutation-back : {xs ys : List A} → Permutation xs ys → Permutation ys xs
+  permutation-back empty = empty
+  permutation-back (skip s) = skip (permutation-back s)
+  permutation-back swap = swap
+  permutation-back (trans s t) = trans (permutation-back t) (permutation-back s)
+
   pub permutation-length : {xs ys : List A} → Permutation xs ys → length xs ≡ length ys
   permutation-length empty = refl
   permutation-length (skip s) = ap suc (permutation-length s)

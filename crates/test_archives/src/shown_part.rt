@@ -1,7 +1,7 @@
 // Call 9: handing back a part of the file or of a second one.
 use crate::cases::Case;
 use crate::print;
-use shown::place::place_of;
+use shown::place::part_shown;
 use shown::shown;
 
 pub fn run<'a>(first: &'a [u8], second: &'a [u8], name: &[u8], case: Case) {
@@ -13,7 +13,7 @@ pub fn run<'a>(first: &'a [u8], second: &'a [u8], name: &[u8], case: Case) {
     print::number(b" ", which);
     print::number(b" ", offset);
     print::number(b" ", length);
-    let place = place_of(first, second, which, offset, length);
+    let place = part_shown(first, second, which, offset, length);
     print::number(b": which ", place.which);
     print::number(b" part ", place.offset as u64);
     print::number(b" ", place.length as u64);

@@ -1,14 +1,13 @@
 -- The differences of two accepted files are exactly the byte strings with more copies in one of them, and each can be handed back.
 -- Assumes nothing.
-use mathlib.Core.Path.{_≡_, refl, sym, ap, ap₂, _∙_, subst}
-use mathlib.Core.Bool.{Bool, true, false, cond}
-use mathlib.Core.List.{List, [], _∷_, map, List·Memᴰ, Memᴰ·map, Memᴰ·of-map}
+use mathlib.Core.Path.{_≡_, refl, sym, ap, _∙_, subst}
+use mathlib.Core.Bool.{Bool, true, false}
+use mathlib.Core.List.{List, [], _∷_, map, Memᴰ·map, Memᴰ·of-map}
 use Prim.Native.Nat.{ℕ, zero, suc, _+_, _≤_, _<_}
 use native.Mathlib.Omega.{arith}
-use borrow.Author.Tests.{eq-eqb, ne-eqb, eqb-true, eqb-false}
+use borrow.Author.Tests.{eqb-true, eqb-false}
 use lib.Dec.{eqb}
 use lib.ListN.{length}
-use Rattle.lists.proofs.ListsLaws.{Ascending}
 use Rattle.part.specs.Part.{part}
 use Rattle.record.proofs.RecordLaws.{within-of}
 use Rattle.header.specs.Header.{headerNumbers, blocksFrom}
@@ -20,12 +19,12 @@ use Rattle.block.proofs.TileLaws.{file-records-all}
 use Rattle.theorems_check.proofs.AcceptLaws.{Accepted}
 use Rattle.theorems_check.proofs.RecordsSorted.{accepted-rising}
 use Rattle.theorems_read.proofs.ReadTheorems.{record-bytes}
-use Rattle.differences.specs.Differences.{strings, copies, firstCopy, Difference, differing, differenceOf, differences}
-use Rattle.differences.proofs.CopyLaws.{first-copy, first-lowest, copies-none, copies-member, member-copies}
+use Rattle.differences.specs.Differences.{strings, copies, firstCopy, differing, differenceOf, differences}
+use Rattle.differences.proofs.CopyLaws.{first-copy, first-lowest}
 use Rattle.differences.proofs.DifferingLaws.{differing-strict, differing-member, member-differing, differing-none}
 use Rattle.differences.proofs.SumLaws.{sum-differences}
-use Rattle.differences.specs.Strict.{Strict}
-use Rattle.shown.specs.Shown.{fileOf, namesPart, placeOf, shownBytes}
+use Rattle.byte_string.specs.Rising.{Strict}
+use Rattle.shown.specs.Shown.{fileNamed, namesPart, partShown, shownBytes}
 use Rattle.shown.proofs.ShownLaws.{names-first, names-second, named-place, first-file, second-file}
 use Rattle.theorems_compare.specs.ComparedByRules.{FirstCopy, IsDifference, AreDifferences}
 
@@ -67,8 +66,8 @@ bytes-of xs ys (x ∷ l) = ap (λ (m : List (List ℕ)). x ∷ m) (bytes-of xs y
 
 module _ (first second : List ℕ) (xs ys : List Block) (a : Accepted first xs) (b : Accepted second ys) where
   -- a part that is named and has these bytes
-  handed-back : (which offset : ℕ) (x : List ℕ) → namesPart first second which offset (length x) ≡ true → part (fileOf first second which) offset (length x) ≡ x
-      → shownBytes first second (placeOf first second which offset (length x)) ≡ x
+  handed-back : (which offset : ℕ) (x : List ℕ) → namesPart first second which offset (length x) ≡ true → part (fileNamed first second which) offset (length x) ≡ x
+      → shownBytes first second (partShown first second which offset (length x)) ≡ x
   unfolding shownBytes
   handed-back which offset x named bytes = ap (shownBytes first second) (named-place first second which offset (length x) named) ∙ bytes
 

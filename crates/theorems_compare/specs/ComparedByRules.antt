@@ -12,9 +12,8 @@ use Rattle.block.specs.Block.{Block}
 use Rattle.block.specs.Survey.{ordinary, recordsOf}
 use Rattle.checker.specs.Check.{acceptOf, checkOf}
 use Rattle.differences.specs.Differences.{copies, Difference, numbersOf, roomFor, sumOf}
-use Rattle.differences.specs.Strict.{Strict}
-use Rattle.shown.specs.declared.place.Shown.{Shown}
-use Rattle.shown.specs.Shown.{placeOf, shownBytes}
+use Rattle.byte_string.specs.Rising.{Strict}
+use Rattle.shown.specs.Shown.{partShown, shownBytes}
 use Rattle.comparer.specs.declared.Compared.{Compared}
 
 -- one of the records has these bytes and this offset, and none that has these bytes has a lower offset
@@ -32,8 +31,8 @@ pub record IsDifference (first second : List ℕ) (xs ys : List Text) (d : Diffe
   pub from-first : 0 < d .first → (d .which ≡ 1) × FirstCopy xs (d .bytes) (d .offset)
   pub from-second : d .first ≡ 0 → (d .which ≡ 2) × FirstCopy ys (d .bytes) (d .offset)
   -- the part that is handed back for its first three numbers has these numbers and its bytes
-  pub placed : placeOf first second (d .which) (d .offset) (length (d .bytes)) ≡ record { which = d .which; offset = d .offset; length = length (d .bytes) }
-  pub handed : shownBytes first second (placeOf first second (d .which) (d .offset) (length (d .bytes))) ≡ d .bytes
+  pub placed : partShown first second (d .which) (d .offset) (length (d .bytes)) ≡ record { which = d .which; offset = d .offset; length = length (d .bytes) }
+  pub handed : shownBytes first second (partShown first second (d .which) (d .offset) (length (d .bytes))) ≡ d .bytes
 
 -- these are all differences, rising and once each
 pub record AreDifferences (first second : List ℕ) (xs ys : List Text) (ds : List Difference) : Type 0 where
@@ -59,6 +58,10 @@ pub record ComparedByRules (first second : List ℕ) (places room : ℕ) (r : Co
   pub refused-first : (number place : ℕ) → checkOf first places ≡ refused number place → Refuses number place 1 room r list
   pub refused-second : (xs : List Block) (number place : ℕ) → checkOf first places ≡ answer xs → checkOf second places ≡ refused number place
       → Refuses number place 2 room r list
-  -- two accepted files, with a place for each ordinary block of either
+  -- only two accepted files, with a place for each ordinary block of either, are compared
+  pub only : r .number ≡ 0
+      → (xs : List Block) × (ys : List Block) × (acceptOf first ≡ answer xs) × (length (ordinary xs) ≤ places) × (acceptOf second ≡ answer ys)
+      × (length (ordinary ys) ≤ places)
+  -- and all such files are
   pub compared : (xs ys : List Block) → acceptOf first ≡ answer xs → length (ordinary xs) ≤ places → acceptOf second ≡ answer ys
       → length (ordinary ys) ≤ places → (ds : List Difference) × AreDifferences first second (recordsOf xs) (recordsOf ys) ds × Lists room ds r list

@@ -9,21 +9,20 @@ use native.Mathlib.Omega.{arith}
 use lib.ListN.{length, length-map}
 use Rattle.lists.specs.Lists.{keep}
 use Rattle.lists.proofs.CountLaws.{keep-map}
-use Rattle.byte_string.specs.Order.{comparison}
-use Rattle.byte_string.proofs.ComparisonLaws.{compared-equal, compared-same}
+use Rattle.byte_string.specs.Order.{same}
+use Rattle.byte_string.proofs.SameLaws.{same-eq, eq-same}
 use Rattle.sorting.specs.Sorting.{sorted}
 use Rattle.sorting.proofs.PermutationLaws.{permutation-length, permutation-count}
 use Rattle.sorting.proofs.SortedLaws.{sorted-unique}
 use Rattle.sim.specs.Adn.{recordOf}
 use Rattle.sim_import.specs.Import.{occupied}
 use Rattle.theorems_check.proofs.SortedLaws.{Sorted⇒rising}
-use Rattle.theorems_import.specs.ImportedByRules.{Imported, isSame}
+use Rattle.theorems_import.specs.ImportedByRules.{Imported}
 
 -- ---- counting
 
-pub same-exactly : (s r : List ℕ) → (isSame s r ≡ true) ↔ (s ≡ r)
-unfolding isSame
-same-exactly s r = (compared-equal s r (comparison s r) refl, compared-same s r (comparison s r) refl)
+pub same-exactly : (s r : List ℕ) → (same s r ≡ true) ↔ (s ≡ r)
+same-exactly s r = (same-eq s r, eq-same s r)
 
 -- ---- the records that are given
 
@@ -37,10 +36,10 @@ module _ (x : ℕ) (dump : List ℕ) (rs : List (List ℕ)) (i : Imported x dump
   one-for-each = permutation-length (i .each) ∙ length-map (occupied x dump) (recordOf x)
 
   -- every byte string stands among them as often as it is our record of one that isn't free
-  pub copies : (s : List ℕ) → length (keep (isSame s) rs) ≡ length (keep (λ adn. isSame s (recordOf x adn)) (occupied x dump))
+  pub copies : (s : List ℕ) → length (keep (same s) rs) ≡ length (keep (λ adn. same s (recordOf x adn)) (occupied x dump))
   copies s =
-      permutation-count (isSame s) (i .each) ∙ sym (ap length (keep-map (isSame s) (recordOf x) (occupied x dump)))
-      ∙ length-map (keep (λ adn. isSame s (recordOf x adn)) (occupied x dump)) (recordOf x)
+      permutation-count (same s) (i .each) ∙ sym (ap length (keep-map (same s) (recordOf x) (occupied x dump)))
+      ∙ length-map (keep (λ adn. same s (recordOf x adn)) (occupied x dump)) (recordOf x)
 
   -- there are some exactly if there is one that isn't free
   pub some-exactly : (rs ≢ []) ↔ (occupied x dump ≢ [])

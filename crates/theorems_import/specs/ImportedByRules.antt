@@ -3,12 +3,10 @@
 use Prim.Native.Nat.{ℕ, _+_, _%_, _≤_, _<_}
 use mathlib.Core.Path.{_≡_}
 use mathlib.Core.Logic.{_≢_}
-use mathlib.Core.Bool.{Bool}
 use mathlib.Core.List.{List, _∷_, _++_, map, List·Memᴰ}
 use lib.ListN.{length, take}
 use Rattle.lists.specs.Groups.{groups}
 use Rattle.output_list.specs.OutputList.{zeros}
-use Rattle.byte_string.specs.Order.{comparison, saysEqual}
 use Rattle.layout.specs.Blocks.{recordsBytes}
 use Rattle.written.specs.declared.Written.{Written}
 use Rattle.sorting.specs.Sorting.{sorted, Permutation}
@@ -82,9 +80,3 @@ pub record ImportedByRules (dump : List ℕ) (x room : ℕ) (r : Written) (outpu
   pub refused : r .number ≢ 0 → (r .length ≡ 0) × (output ≡ zeros room)
   -- else the records, in the form that the writer takes, and zeros after them
   pub given : r .number ≡ 0 → (rs : List (List ℕ)) × Imported x dump rs × HoldsFile room r output (recordsBytes rs)
-
--- ---- counting
-
--- s is r
-unfoldable pub isSame : (s r : List ℕ) → Bool
-isSame s r = saysEqual (comparison s r)

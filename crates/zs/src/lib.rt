@@ -19,7 +19,7 @@ ghost use Rattle.written.specs.Written.{writtenAnswer, writtenOutput};
 ghost use Rattle.writer.specs.Write.{writeOf};
 ghost use Rattle.stores.specs.FileStores.{storePart};
 ghost use Rattle.sim_import.specs.Import.{importOf};
-ghost use Rattle.shown.specs.Shown.{placeOf};
+ghost use Rattle.shown.specs.Shown.{partShown};
 ghost use Rattle.comparer.specs.Compare.{compareAnswer, compareList};
 ghost use Rattle.theorems_check.specs.CheckedByRules.{CheckedByRules};
 ghost use Rattle.theorems_read.specs.ReadByRules.{ReadByRules};
@@ -200,7 +200,7 @@ pub extern "C" fn zs_compare<'a>(
     comparer::compare_files(first, second, work, list)
 }
 
-// Where a record lies that a comparison lists (`shown::shown`); no bytes of the first file at 0 where the numbers name no part.
+// Where a record lies that a comparison lists (`shown::place::part_shown`); no bytes of the first file at 0 where the numbers name no part.
 #[no_mangle]
 pub extern "C" fn zs_show(
     first: &[u8],
@@ -209,7 +209,7 @@ pub extern "C" fn zs_show(
     offset: u64,
     length: u64,
 ) -> Shown
-    ensures { λ r. ⌜ r ≡ placeOf (now (first .entry)) (now (second .entry)) which offset length ⌝ }
+    ensures { λ r. ⌜ r ≡ partShown (now (first .entry)) (now (second .entry)) which offset length ⌝ }
 {
-    shown::place::place_of(first, second, which, offset, length)
+    shown::place::part_shown(first, second, which, offset, length)
 }

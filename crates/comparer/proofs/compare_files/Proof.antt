@@ -138,8 +138,8 @@ returns-3 c =
     (args .work))) (length (now (args .list))) _ _ j k _ _ e f _ (merge .ensures .0) (let short = if3 .taken in omega arith) in
     (c .refusal3 .ensures ∙ told .0, (clear2 .ensures ∙ ap zeros (g ∙ d) ∙ told .1, check2 .ensures .1 ∙ ap zeros (check .kept .1 .0)))
 
-less-requires : tie.Need-less-requires
-less-requires c κs =
+minus-requires : tie.Need-minus-requires
+minus-requires c κs =
     let args = c .before .before .before .before .before .before .before .before .before .before .before .before .before .before .before .before .before .before .before .before .before .before .before .before .before .before .before .before .before .args in
     let check = c .before .before .before .before .before .before .before .before .before .before .before .before .before .before .before .before .before .before .before .check in
     let if1 = c .before .before .before .before .before .before .before .before .before .before .before .before .before .before .before .if1 in
@@ -186,7 +186,7 @@ returns-4 c =
     (args .work))) (length (now (args .list))) _ _ j k _ _ e f _ (merge .ensures .0) (let room = c .before .if3 .left in omega arith)
     _ _ (clear .ensures) (merge .ensures .1) _
     (difference-kept (check2 .result .records) (check .result .records) (let counted = k .counted in let few = k .few in omega arith) (let counted = j .counted in let few = j .few in omega arith)
-    _ (c .less .ensures)) in (
+    _ (c .minus .ensures)) in (
       told .0,
       (
         told .1,
@@ -219,7 +219,7 @@ compare-files-spec =
     same-length-5
     same-length-6
     returns-3
-    less-requires
+    minus-requires
     same-length-7
     same-length-8
     returns-4)

@@ -9,7 +9,7 @@ use Rattle.framing.specs.Answers.{frameSaid}
 use Rattle.framing.proofs.FrameLaws.{frame⇒Framed}
 use Rattle.payload.specs.Answers.{textSaid}
 use Rattle.block.specs.Block.{isData}
-use Rattle.cursor.specs.Cursor.{recordSaid, RecordWithin}
+use Rattle.cursor.specs.Cursor.{recordSaid, RecordWithin, hereOf}
 use Rattle.cursor.proofs.CursorLaws.{end-few, follow, follow-cut, follow-text, follow-block, follow-none}
 use Rattle.cursor.proofs.record_at.Statement.{statement}
 use Rattle.cursor.proofs.record_at.Tie as tie
@@ -38,9 +38,9 @@ text-at-requires c κs = search needs
 enum-known-found : tie.Need-enum-known-found Inv-loop μ-loop
 enum-known-found c = search needs
 
-add-t12 : tie.Need-add-t12 Inv-loop μ-loop
+add-t13 : tie.Need-add-t13 Inv-loop μ-loop
 unfolding textSaid
-add-t12 c =
+add-t13 c =
     let args = c .before .before .before .before .before .before .before .before .before .args in
     let loop = c .before .before .before .before .before .before .loop in
     let text-at = c .before .before .before .before .text-at in
@@ -51,7 +51,7 @@ add-t12 c =
     (arith, good)
 
 returns : tie.Need-returns Inv-loop μ-loop
-unfolding textSaid recordSaid RecordWithin
+unfolding textSaid recordSaid RecordWithin hereOf
 returns c =
     let args = c .before .before .before .before .before .before .before .before .before .args in
     let loop = c .before .before .before .before .before .before .loop in
@@ -59,11 +59,10 @@ returns c =
     let found = c .before .before .found in
     let end-within = c .before .before .before .before .before .before .before .end-within in
     let text = follow-text (now (args .file)) (loop .at) (loop .end) (loop .block) _ _ (sym (text-at .ensures 0) ∙ ap (textSaid 0 (take
-    (loop .end) (now (args .file)))) (found .given .1)) in let before = text .0 in let within = loop .inv .0 in (
-      sym (text .1) ∙
-          loop .inv .1 ∙ follow-cut (now (args .file)) (args .c .at) (args .c .end) (end-within .result) (args .c .block)
-          (end-within .ensures .1),
-      omega arith,
+    (loop .end) (now (args .file)))) (found .given .1)) in let before = text .0 in let within = loop .inv .0 in
+    let same = loop .inv .1 ∙ follow-cut (now (args .file)) (args .c .at) (args .c .end) (end-within .result) (args .c .block) (end-within .ensures .1) in (
+      sym (text .1) ∙ same,
+      (omega arith, same),
     )
 
 enum-told : tie.Need-enum-told Inv-loop μ-loop
@@ -76,19 +75,19 @@ enum-told-2 : tie.Need-enum-told-2 Inv-loop μ-loop
 enum-told-2 c = search needs
 
 returns-2 : tie.Need-returns-2 Inv-loop μ-loop
-unfolding textSaid frameSaid recordSaid RecordWithin
+unfolding textSaid frameSaid recordSaid RecordWithin hereOf
 returns-2 c =
     let args = c .before .before .before .before .before .before .before .before .before .before .args in
     let loop = c .before .before .before .before .before .before .before .loop in
     let text-at = c .before .before .before .before .before .text-at in
     let enum-told = c .before .before .before .enum-told in
     let frame-at = c .before .before .frame-at in
-    let end-within = c .before .before .before .before .before .before .before .before .end-within in (
+    let end-within = c .before .before .before .before .before .before .before .before .end-within in
+    let same = loop .inv .1 ∙ follow-cut (now (args .file)) (args .c .at) (args .c .end) (end-within .result) (args .c .block) (end-within .ensures .1) in (
       sym (follow-none (now (args .file)) (loop .at) (loop .end) (loop .block) _ _ (sym (text-at .ensures 0) ∙ ap (textSaid 0 (take
           (loop .end) (now (args .file)))) (enum-told .given .1)) _ _ (sym (frame-at .ensures) ∙ ap (frameSaid (loop .block))
-          (c .enum-told2 .given .1))) ∙ loop .inv .1 ∙ follow-cut (now (args .file)) (args .c .at) (args .c .end) (end-within .result)
-          (args .c .block) (end-within .ensures .1),
-      tt,
+          (c .enum-told2 .given .1))) ∙ same,
+      (tt, same),
     )
 
 enum-known-frame : tie.Need-enum-known-frame Inv-loop μ-loop
@@ -160,7 +159,7 @@ record-at-spec =
     slice-aggregate-text-at
     text-at-requires
     enum-known-found
-    add-t12
+    add-t13
     returns
     enum-told
     frame-at-requires

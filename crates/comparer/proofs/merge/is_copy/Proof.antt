@@ -4,8 +4,8 @@ use denote.Ref.{now}
 use mathlib.Core.List.{List}
 use Prim.Native.Nat.{ℕ}
 use borrow.Author.Needs.{needs}
-use Rattle.differences.specs.Differences.{same}
-use Rattle.differences.proofs.SameLaws.{same-of-compared}
+use Rattle.byte_string.specs.Order.{same}
+use Rattle.byte_string.proofs.SameLaws.{same-of-compared}
 use Rattle.part.proofs.PartLaws.{lent-part}
 use Rattle.comparer.proofs.merge.is_copy.Statement.{statement}
 use Rattle.comparer.proofs.merge.is_copy.Tie as tie

@@ -38,9 +38,9 @@ at-most-requires c κs =
     let one = c .before .before .before .before .one in
     let record-at = c .before .before .before .before .before .before .before .record-at in
     let record-at2 = c .before .before .before .before .before .before .record-at2 in (
-      (within-told (now (args .first)) _ _ _ (one .given .1) (record-at .ensures .1)),
-      (within-told (now (args .second)) _ _ _
-          (c .before .two2 .given .1) (record-at2 .ensures .1)),
+      (within-told (now (args .first)) _ _ _ _ (one .given .1) (record-at .ensures .1 .0)),
+      (within-told (now (args .second)) _ _ _ _
+          (c .before .two2 .given .1) (record-at2 .ensures .1 .0)),
     )
 
 returns : tie.Need-returns
@@ -65,8 +65,8 @@ returns-2 c =
       least-second-only (now (args .first)) (now (args .second)) _ _ _ _ (sym (ap (recordSaid (now (args .second)))
           (c .before .two .given .1)) ∙ record-at2 .ensures .0) (sym (ap (recordSaid (now (args .first))) (enum-told .given .1)) ∙
           record-at .ensures .0),
-      named-second (now (args .first)) (now (args .second)) _ (within-told (now (args .second)) _ _ _
-          (c .before .two .given .1) (record-at2 .ensures .1)),
+      named-second (now (args .first)) (now (args .second)) _ (within-told (now (args .second)) _ _ _ _
+          (c .before .two .given .1) (record-at2 .ensures .1 .0)),
     )
 
 returns-3 : tie.Need-returns-3
@@ -79,7 +79,7 @@ returns-3 c =
       least-first-only (now (args .first)) (now (args .second)) _ _ _ _ (sym (ap (recordSaid (now (args .first))) (one .given .1)) ∙
           record-at .ensures .0) (sym (ap (recordSaid (now (args .second))) (c .enum-told3 .given .1)) ∙ record-at2 .ensures .0),
       named-first (now
-          (args .first)) (now (args .second)) _ (within-told (now (args .first)) _ _ _ (one .given .1) (record-at .ensures .1)),
+          (args .first)) (now (args .second)) _ (within-told (now (args .first)) _ _ _ _ (one .given .1) (record-at .ensures .1 .0)),
     )
 
 returns-4 : tie.Need-returns-4
@@ -93,8 +93,7 @@ returns-4 c =
       least-first (now (args .first)) (now (args .second)) _ _ _ _ (sym (ap (recordSaid (now (args .first))) (one .given .1)) ∙
           record-at .ensures .0) _ _ (sym (ap (recordSaid (now (args .second))) (two2 .given .1)) ∙ record-at2 .ensures .0) (sym
           (c .before .at-most .ensures) ∙ c .if1 .taken),
-      named-first (now (args .first)) (now (args .second)) _ (within-told (now (args .first))
-          _ _ _ (one .given .1) (record-at .ensures .1)),
+      named-first (now (args .first)) (now (args .second)) _ (within-told (now (args .first)) _ _ _ _ (one .given .1) (record-at .ensures .1 .0)),
     )
 
 returns-5 : tie.Need-returns-5
@@ -108,8 +107,7 @@ returns-5 c =
       least-second (now (args .first)) (now (args .second)) _ _ _ _ (sym (ap (recordSaid (now (args .first))) (one .given .1)) ∙
           record-at .ensures .0) _ _ (sym (ap (recordSaid (now (args .second))) (two2 .given .1)) ∙ record-at2 .ensures .0) (sym
           (c .before .at-most .ensures) ∙ c .if1 .left),
-      named-second (now (args .first)) (now (args .second)) _ (within-told (now (args .second))
-          _ _ _ (two2 .given .1) (record-at2 .ensures .1)),
+      named-second (now (args .first)) (now (args .second)) _ (within-told (now (args .second)) _ _ _ _ (two2 .given .1) (record-at2 .ensures .1 .0)),
     )
 
 pub least-spec : {M : Type 1} → statement M

@@ -9,7 +9,7 @@ use Rattle.payload.specs.Answers.{textIn}
 use Rattle.cursor.specs.Cursor.{following}
 use Rattle.differences.specs.Merge.{leading, merged}
 use Rattle.comparer.specs.Steps.{nextSaid}
-use Rattle.comparer.proofs.ListLaws.{length-withNumbers}
+use Rattle.output_list.proofs.OutputListLaws.{length-withNumbers}
 use Rattle.comparer.proofs.StepLaws.{text-shown, text-long, Merging, merging-start, merging-end, merging-falls, merging-same, merging-more}
 use Rattle.comparer.proofs.merge.merge.Statement.{statement}
 use Rattle.comparer.proofs.merge.merge.Tie as tie

@@ -1,6 +1,3 @@
-use lib.ListN.{length, length-set}
-use native.Mathlib.Omega.{arith}
-use borrow.Author.Needs.{needs}
 use Rattle.shown.proofs.place.part_if.Statement.{statement}
 use Rattle.shown.proofs.place.part_if.Tie as tie
 

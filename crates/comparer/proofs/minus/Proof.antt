@@ -1,7 +1,7 @@
 use borrow.Author.Needs.{needs}
 use Rattle.comparer.proofs.SignedLaws.{difference-fits, difference-read}
-use Rattle.comparer.proofs.less.Statement.{statement}
-use Rattle.comparer.proofs.less.Tie as tie
+use Rattle.comparer.proofs.minus.Statement.{statement}
+use Rattle.comparer.proofs.minus.Tie as tie
 
 cast-result : tie.Need-cast-result
 cast-result c = search needs
@@ -17,5 +17,5 @@ returns : tie.Need-returns
 returns c =
     difference-read (c .args .count) (c .args .other) (c .pre .0) (c .pre .1)
 
-pub less-spec : {M : Type 1} → statement M
-less-spec = tie.close (tie.spec cast-result cast-result-2 sub-result returns)
+pub minus-spec : {M : Type 1} → statement M
+minus-spec = tie.close (tie.spec cast-result cast-result-2 sub-result returns)

@@ -4,10 +4,9 @@ use Prim.Native.Nat.{ℕ}
 use mathlib.Core.Path.{_≡_, refl, sym, ap, _∙_}
 use mathlib.Core.Bool.{Bool, true, false, true≢false}
 use mathlib.Core.List.{List}
 use Rattle.byte_string.specs.declared.Comparison.{Comparison}
-use Rattle.byte_string.specs.Order.{comparison, saysEqual}
+use Rattle.byte_string.specs.Order.{comparison, saysEqual, same}
 use Rattle.byte_string.proofs.ComparisonLaws.{compared-equal, compared-same}
-use Rattle.differences.specs.Differences.{same}
 
 pub same-refl : (x : List ℕ) → same x x ≡ true
 unfolding same

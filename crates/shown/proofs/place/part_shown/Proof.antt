@@ -1,10 +1,9 @@
-use lib.ListN.{length, length-set}
 use native.Mathlib.Omega.{arith}
 use mathlib.Core.Path.{sym, _∙_}
 use borrow.Author.Needs.{needs}
 use Rattle.shown.proofs.ShownLaws.{names-first, names-second, names-none, place-if}
-use Rattle.shown.proofs.place.place_of.Statement.{statement}
-use Rattle.shown.proofs.place.place_of.Tie as tie
+use Rattle.shown.proofs.place.part_shown.Statement.{statement}
+use Rattle.shown.proofs.place.part_shown.Tie as tie
 
 is-within-requires : tie.Need-is-within-requires
 is-within-requires c κs = search needs
@@ -38,8 +37,8 @@ returns-3 c =
       c .before .match .rest,
     )))) (c .part-if3 .ensures)
 
-pub place-of-spec : {M : Type 1} → statement M
-place-of-spec =
+pub part-shown-spec : {M : Type 1} → statement M
+part-shown-spec =
     tie.close
     (tie.spec
     is-within-requires
