@@ -20,6 +20,8 @@ pub enum Kind {
     Apart,
     /// One record, of which the second backup has one copy less.
     Repeated,
+    /// In every record, and each of the second comes after all of the first; a quarter as many records, one to a block.
+    Behind,
 }
 
 /// A record, and its copies in both backups.
@@ -27,12 +29,13 @@ pub type Difference<'a> = (&'a [u8], [u64; 2]);
 
 impl Kind {
     /// All of them, that which is measured as a process too first.
-    pub const ALL: [Kind; 5] = [
+    pub const ALL: [Kind; 6] = [
         Kind::Later,
         Kind::Equal,
         Kind::Reshaped,
         Kind::Apart,
         Kind::Repeated,
+        Kind::Behind,
     ];
 
     /// The kind in a few words.
@@ -43,6 +46,7 @@ impl Kind {
             Kind::Reshaped => "equal records, blocks of 4 KiB in the second",
             Kind::Apart => "no record in both",
             Kind::Repeated => "one record over and over, once less in the second",
+            Kind::Behind => "a quarter as many records, one to a block, all of the second after the first",
         }
     }
 
@@ -53,9 +57,14 @@ impl Kind {
             Kind::Equal | Kind::Reshaped => records.to_vec(),
             Kind::Apart => records.iter().map(|record| change(record)).collect(),
             Kind::Repeated => vec![records[0].clone(); records.len() - 1],
+            Kind::Behind => records[..records.len() / 4]
+                .iter()
+                .map(|record| behind(record))
+                .collect(),
         };
         match self {
             Kind::Repeated => [vec![records[0].clone(); records.len()], second],
+            Kind::Behind => [records[..records.len() / 4].to_vec(), second],
             _ => [records.to_vec(), second],
         }
     }
@@ -70,8 +79,13 @@ impl Kind {
             per_block: 64,
             per_index: 16,
         };
+        let least = Counts {
+            per_block: 1,
+            per_index: 2,
+        };
         match self {
             Kind::Reshaped => [large, small],
+            Kind::Behind => [least; 2],
             _ => [large; 2],
         }
     }
@@ -90,6 +104,11 @@ fn later((number, record): (usize, &Vec<u8>)) -> Vec<Vec<u8>> {
 /// A record that wasn't there before. It stands right after the old one, since none of them begins with another.
 fn change(record: &[u8]) -> Vec<u8> {
     [record, &b" b"[..]].concat()
+}
+
+/// A record that comes after all others.
+fn behind(record: &[u8]) -> Vec<u8> {
+    [&b"\xff"[..], record].concat()
 }
 
 /// What differs between two lists of records, by sorting both together.

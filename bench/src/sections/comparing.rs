@@ -135,7 +135,7 @@ fn add_goals(all: &[Times], report: &mut Report) {
                 times.kind.name()
             ),
             times.against_checks,
-            Goal::AtMost(1.25),
+            Goal::AtMost(1.5),
         );
     }
     report.add_goal(

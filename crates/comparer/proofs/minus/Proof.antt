@@ -1,3 +1,5 @@
+-- `minus` meets its contract.
+-- Assumes nothing.
 use borrow.Author.Needs.{needs}
 use Rattle.comparer.proofs.SignedLaws.{difference-fits, difference-read}
 use Rattle.comparer.proofs.minus.Statement.{statement}

@@ -1,3 +1,5 @@
+-- `cursor_at` meets its contract: no payload is begun.
+-- Assumes nothing.
 use Rattle.cursor.proofs.CursorLaws.{follow-start}
 use Rattle.cursor.proofs.cursor_at.Statement.{statement}
 use Rattle.cursor.proofs.cursor_at.Tie as tie

@@ -1,3 +1,5 @@
+-- `record_at` meets its contract. The loop's invariant: what follows is what followed at first. The measure is what is left of the file's blocks.
+-- Assumes nothing.
 use lib.ListN.{length, take}
 use lib.Seq.{length-take-le}
 use native.Mathlib.Omega.{arith}

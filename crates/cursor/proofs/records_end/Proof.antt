@@ -1,3 +1,5 @@
+-- `records_end` meets its contract.
+-- Assumes nothing.
 use Rattle.block.proofs.BlockLaws.{data-level, not-data-level}
 use Rattle.cursor.proofs.records_end.Statement.{statement}
 use Rattle.cursor.proofs.records_end.Tie as tie

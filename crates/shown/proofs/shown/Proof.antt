@@ -1,3 +1,5 @@
+-- `shown` meets its contract: the part lies within its file, and is lent.
+-- Assumes nothing.
 use lib.ListN.{length}
 use native.Mathlib.Omega.{arith}
 use mathlib.Core.Path.{sym, ap}

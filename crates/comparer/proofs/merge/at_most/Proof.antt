@@ -1,3 +1,5 @@
+-- `at_most` meets its contract.
+-- Assumes nothing.
 use lib.ListN.{length}
 use mathlib.Core.Path.{ap₂, _∙_}
 use denote.Ref.{now}

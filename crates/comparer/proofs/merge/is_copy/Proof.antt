@@ -1,3 +1,5 @@
+-- `is_copy` meets its contract.
+-- Assumes nothing.
 use lib.ListN.{length}
 use mathlib.Core.Path.{ap, _∙_}
 use denote.Ref.{now}

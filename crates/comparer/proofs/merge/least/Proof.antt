@@ -1,3 +1,5 @@
+-- `least` meets its contract: one law for each answer.
+-- Assumes nothing.
 use mathlib.Core.Path.{sym, ap, _∙_}
 use denote.Ref.{now}
 use borrow.Author.Needs.{needs}

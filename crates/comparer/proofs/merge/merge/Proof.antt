@@ -1,3 +1,5 @@
+-- `merge` meets its contract. The loop's invariant is `Merging`; the records that follow both cursors get fewer.
+-- Assumes nothing.
 use lib.ListN.{length}
 use native.Mathlib.Omega.{arith}
 use mathlib.Core.Path.{sym, ap, _∙_}

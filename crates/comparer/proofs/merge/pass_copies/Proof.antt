@@ -1,3 +1,5 @@
+-- `pass_copies` meets its contract. The loop's invariant is `Passed`; the records that follow get fewer.
+-- Assumes nothing.
 use lib.ListN.{length, length-set}
 use native.Mathlib.Omega.{arith}
 use mathlib.Core.Path.{sym, ap, _∙_}

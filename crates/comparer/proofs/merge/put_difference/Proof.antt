@@ -1,3 +1,5 @@
+-- `put_difference` meets its contract: five numbers are put, one after the other.
+-- Assumes nothing.
 use lib.ListN.{length}
 use Prim.Native.Nat.{_*_}
 use denote.Ref.{now}

@@ -1,3 +1,5 @@
+-- `part_if` meets its contract.
+-- Assumes nothing.
 use Rattle.shown.proofs.place.part_if.Statement.{statement}
 use Rattle.shown.proofs.place.part_if.Tie as tie
 

@@ -1,3 +1,5 @@
+-- `part_shown` meets its contract: one law for each file, and for any other number.
+-- Assumes nothing.
 use native.Mathlib.Omega.{arith}
 use mathlib.Core.Path.{sym, _∙_}
 use borrow.Author.Needs.{needs}
