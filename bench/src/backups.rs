@@ -46,7 +46,9 @@ impl Kind {
             Kind::Reshaped => "equal records, blocks of 4 KiB in the second",
             Kind::Apart => "no record in both",
             Kind::Repeated => "one record over and over, once less in the second",
-            Kind::Behind => "a quarter as many records, one to a block, all of the second after the first",
+            Kind::Behind => {
+                "a quarter as many records, one to a block, all of the second after the first"
+            }
         }
     }
 
