@@ -36,12 +36,12 @@ module _ (first second : List Text) where
   unfolding differing
   differing-strict =
       let all = sorted (strings first ++ strings second) in
-      strict-keep (λ (x : List ℕ). not (eqb (copies first x) (copies second x))) (once all) (once-strict all (rising-sorted (strings first ++ strings second)))
+      strict-keep _ (once all) (once-strict all (rising-sorted (strings first ++ strings second)))
 
   pub differing-member : (x : List ℕ) → List·Memᴰ x (differing first second) → copies first x ≡ copies second x → ⊥
   unfolding differing
   differing-member x m =
-      let held = keep-member (λ (y : List ℕ). not (eqb (copies first y) (copies second y))) (once (sorted (strings first ++ strings second))) x m in
+      let held = keep-member _ (once (sorted (strings first ++ strings second))) x m in
       eqb-false (copies first x) (copies second x) (not-true (eqb (copies first x) (copies second x)) (held .1))
 
   -- a string with different numbers of copies is stored in one of the two
