@@ -20,7 +20,7 @@ pub enum Kind {
     Apart,
     /// One record, of which the second backup has one copy less.
     Repeated,
-    /// In every record, and each of the second comes after all of the first; a quarter as many records, one to a block.
+    /// In every record, and each of the second comes after all of the first; a quarter as many records, eight to a block, two entries to an index block.
     Behind,
 }
 
@@ -47,7 +47,7 @@ impl Kind {
             Kind::Apart => "no record in both",
             Kind::Repeated => "one record over and over, once less in the second",
             Kind::Behind => {
-                "a quarter as many records, one to a block, all of the second after the first"
+                "a quarter as many records, eight to a block, all of the second after the first"
             }
         }
     }
@@ -82,7 +82,7 @@ impl Kind {
             per_index: 16,
         };
         let least = Counts {
-            per_block: 1,
+            per_block: 8,
             per_index: 2,
         };
         match self {
