@@ -54,7 +54,7 @@ fn hash_right(file: &[u8], from: usize) -> bool
 }
 
 // The state after all blocks from an offset on, up to the first place where no frame can be read.
-fn hashed(file: &[u8], from: usize) -> State
+pub fn hashed(file: &[u8], from: usize) -> State
     ensures { λ r. ⌜ Holds (payloads (now (file .entry)) (laidFrom (now (file .entry)) from)) r ⌝ }
 {
     let mut state = sha256::begin();

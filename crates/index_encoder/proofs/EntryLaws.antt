@@ -14,7 +14,8 @@ use Rattle.outcome.specs.Outcome.{refused}
 use Rattle.uleb128.specs.Encoding.{encoding}
 use Rattle.uleb128.proofs.EncodingLaws.{encoding-length}
 use Rattle.output_bytes.specs.OutputBytes.{stored, storedLength, copied}
-use Rattle.output_bytes.proofs.OutputBytesLaws.{length-stored, take-stored, copied-some}
+use Rattle.output_bytes.proofs.OutputBytesLaws.{length-stored, take-stored, stored-after, stored-whole}
+use Rattle.output_bytes.proofs.CopyLaws.{copied-some}
 use Rattle.layout.specs.Blocks.{textBytes}
 use Rattle.layout.specs.Index.{IndexEntry, entryBytes}
 use Rattle.layout.proofs.ReadBackLaws.{length-text, length-entry}
@@ -23,7 +24,7 @@ use Rattle.index_encoder.specs.declared.child.ChildOutcome.{ChildOutcome
 use Rattle.index_encoder.specs.declared.child.ChildOutcome.the-variants.{Answer as AChild, Refused as NoChild}
 use Rattle.index_encoder.specs.Children.{bytesOf, Within, entryIn, childAt, childrenFrom, childSaid, ChildWithin}
 use Rattle.index_encoder.specs.Level.{Measured, entriesFor}
-use Rattle.index_encoder.proofs.StoredLaws.{flatMap-snoc, stored-nil, stored-whole, stored-after}
+use Rattle.index_encoder.proofs.StoredLaws.{flatMap-snoc, stored-nil}
 use Rattle.index_encoder.proofs.ChildLaws.{children-refused, children-more}
 
 -- ---- the length of an entry

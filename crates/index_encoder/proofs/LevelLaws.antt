@@ -15,7 +15,7 @@ use Rattle.endian.specs.FixedWidth.{littleBytes}
 use Rattle.uleb128.specs.Encoding.{encoding}
 use Rattle.crc64.specs.Crc64.{crc64}
 use Rattle.output_bytes.specs.OutputBytes.{stored, storedLength}
-use Rattle.output_bytes.proofs.OutputBytesLaws.{length-stored, take-stored, storedLength-some, storedLength-none}
+use Rattle.output_bytes.proofs.OutputBytesLaws.{length-stored, take-stored, stored-after, part-stored, storedLength-some, storedLength-none}
 use Rattle.layout.specs.Blocks.{blockSize}
 use Rattle.layout.specs.Index.{IndexEntry, entryBytes, IndexBlock, indexBytes, levelFrom}
 use Rattle.layout.proofs.BlockBackLaws.{index-some}
@@ -25,7 +25,7 @@ use Rattle.index_encoder.specs.declared.level.LevelOutcome.the-variants.
 use Rattle.index_encoder.specs.declared.child.Position.{Position}
 use Rattle.index_encoder.specs.Children.{Within, childrenFrom, startAt}
 use Rattle.index_encoder.specs.Level.{Measured, entriesFor, blockFor, levelFor, LevelPut}
-use Rattle.index_encoder.proofs.StoredLaws.{flatMap-snoc, take-counted, stored-nil, stored-after, part-stored}
+use Rattle.index_encoder.proofs.StoredLaws.{flatMap-snoc, take-counted, stored-nil}
 
 -- ---- one index block
 

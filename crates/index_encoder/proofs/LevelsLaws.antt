@@ -15,7 +15,7 @@ use Rattle.lists.specs.Groups.{groups, lastOr}
 use Rattle.lists.proofs.ListsLaws.{flatMap-append}
 use Rattle.lists.proofs.GroupsLaws.{groups-nil, groups-some, groups-half}
 use Rattle.output_bytes.specs.OutputBytes.{stored}
-use Rattle.output_bytes.proofs.OutputBytesLaws.{stored-some, length-stored, take-stored}
+use Rattle.output_bytes.proofs.OutputBytesLaws.{stored-some, length-stored, take-stored, stored-after}
 use Rattle.block.specs.Block.{isData}
 use Rattle.layout.specs.Index.{IndexEntry, IndexBlock, indexBytes, entryFor, levelFrom, levelsFrom, indexOver, rootOf}
 use Rattle.layout.proofs.LiesLaws.{lies-last}
@@ -26,7 +26,7 @@ use Rattle.index_encoder.specs.declared.level.LevelOutcome.the-variants.
 use Rattle.index_encoder.specs.Children.{childrenFrom, startAt}
 use Rattle.index_encoder.specs.Level.{levelFor, LevelPut}
 use Rattle.index_encoder.specs.Raise.{indexFor, raisedFrom, LevelsPut}
-use Rattle.index_encoder.proofs.StoredLaws.{stored-nil, stored-after}
+use Rattle.index_encoder.proofs.StoredLaws.{stored-nil}
 use Rattle.index_encoder.proofs.ChildLaws.{children-few}
 use Rattle.index_encoder.proofs.ChildrenBackLaws.{index-children-back}
 

@@ -7,11 +7,11 @@ use Prim.Native.Nat.{ℕ, zero, suc, _+_, _-_, _≤_, _<_}
 use native.Mathlib.Omega.{arith}
 use lib.Dec.{ltb}
 use lib.ListN.{length, take, drop, take-append-drop}
-use lib.Seq.{take-take, take-at, drop-at, drop-append-le, length-take-le}
+use lib.Seq.{take-take, drop-append-le, length-take-le}
 use borrow.Author.Tests.{ltb-true, ltb-false}
 use Rattle.lists.proofs.ListsLaws.{flatMap-append}
-use Rattle.output_bytes.specs.OutputBytes.{stored, storedLength}
-use Rattle.output_bytes.proofs.OutputBytesLaws.{fits-some, stored-some, stored-none, stored-append}
+use Rattle.output_bytes.specs.OutputBytes.{stored}
+use Rattle.output_bytes.proofs.OutputBytesLaws.{stored-some, stored-none}
 
 -- ---- numbers and lists
 
@@ -41,23 +41,6 @@ stored-nil o at =
   where
     same : at + 0 ≡ at
     same = omega arith
-
--- where a byte string fits, all its bytes are stored
-pub stored-whole : (o : List ℕ) (at : ℕ) (s : List ℕ) → at + length s ≤ length o → {n : ℕ} → n ≡ storedLength o at s → n ≡ length s
-unfolding storedLength
-stored-whole o at s h e = rw (fits-some o at s h) at e
-
--- a byte string stored after another
-pub stored-after : (o : List ℕ) (at : ℕ) (s t : List ℕ) → at + length s + length t ≤ length o → {o1 o2 : List ℕ} {next : ℕ}
-    → o1 ≡ stored o at s → next ≡ at + length s → o2 ≡ stored o1 next t → o2 ≡ stored o at (s ++ t)
-stored-after o at s t h {next = next} e1 n e2 = e2 ∙ ap (λ z. stored z next t) e1 ∙ ap (λ p. stored (stored o at s) p t) n ∙ stored-append o at s t h
-
--- what was stored is read back
-pub part-stored : (o : List ℕ) (at : ℕ) (s : List ℕ) → at + length s ≤ length o → take (length s) (drop at (stored o at s)) ≡ s
-part-stored o at s h =
-    ap (λ l. take (length s) (drop at l)) (stored-some o at s h)
-    ∙ ap (take (length s)) (drop-at (take at o) (s ++ drop (at + length s) o) at (length-take-le at o (omega arith)))
-    ∙ take-at s (drop (at + length s) o) (length s) refl
 
 -- a byte string stored in the front part of an output
 pub stored-room : (o : List ℕ) (at : ℕ) (s : List ℕ) (room : ℕ) → room ≤ length o → at + length s ≤ room

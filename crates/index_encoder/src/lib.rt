@@ -60,7 +60,7 @@ fn raise(output: &mut [u8], from: usize, to: usize, per_index: u64) -> RaiseOutc
 }
 
 // How much of an output a file may fill.
-fn file_room(room: usize) -> usize
+pub fn file_room(room: usize) -> usize
     ensures { λ r. ⌜ (r ≤ room) × (r ≤ 2 ^ 30) × ((end : ℕ) → fileFits room end ≡ leb end r) ⌝ }
 {
     if Header::MAX_FILE < room {

@@ -1,2 +1,3 @@
 -- Laws of lent outputs.
 pub mod OutputBytesLaws
+pub mod CopyLaws

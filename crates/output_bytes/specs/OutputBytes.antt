@@ -19,10 +19,10 @@ stored output at bytes = cond (bytesFit output at bytes) (take at output ++ (byt
 unfoldable pub storedLength : (output : List ℕ) (at : ℕ) (bytes : List ℕ) → ℕ
 storedLength output at bytes = cond (bytesFit output at bytes) (length bytes) 0
 
--- a part of the output lies before `at`, and a copy of it fits there
+-- a part of the output begins at `at` or before it, and a copy of it fits there
 unfoldable pub copies : (output : List ℕ) (from length at : ℕ) → Bool
-copies output from length at = leb (from + length) at && bytesFit output at (part output from length)
+copies output from length at = leb from at && bytesFit output at (part output from length)
 
--- the output with a copy of one of its parts stored from `at` on, where the part lies before it and the copy fits, or as it is
+-- the output with a copy of one of its parts stored from `at` on, where the part doesn't begin after it and the copy fits, or as it is
 unfoldable pub copied : (output : List ℕ) (from length at : ℕ) → List ℕ
 copied output from length at = cond (copies output from length at) (stored output at (part output from length)) output

@@ -34,28 +34,29 @@ pub fn put(output: &mut [u8], at: usize, bytes: &[u8]) -> bool
     true
 }
 
-// Stores a copy of a part of the output from `at` on, where the part lies before it and the copy fits; answers whether it did.
+// Stores a copy of a part of the output from `at` on, where the part doesn't begin after it and the copy fits; answers whether it did. The two
+// may overlap: the last byte goes first. A part that is there already costs nothing.
 pub fn copy(output: &mut [u8], source: Part, at: usize) -> bool
     ensures { λ r. ⌜ (r ≡ copies (now (output .entry)) (source .offset) (source .length) at)
         × (now (output .exit) ≡ copied (now (output .entry)) (source .offset) (source .length) at) ⌝ }
 {
-    if at < source.length {
-        return false;
-    }
-    if at - source.length < source.offset {
+    let from = source.offset;
+    if at < from {
         return false;
     }
     if output.len() < at {
         return false;
     }
+    if at == from {
+        return true;
+    }
     if output.len() - at < source.length {
         return false;
     }
-    let from = source.offset;
-    let mut i = 0;
-    while i < source.length {
-        output[at + i] = output[from + i];
-        i += 1;
+    let mut left = source.length;
+    while 0 < left {
+        left -= 1;
+        output[at + left] = output[from + left];
     }
     true
 }

@@ -99,6 +99,22 @@ pub encoding-length : (k n : ℕ) → n < 128 ^ suc k → length (encoding n) �
 unfolding encoding
 encoding-length k n h = encodingWith-length k 9 n h
 
+-- a larger number takes no fewer bytes
+encodingWith-grows : (more m n : ℕ) → m ≤ n → length (encodingWith more m) ≤ length (encodingWith more n)
+encodingWith-grows zero m n h = rw (one-byte m, one-byte n) (omega arith)
+encodingWith-grows (suc more) m n h = go (ltb m 128) refl (encodingWith-grows more (m / 128) (n / 128) (omega arith))
+  where
+    go : (b : Bool) → ltb m 128 ≡ b → length (encodingWith more (m / 128)) ≤ length (encodingWith more (n / 128))
+        → length (encodingWith (suc more) m) ≤ length (encodingWith (suc more) n)
+    go true e ih = rw (encodingWith-low (suc more) m (ltb-true m 128 e)) (encodingWith-some (suc more) n)
+    go false e ih =
+        let l = ltb-false m 128 e in
+        rw (encodingWith-high more m l, encodingWith-high more n (omega arith)) (omega arith)
+
+pub encoding-grows : (m n : ℕ) → m ≤ n → length (encoding m) ≤ length (encoding n)
+unfolding encoding
+encoding-grows m n h = encodingWith-grows 9 m n h
+
 -- what is written is read back, whatever follows
 pub encoding-reads : (n : ℕ) (t : List ℕ) → n < 2 ^ 63 → reading (encoding n ++ t) ≡ number n (length (encoding n))
 unfolding encoding
