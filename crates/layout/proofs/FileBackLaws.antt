@@ -69,7 +69,7 @@ data-payload file at rs l =
     let held = lies-front file body (0 ∷ payload) _ (body-lies file at 0 payload l) in
     ap (part file (body + 1)) (omega arith) ∙ lies-part file (body + 1) payload (lies-back file body (0 ∷ []) payload held)
 
-data-payloads : (file : List ℕ) (at : ℕ) (blocks : List (List (List ℕ))) → Lies file at (flatMap dataBytes blocks)
+pub data-payloads : (file : List ℕ) (at : ℕ) (blocks : List (List (List ℕ))) → Lies file at (flatMap dataBytes blocks)
     → flatMap (payloadOf file) (placedDatas at blocks) ≡ flatMap recordsBytes blocks
 unfolding flatMap placedDatas
 data-payloads file at [] l = refl

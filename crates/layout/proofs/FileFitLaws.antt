@@ -69,6 +69,20 @@ data-named before at end (rs ∷ more) h ends e m =
 
 -- ---- records that rise in blocks that are not empty, and a file that is not too long
 
+-- the data blocks alone
+pub datas-fit : (from : ℕ) (blocks : List (List (List ℕ))) → Filled blocks → rising (flatMap (λ rs. rs) blocks) ≡ true → AreBytes (flatMap recordsBytes blocks)
+    → from + length (flatMap dataBytes blocks) ≤ 2 ^ 30 → (rs : List (List ℕ)) → List·Memᴰ rs blocks → DataFit rs
+unfolding dataBytes blockSize
+datas-fit from blocks filled sorted bytes short rs m =
+    let inside = flatMap-length dataBytes blocks rs m in
+    let long = length-block 0 (recordsBytes rs) in
+    record {
+      some = filled rs m;
+      sorted = rising-group blocks sorted rs m;
+      short = omega arith;
+      bytes = member-bytes recordsBytes blocks bytes rs m;
+    }
+
 module _ (perIndex from : ℕ) (blocks : List (List (List ℕ))) (two : 2 ≤ perIndex) (filled : Filled blocks) (sorted : rising (flatMap (λ rs. rs) blocks) ≡ true)
     (bytes : AreBytes (flatMap recordsBytes blocks)) (short : from + length (blocksPart perIndex from blocks) ≤ 2 ^ 30) where
   length-parts : length (blocksPart perIndex from blocks) ≡ length (flatMap dataBytes blocks) + length (flatMap indexBytes (indexBlocks perIndex from blocks))
@@ -76,17 +90,7 @@ module _ (perIndex from : ℕ) (blocks : List (List (List ℕ))) (two : 2 ≤ pe
   length-parts = length-append (flatMap dataBytes blocks) (flatMap indexBytes (indexBlocks perIndex from blocks))
 
   pub data-fit : (rs : List (List ℕ)) → List·Memᴰ rs blocks → DataFit rs
-  unfolding dataBytes blockSize
-  data-fit rs m =
-      let inside = flatMap-length dataBytes blocks rs m in
-      let long = length-block 0 (recordsBytes rs) in
-      let all = length-parts in
-      record {
-        some = filled rs m;
-        sorted = rising-group blocks sorted rs m;
-        short = omega arith;
-        bytes = member-bytes recordsBytes blocks bytes rs m;
-      }
+  data-fit = let all = length-parts in datas-fit from blocks filled sorted bytes (omega arith)
 
   pub data-entries-fit : EntriesFit (2 ^ 30) (dataEntries none from blocks)
   data-entries-fit =

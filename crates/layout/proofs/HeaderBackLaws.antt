@@ -6,7 +6,7 @@ use mathlib.Core.List.{List, [], _++_}
 use Prim.Native.Nat.{ℕ, _+_, _^_, _≤_, _<_}
 use native.Mathlib.Nat.{mod-eq-of-lt}
 use native.Mathlib.Omega.{arith}
-use lib.ListN.{length, length-append}
+use lib.ListN.{length, replicate, length-append}
 use borrow.Author.Tests.{eq-eqb}
 use Rattle.byte_string.specs.Order.{AreBytes, begins}
 use Rattle.byte_string.proofs.BytesLaws.{bytes-append}
@@ -21,13 +21,13 @@ use Rattle.header.specs.Header.{magic, unfinishedMagic, codecNone, fieldAt, H, 
 use Rattle.header.specs.Metadata.{isMetadata}
 use Rattle.header.proofs.MetadataLaws.{isMetadata⇒Metadata}
 use Rattle.header.proofs.HeaderLaws.{header-is}
-use Rattle.layout.specs.File.{headerData, headerBytes, blocksStart}
+use Rattle.layout.specs.File.{headerData, headerBytes, unfinishedHeader, blocksStart}
 use Rattle.layout.proofs.LiesLaws.{Lies, lies, lies-within, lies-drop, lies-part, lies-front, lies-back}
 
 -- ---- the parts one after the other
 
 -- what comes after a part of this length
-lies-next : (s : List ℕ) (at : ℕ) (a b : List ℕ) (n : ℕ) → length a ≡ n → Lies s at (a ++ b) → Lies s (at + n) b
+pub lies-next : (s : List ℕ) (at : ℕ) (a b : List ℕ) (n : ℕ) → length a ≡ n → Lies s at (a ++ b) → Lies s (at + n) b
 lies-next s at a b n e l = subst (λ (k : ℕ). Lies s (at + k) b) e (lies-back s at a b l)
 
 pub field-back : (file : List ℕ) (at n : ℕ) → n < 2 ^ 64 → Lies file at (littleBytes 8 n) → fieldAt file at ≡ n
@@ -78,6 +78,18 @@ module _ (metadata : List ℕ) (root rootsize total : ℕ) (hash : List ℕ) (lo
       (bytes-append hash _ h
       (bytes-append codecNone _ codec-bytes
       (bytes-append (littleBytes 8 (length metadata)) metadata (littleBytes-bytes 8 (length metadata)) m)))))
+
+-- the header of an unfinished file is as long as that of the finished one
+pub length-unfinished : (metadata : List ℕ) → length (unfinishedHeader metadata) ≡ blocksStart metadata
+unfolding unfinishedHeader blocksStart unfinishedMagic
+length-unfinished metadata =
+    let held = headerData metadata 0 0 0 (replicate 32 0) in
+    rw (
+      length-append (littleBytes 8 (length held)),
+      littleBytes-length 8 (length held),
+      length-append held,
+      length-headerData metadata 0 0 0 (replicate 32 0) refl,
+    ) (omega arith)
 
 -- ---- the header
 

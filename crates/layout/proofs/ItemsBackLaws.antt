@@ -7,8 +7,8 @@ use native.Mathlib.Omega.{arith}
 use lib.ListN.{length, length-append}
 use Rattle.outcome.specs.Outcome.{Outcome, answer}
 use Rattle.outcome.proofs.OutcomeLaws.{bind-answer}
-use Rattle.items.specs.Items.{Step, itemsFrom}
-use Rattle.items.proofs.ItemsLaws.{items-end, items-step}
+use Rattle.items.specs.Items.{Step, itemsFrom, soundFrom}
+use Rattle.items.proofs.ItemsLaws.{items-end, items-step, sound-step}
 use Rattle.layout.proofs.LiesLaws.{Lies, lies-front, lies-back}
 
 -- things with their bytes, and each as it is found at an offset
@@ -52,3 +52,25 @@ module _ {A B : Type 0} (bytes : B → List ℕ) (found : ℕ → B → A) where
     items-back end bs back at fuel l h enough =
         items-back-then end [] bs back at fuel l (omega arith) enough (λ more k. items-end step end more (at + length (flatMap bytes bs)) (omega arith))
         ∙ ap answer (append-nil (placedBy at bs))
+
+    -- these, and then those in front of the first refusal
+    pub sound-back-then : (end : ℕ) (rest : List A) (bs : List B) → FoundBack bs → (at fuel : ℕ)
+        → Lies s at (flatMap bytes bs) → at + length (flatMap bytes bs) ≤ end
+        → end - at ≤ fuel
+        → ((more : ℕ) → end - (at + length (flatMap bytes bs)) ≤ more → soundFrom step end more (at + length (flatMap bytes bs)) ≡ rest)
+        → soundFrom step end fuel at ≡ placedBy at bs ++ rest
+    unfolding flatMap placedBy
+    sound-back-then end rest [] back at fuel l h enough after =
+        subst (λ (n : ℕ). soundFrom step end fuel n ≡ rest) (omega arith) (after fuel (omega arith))
+    sound-back-then end rest (b ∷ bs) back at zero l h enough after =
+        absurd (let long = length-append (bytes b) (flatMap bytes bs) in let positive = some b in omega arith)
+    sound-back-then end rest (b ∷ bs) back at (suc fuel) l h enough after =
+        let long = length-append (bytes b) (flatMap bytes bs) in
+        let positive = some b in
+        let next = at + length (bytes b) in
+        let all : at + length (bytes b ++ flatMap bytes bs) ≡ next + length (flatMap bytes bs) = omega arith in
+        sound-step step end fuel at (record { item = found at b; next = next }) (omega arith)
+        (back b (List·Memᴰ·head refl) at (lies-front s at (bytes b) (flatMap bytes bs) l))
+        ∙ ap (λ (xs : List A). found at b ∷ xs)
+        (sound-back-then end rest bs (λ c m. back c (List·Memᴰ·tail m)) next fuel (lies-back s at (bytes b) (flatMap bytes bs) l) (omega arith) (omega arith)
+        (subst (λ (n : ℕ). (more : ℕ) → end - n ≤ more → soundFrom step end more n ≡ rest) all after))

@@ -15,3 +15,5 @@ pub mod IndexFitLaws
 pub mod LaidBytesLaws
 pub mod FileFitLaws
 pub mod FileBackLaws
+pub mod LaidBackLaws
+pub mod OpeningLaws

@@ -14,11 +14,11 @@ use Rattle.outcome.proofs.OutcomeLaws.{kept, bind-answer}
 use Rattle.items.specs.Items.{Step, itemsFrom}
 use Rattle.uleb128.proofs.EncodingLaws.{encoding-some}
 use Rattle.payload.specs.Payload.{Text, Entry, textAt, entryAt, rising, payloadAt, recordsAt, entriesAt}
-use Rattle.layout.specs.Blocks.{textBytes, recordsBytes}
+use Rattle.layout.specs.Blocks.{textBytes, blockSize, recordsBytes, dataBytes}
 use Rattle.layout.specs.Index.{IndexEntry, entryBytes}
 use Rattle.layout.specs.Placed.{placedText, placedRecords, placedEntries}
 use Rattle.layout.proofs.LiesLaws.{Lies}
-use Rattle.layout.proofs.ReadBackLaws.{length-text, length-entry, text-some, entry-some, text-back, entry-back}
+use Rattle.layout.proofs.ReadBackLaws.{length-text, length-entry, length-block, text-some, entry-some, text-back, entry-back}
 use Rattle.layout.proofs.ItemsBackLaws.{placedBy, items-back}
 
 -- ---- what is joined is at least as long as each part
@@ -35,6 +35,18 @@ flatMap-length {A} f (y ∷ xs) x m = go (List·Memᴰ·cases-cons m) (λ (i : L
 pub record-length : (rs : List (List ℕ)) (r : List ℕ) → List·Memᴰ r rs → length r < length (recordsBytes rs)
 unfolding recordsBytes
 record-length rs r m = let joined = flatMap-length textBytes rs r m in let long = length-text r in let some = encoding-some (length r) in omega arith
+
+-- payloads are shorter than their blocks
+pub payloads-shorter : (bs : List (List (List ℕ))) → length (flatMap recordsBytes bs) ≤ length (flatMap dataBytes bs)
+unfolding flatMap dataBytes blockSize
+payloads-shorter [] = omega arith
+payloads-shorter (rs ∷ bs) =
+    let ih = payloads-shorter bs in
+    rw (
+      length-append (recordsBytes rs) (flatMap recordsBytes bs),
+      length-append (dataBytes rs) (flatMap dataBytes bs),
+      length-block 0 (recordsBytes rs),
+    ) (omega arith)
 
 pub key-length : (es : List IndexEntry) (e : IndexEntry) → List·Memᴰ e es → length (e .key) < length (flatMap entryBytes es)
 key-length es e m =

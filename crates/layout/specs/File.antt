@@ -4,13 +4,13 @@ use mathlib.Core.Bool.{Bool, _&&_, cond}
 use mathlib.Core.List.{List, [], _∷_, _++_, flatMap}
 use mathlib.Core.Option.{Option, none, some}
 use lib.Dec.{leb, eqb}
-use lib.ListN.{length, take}
+use lib.ListN.{length, take, replicate}
 use Rattle.lists.specs.Groups.{firstOr, lastOr}
 use Rattle.byte_string.specs.Order.{agreeing}
 use Rattle.endian.specs.FixedWidth.{littleBytes}
 use Rattle.crc64.specs.Crc64.{crc64}
 use Rattle.sha256.specs.Sha256.{sha256}
-use Rattle.header.specs.Header.{magic, codecNone}
+use Rattle.header.specs.Header.{magic, unfinishedMagic, codecNone}
 use Rattle.layout.specs.Blocks.{recordsBytes, dataBytes}
 use Rattle.layout.specs.Index.{IndexEntry, IndexBlock, indexBytes, indexOver, rootOf}
 
@@ -24,6 +24,12 @@ headerData metadata root rootsize total hash =
 -- the magic, the length of the header data, the header data and their CRC
 unfoldable pub headerBytes : List ℕ → List ℕ
 headerBytes headerdata = magic ++ (littleBytes 8 (length headerdata) ++ (headerdata ++ littleBytes 8 (crc64 headerdata)))
+
+-- the header of a file that isn't finished: the unfinished magic, and zeros for the root, the total length, the hash and the CRC
+unfoldable pub unfinishedHeader : (metadata : List ℕ) → List ℕ
+unfinishedHeader metadata =
+    let headerdata = headerData metadata 0 0 0 (replicate 32 0) in
+    unfinishedMagic ++ (littleBytes 8 (length headerdata) ++ (headerdata ++ replicate 8 0))
 
 -- where the blocks begin: 24 + H, where H is 80 and the length of the metadata
 unfoldable pub blocksStart : (metadata : List ℕ) → ℕ
@@ -72,6 +78,10 @@ fileOf metadata blocks perIndex =
     let root = rootEntry perIndex from blocks in
     let hash = sha256 (flatMap recordsBytes blocks) in
     headerBytes (headerData metadata (root .offset) (root .size) (from + length all) hash) ++ all
+
+-- records in a data block, 1 to 65,535, and entries in an index block, 2 to 65,535
+unfoldable pub countsFit : (perBlock perIndex : ℕ) → Bool
+countsFit perBlock perIndex = (leb 1 perBlock && leb perBlock 65535) && (leb 2 perIndex && leb perIndex 65535)
 
 -- a file of this length fits an output of `room` bytes, and the format
 unfoldable pub fileFits : (room long : ℕ) → Bool

@@ -1,4 +1,4 @@
--- The file of an input holds its metadata and its records, and is laid out as claimed.
+-- The file of data blocks holds its metadata and its records; that of an input is laid out as claimed.
 -- Assumes nothing.
 use mathlib.Core.Path.{_≡_, sym, ap, _∙_, subst}
 use mathlib.Core.Logic.{_≢_}
@@ -29,17 +29,30 @@ use Rattle.theorems_layout.proofs.WrittenNames.{blocks-few}
 use Rattle.theorems_layout.proofs.WrittenFile.{fits-writable, file-rules, file-accepted, file-layout}
 use Rattle.theorems_write.specs.WrittenByRules.{CountsFit, InputOf, HoldsRecords}
 
+-- the file of any blocks that can be written, whose payloads and records, joined, are these
+pub blocks-hold : (metadata : List ℕ) (blocks : List (List (List ℕ))) (perIndex : ℕ) → FileFits metadata blocks perIndex → blocks ≢ []
+    → (input : List ℕ) → flatMap recordsBytes blocks ≡ input → (rs : List (List ℕ)) → joined blocks ≡ rs
+    → HoldsRecords metadata input rs (fileOf metadata blocks perIndex) (placedBlocks perIndex (blocksStart metadata) blocks)
+unfolding payloads
+blocks-hold metadata blocks perIndex fits some input form rs same =
+    let file = fileOf metadata blocks perIndex in
+    let from = blocksStart metadata in
+    record {
+      accepted = file-accepted metadata blocks perIndex fits some;
+      rules = file-rules metadata blocks perIndex fits some;
+      metadata-is = ap (part file 96) (sym (is-header file _ (file-header-back metadata blocks perIndex fits) .is-metadata))
+          ∙ file-metadata-back metadata blocks perIndex;
+      records-are = written-records perIndex from blocks ∙ same;
+      payloads-are = file-payloads-back metadata blocks perIndex fits ∙ form;
+      low = λ b m. omega (arith, blocks-few perIndex from blocks (fits-writable metadata blocks perIndex fits some) b m);
+    }
+
+-- the file of an input
 module _ (metadata input : List ℕ) (perBlock perIndex : ℕ) (metadata-bytes : AreBytes metadata) (input-bytes : AreBytes input)
     (counts : CountsFit perBlock perIndex) (rule : Metadata metadata) (rs : List (List ℕ)) (form : InputOf input rs) (sorted : Sorted rs)
     (short : length (fileOf metadata (groups perBlock rs) perIndex) ≤ 2 ^ 30) where
   abbrev blocks : List (List (List ℕ))
   blocks = groups perBlock rs
-
-  abbrev file : List ℕ
-  file = fileOf metadata blocks perIndex
-
-  abbrev from : ℕ
-  from = blocksStart metadata
 
   one : 1 ≤ perBlock
   unfolding CountsFit
@@ -73,17 +86,7 @@ module _ (metadata input : List ℕ) (perBlock perIndex : ℕ) (metadata-bytes :
 
   pub file-holds : HoldsRecords metadata input rs (fileOf metadata (groups perBlock rs) perIndex)
       (placedBlocks perIndex (blocksStart metadata) (groups perBlock rs))
-  unfolding payloads
-  file-holds =
-      record {
-        accepted = file-accepted metadata blocks perIndex fits some;
-        rules = file-rules metadata blocks perIndex fits some;
-        metadata-is = ap (part file 96) (sym (is-header file _ (file-header-back metadata blocks perIndex fits) .is-metadata))
-            ∙ file-metadata-back metadata blocks perIndex;
-        records-are = written-records perIndex from blocks ∙ joined-groups perBlock one rs;
-        payloads-are = file-payloads-back metadata blocks perIndex fits ∙ joined-input;
-        low = λ b m. omega (arith, blocks-few perIndex from blocks (fits-writable metadata blocks perIndex fits some) b m);
-      }
+  file-holds = blocks-hold metadata blocks perIndex fits some input joined-input rs (joined-groups perBlock one rs)
 
   -- and is laid out as claimed
   pub file-laid : WrittenLayout perBlock perIndex (fileOf metadata (groups perBlock rs) perIndex)

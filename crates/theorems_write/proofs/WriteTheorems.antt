@@ -19,11 +19,11 @@ use Rattle.byte_string.specs.Order.{AreBytes}
 use Rattle.header.specs.Metadata.{Metadata, isMetadata}
 use Rattle.header.proofs.MetadataLaws.{isMetadata⇒Metadata, Metadata⇒isMetadata}
 use Rattle.block.specs.Block.{Block}
-use Rattle.layout.specs.File.{blocksStart, fileOf, fileFits}
+use Rattle.layout.specs.File.{blocksStart, fileOf, countsFit, fileFits}
 use Rattle.layout.specs.Placed.{placedBlocks}
 use Rattle.written.specs.declared.Written.{Written}
 use Rattle.written.specs.Written.{writtenAnswer, writtenOutput}
-use Rattle.writer.specs.Write.{countsFit, inputOf, recordsToWrite, writeOf}
+use Rattle.writer.specs.Write.{inputOf, recordsToWrite, writeOf}
 use Rattle.writer.proofs.InputRuleLaws.{refused-at-30, refused-at-9, to-input}
 use Rattle.theorems_check.specs.Rules.{Sorted}
 use Rattle.theorems_layout.specs.WrittenLayout.{WrittenLayout}

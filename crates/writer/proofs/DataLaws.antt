@@ -1,7 +1,7 @@
 -- Laws of putting the data blocks: each takes the next records of the input.
 -- Assumes nothing.
 use mathlib.Core.Path.{_≡_, refl, sym, ap, _∙_, subst}
-use mathlib.Core.Bool.{Bool, true, false, _&&_, cond}
+use mathlib.Core.Bool.{Bool, true, false, cond}
 use mathlib.Core.List.{List, [], _∷_, _++_, flatMap, map, append-assoc, append-nil}
 use Prim.Native.Nat.{ℕ, zero, suc, _+_, _-_, _^_, _≤_, _<_}
 use native.Mathlib.Nat.{sub-self, sub-zero, add-zero}
@@ -9,7 +9,6 @@ use native.Mathlib.Omega.{arith}
 use lib.Dec.{leb}
 use lib.ListN.{length, take, drop, length-append, length-take, length-drop, drop-of-length-le, take-append-drop}
 use lib.Seq.{take-all}
-use borrow.Author.Tests.{le-leb, lt-leb}
 use Rattle.byte_string.specs.Order.{AreBytes}
 use Rattle.outcome.specs.Outcome.{answer, refused}
 use Rattle.outcome.proofs.OutcomeLaws.{refused-not-answer}
@@ -23,11 +22,12 @@ use Rattle.payload.specs.Payload.{Text, textAt}
 use Rattle.output_bytes.specs.OutputBytes.{bytesFit, stored, storedLength}
 use Rattle.output_bytes.proofs.OutputBytesLaws.{stored-append, length-stored, storedLength-some, storedLength-none}
 use Rattle.layout.specs.Blocks.{textBytes, recordsBytes, dataBytes, blockBytes}
-use Rattle.layout.specs.File.{fileFits}
 use Rattle.layout.proofs.ReadBackLaws.{text-some}
 use Rattle.layout.proofs.BlockBackLaws.{data-some}
 use Rattle.layout.proofs.InputLaws.{Taken, taken-none, taken-more}
-use Rattle.writer.specs.Steps.{endIfFits, DataPut}
+use Rattle.file_encoder.specs.Begun.{endIfFits}
+use Rattle.file_encoder.proofs.FitLaws.{not-fitting, too-long, fitting}
+use Rattle.writer.specs.Steps.{DataPut}
 
 -- ---- the end of the next records
 
@@ -141,23 +141,6 @@ pub record NextBlock (old : List ℕ) (from : ℕ) (s : List ℕ) (per : ℕ) (x
       → DataPutting old from s per xs then end after
   pub full : length old < next + length (dataBytes records) → 0 ≡ endIfFits (length old) from (flatMap dataBytes (groups per (bytesOf xs)))
   pub long : 2 ^ 30 < next + length (dataBytes records) → 0 ≡ endIfFits (length old) from (flatMap dataBytes (groups per (bytesOf xs)))
-
--- what doesn't fit
-pub not-fitting : (room from : ℕ) (bytes : List ℕ) → room < from + length bytes → 0 ≡ endIfFits room from bytes
-unfolding endIfFits fileFits
-not-fitting room from bytes h = rw (lt-leb (from + length bytes) room h)
-
-pub too-long : (room from : ℕ) (bytes : List ℕ) → 2 ^ 30 < from + length bytes → 0 ≡ endIfFits room from bytes
-unfolding endIfFits fileFits
-too-long room from bytes h = rw (lt-leb (from + length bytes) (2 ^ 30) h) (go (leb (from + length bytes) room))
-  where
-    go : (b : Bool) → 0 ≡ cond (b && false) (from + length bytes) 0
-    go true = refl
-    go false = refl
-
-pub fitting : (room from : ℕ) (bytes : List ℕ) → from + length bytes ≤ room → from + length bytes ≤ 2 ^ 30 → from + length bytes ≡ endIfFits room from bytes
-unfolding endIfFits fileFits
-fitting room from bytes h k = rw (le-leb (from + length bytes) room h, le-leb (from + length bytes) (2 ^ 30) k)
 
 module _ (old : List ℕ) (from : ℕ) (s : List ℕ) (per : ℕ) (xs : List Text) (output : List ℕ) (at next end : ℕ) where
   pub next-block : 1 ≤ per → at < length s → DataPutting old from s per xs output at next

@@ -3,34 +3,16 @@
 use mathlib.Core.Path.{_≡_, sym, ap, _∙_}
 use mathlib.Core.Bool.{true, false}
 use mathlib.Core.List.{List, map}
-use Prim.Native.Nat.{ℕ, _≤_, _<_}
-use lib.Dec.{leb}
+use Prim.Native.Nat.{ℕ}
 use lib.ListN.{length}
-use borrow.Author.Tests.{le-leb, lt-leb, ne-eqb, eq-eqb}
+use borrow.Author.Tests.{ne-eqb, eq-eqb}
 use Rattle.outcome.specs.Outcome.{answer, refused, _>>=_, numberOf}
 use Rattle.outcome.proofs.OutcomeLaws.{kept, broken, bind⁻¹, map-refused⁻¹}
 use Rattle.header.specs.Metadata.{isMetadata}
 use Rattle.payload.specs.Payload.{Text, recordsAt}
 use Rattle.payload.specs.Answers.{counted}
-use Rattle.writer.specs.Write.{countsFit, inputRefusal, refusedAs, inputOf, recordsToWrite}
-
--- ---- the counts
-
-pub counts-block-low : (b i : ℕ) → b < 1 → false ≡ countsFit b i
-unfolding countsFit
-counts-block-low b i h = rw (lt-leb 1 b h)
-
-pub counts-block-high : (b i : ℕ) → 1 ≤ b → 65535 < b → false ≡ countsFit b i
-unfolding countsFit
-counts-block-high b i h k = rw (le-leb 1 b h, lt-leb b 65535 k)
-
-pub counts-index-low : (b i : ℕ) → 1 ≤ b → b ≤ 65535 → i < 2 → false ≡ countsFit b i
-unfolding countsFit
-counts-index-low b i h k l = rw (le-leb 1 b h, le-leb b 65535 k, lt-leb 2 i l)
-
-pub counts-asked : (b i : ℕ) → 1 ≤ b → b ≤ 65535 → 2 ≤ i → leb i 65535 ≡ countsFit b i
-unfolding countsFit
-counts-asked b i h k l = rw (le-leb 1 b h, le-leb b 65535 k, le-leb 2 i l)
+use Rattle.layout.specs.File.{countsFit}
+use Rattle.writer.specs.Write.{inputRefusal, refusedAs, inputOf, recordsToWrite}
 
 -- ---- the records of the input
 

@@ -2,7 +2,5 @@
 pub mod InputRuleLaws
 pub mod DataLaws
 pub mod ReadyLaws
-pub mod FileLaws
 pub mod WriteLaws
-pub mod IndexLaws
 pub mod PutFileLaws

@@ -1,13 +1,11 @@
 -- What is known of an input that isn't refused.
 -- Assumes nothing.
-use mathlib.Core.Path.{_≡_, refl, sym, ap, _∙_}
-use mathlib.Core.Bool.{Bool, true, false, _&&_, false≢true}
+use mathlib.Core.Path.{_≡_, sym, ap, _∙_}
+use mathlib.Core.Bool.{true}
 use mathlib.Core.List.{List, flatMap}
 use Prim.Native.Nat.{ℕ, _-_, _≤_, _<_}
 use native.Mathlib.Omega.{arith}
-use lib.Dec.{leb}
 use lib.ListN.{length}
-use borrow.Author.Tests.{leb-true}
 use Rattle.byte_string.specs.Order.{AreBytes}
 use Rattle.outcome.specs.Outcome.{Outcome, answer, refused}
 use Rattle.outcome.proofs.OutcomeLaws.{kept⁻¹, bind⁻¹, answer-injective, refused-not-answer}
@@ -18,20 +16,12 @@ use Rattle.header.specs.Metadata.{isMetadata}
 use Rattle.payload.specs.Payload.{Text, textAt, recordsAt, rising}
 use Rattle.payload.proofs.ReadLaws.{Filled, payload⁻¹, text-forward}
 use Rattle.layout.specs.Blocks.{recordsBytes}
+use Rattle.layout.specs.File.{countsFit}
 use Rattle.layout.proofs.InputLaws.{row-encoded}
-use Rattle.writer.specs.Write.{countsFit, inputRefusal, refusedAs, inputOf, recordsToWrite}
+use Rattle.file_encoder.proofs.CountsLaws.{counts⁻¹}
+use Rattle.writer.specs.Write.{inputRefusal, refusedAs, inputOf, recordsToWrite}
 use Rattle.writer.specs.Steps.{ValidInput}
 use Rattle.writer.proofs.DataLaws.{bytesOf}
-
-counts⁻¹ : (b i : ℕ) → countsFit b i ≡ true → (1 ≤ b) × (2 ≤ i)
-unfolding countsFit
-counts⁻¹ b i e = go (leb 1 b) (leb b 65535) (leb 2 i) (leb i 65535) refl refl e
-  where
-    go : (p q r s : Bool) → leb 1 b ≡ p → leb 2 i ≡ r → ((p && q) && (r && s)) ≡ true → (1 ≤ b) × (2 ≤ i)
-    go true true true s e f h = (leb-true 1 b e, leb-true 2 i f)
-    go true true false s e f h = absurd (false≢true h)
-    go true false r s e f h = absurd (false≢true h)
-    go false q r s e f h = absurd (false≢true h)
 
 refusedAs⁻¹ : {A : Type 0} (number : ℕ → ℕ) (o : Outcome A) (a : A) → refusedAs number o ≡ answer a → o ≡ answer a
 unfolding refusedAs
@@ -57,7 +47,7 @@ ready metadata input b i rs e =
     let read = bind⁻¹ (refusedAs inputRefusal (recordsAt 0 input 0)) _ rs (rule .1) in
     made (counts⁻¹ b i (counts .0)) (rule .0) (read .0) (refusedAs⁻¹ inputRefusal (recordsAt 0 input 0) (read .0) (read .1)) (sym (answer-injective _ rs (read .2)))
   where
-    made : (1 ≤ b) × (2 ≤ i) → isMetadata metadata ≡ true → (ts : List Text) → recordsAt 0 input 0 ≡ answer ts → rs ≡ bytesOf ts → Ready metadata input b i rs
+    made : (1 ≤ b) × (2 ≤ i) × (b ≤ 65535) → isMetadata metadata ≡ true → (ts : List Text) → recordsAt 0 input 0 ≡ answer ts → rs ≡ bytesOf ts → Ready metadata input b i rs
     made counts rule ts read same =
         let filled = filled-by ts read in
         record {

@@ -13,12 +13,12 @@ use Rattle.outcome.specs.Outcome.{Outcome, answer, refused, _>>=_, numberOf, pl
 use Rattle.outcome.proofs.OutcomeLaws.{kept, broken, bind-answer, bind-refused}
 use Rattle.header.specs.Metadata.{isMetadata}
 use Rattle.payload.specs.Payload.{Text, recordsAt}
-use Rattle.layout.specs.File.{fileOf, fileFits, blocksStart}
+use Rattle.layout.specs.File.{fileOf, fileFits, blocksStart, countsFit}
 use Rattle.layout.proofs.FileBackLaws.{length-file}
 use Rattle.written.specs.declared.Written.{Written}
 use Rattle.written.specs.Written.{writtenAnswer, writtenOutput}
-use Rattle.writer.specs.Write.{countsFit, inputRefusal, recordsToWrite, writeOf}
-use Rattle.writer.specs.Steps.{endIfFits, FilePut}
+use Rattle.writer.specs.Write.{inputRefusal, recordsToWrite, writeOf}
+use Rattle.file_encoder.specs.Begun.{endIfFits, FilePut}
 use Rattle.writer.proofs.InputRuleLaws.{refused-at-30, refused-at-9, to-input, input-some, input-none}
 
 -- the records, or a refusal at place 0 whose number isn't 0

@@ -1,15 +1,13 @@
 -- What the functions within the writer promise.
-use Prim.Native.Nat.{ℕ, _+_, _≤_, _<_}
+use Prim.Native.Nat.{ℕ, _≤_, _<_}
 use mathlib.Core.Path.{_≡_}
-use mathlib.Core.Bool.{cond}
 use mathlib.Core.List.{List, flatMap}
 use lib.ListN.{length}
 use Rattle.items.proofs.ItemsLaws.{Row}
 use Rattle.payload.specs.Payload.{Text, textAt}
-use Rattle.output_list.specs.OutputList.{padded}
 use Rattle.output_bytes.specs.OutputBytes.{stored}
 use Rattle.layout.specs.Blocks.{dataBytes}
-use Rattle.layout.specs.File.{fileFits}
+use Rattle.file_encoder.specs.Begun.{endIfFits}
 
 -- records stand side by side in an input, which isn't empty; a block holds one at least
 pub record ValidInput (input : List ℕ) (perBlock : ℕ) : Type 0 where
@@ -18,16 +16,7 @@ pub record ValidInput (input : List ℕ) (perBlock : ℕ) : Type 0 where
   pub some : 0 < length input
   pub count : 1 ≤ perBlock
 
--- where the bytes from `from` on end, or 0 where they don't fit
-unfoldable pub endIfFits : (room from : ℕ) → List ℕ → ℕ
-endIfFits room from bytes = cond (fileFits room (from + length bytes)) (from + length bytes) 0
-
 -- these blocks were put from `from` on: `end` is where they end, or 0 where they don't fit
 pub record DataPut (old : List ℕ) (from : ℕ) (blocks : List (List (List ℕ))) (end : ℕ) (output : List ℕ) : Type 0 where
   pub ends : end ≡ endIfFits (length old) from (flatMap dataBytes blocks)
   pub stands : (end ≡ 0 → ⊥) → output ≡ stored old from (flatMap dataBytes blocks)
-
--- this file was put: `end` is its length, or 0 where it doesn't fit
-pub record FilePut (room : ℕ) (file : List ℕ) (end : ℕ) (output : List ℕ) : Type 0 where
-  pub ends : end ≡ endIfFits room 0 file
-  pub stands : (end ≡ 0 → ⊥) → output ≡ padded room file

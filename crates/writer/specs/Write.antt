@@ -1,18 +1,14 @@
 -- The writer: the refusals 30, 9, 28, 29 and 31 in this order, or the file.
 use Prim.Native.Nat.{ℕ}
-use mathlib.Core.Bool.{Bool, _&&_, cond}
+use mathlib.Core.Bool.{cond}
 use mathlib.Core.List.{List, map}
-use lib.Dec.{leb, eqb}
+use lib.Dec.{eqb}
 use lib.ListN.{length}
 use Rattle.lists.specs.Groups.{groups}
 use Rattle.outcome.specs.Outcome.{Outcome, answer, refused, _>>=_, _>>_, must}
 use Rattle.header.specs.Metadata.{isMetadata}
 use Rattle.payload.specs.Payload.{recordsAt}
-use Rattle.layout.specs.File.{fileOf, fileFits}
-
--- records in a data block, 1 to 65,535, and entries in an index block, 2 to 65,535
-unfoldable pub countsFit : (perBlock perIndex : ℕ) → Bool
-countsFit perBlock perIndex = (leb 1 perBlock && leb perBlock 65535) && (leb 2 perIndex && leb perIndex 65535)
+use Rattle.layout.specs.File.{fileOf, countsFit, fileFits}
 
 -- the refusal for an input whose records are refused as those of a block: 29 where they don't rise (16), 28 for everything else
 unfoldable pub inputRefusal : ℕ → ℕ

@@ -1,7 +1,7 @@
 // The refusals that come before the file is made.
 ghost use mathlib.Core.Path.{_≡_};
 ghost use Rattle.outcome.specs.Outcome.{numberOf};
-ghost use Rattle.writer.specs.Write.{countsFit, recordsToWrite};
+ghost use Rattle.writer.specs.Write.{recordsToWrite};
 use payload::PayloadOutcome;
 use payload::records_at;
 
@@ -9,7 +9,7 @@ use payload::records_at;
 pub fn input_refusal(metadata: &[u8], records: &[u8], per_block: u64, per_index: u64) -> u64
     ensures { λ r. ⌜ r ≡ numberOf (recordsToWrite (now (metadata .entry)) (now (records .entry)) «per_block» «per_index») ⌝ }
 {
-    if !counts_fit(per_block, per_index) {
+    if !file_encoder::counts_fit(per_block, per_index) {
         return 30;
     }
     if !header::is_metadata(metadata) {
@@ -20,20 +20,4 @@ pub fn input_refusal(metadata: &[u8], records: &[u8], per_block: u64, per_index:
         PayloadOutcome::Answer(_) => 0,
         PayloadOutcome::Refused(n) => { if n == 16 { 29 } else { 28 } },
     }
-}
-
-// Whether the counts are in range.
-fn counts_fit(per_block: u64, per_index: u64) -> bool
-    ensures { λ r. ⌜ r ≡ countsFit «per_block» «per_index» ⌝ }
-{
-    if per_block < 1 {
-        return false;
-    }
-    if 65535 < per_block {
-        return false;
-    }
-    if per_index < 2 {
-        return false;
-    }
-    per_index <= 65535
 }

@@ -9,16 +9,13 @@ ghost use Rattle.outcome.specs.Outcome.{answer};
 ghost use Rattle.layout.specs.File.{fileOf};
 ghost use Rattle.written.specs.Written.{writtenAnswer, writtenOutput};
 ghost use Rattle.writer.specs.Write.{recordsToWrite, writeOf};
-ghost use Rattle.writer.specs.Steps.{FilePut};
+ghost use Rattle.file_encoder.specs.Begun.{FilePut};
 
 mod data;
 mod input;
 
 use crate::data::put_data;
 use crate::input::input_refusal;
-use header::Header;
-use index_encoder::RaiseOutcome;
-use index_encoder::put_index;
 use written::Written;
 use written::refusal;
 
@@ -66,31 +63,14 @@ fn put_file(
     ensures { λ r. ⌜ ((rs : List (List ℕ)) → recordsToWrite (now (metadata .entry)) (now (records .entry)) «per_block» «per_index» ≡ answer rs
         → FilePut (length (now (output .entry))) (fileOf (now (metadata .entry)) (groups «per_block» rs) «per_index») r (now (output .exit))) ⌝ }
 {
-    if output.len() < Header::LEAST_BLOCKS {
+    let from = file_encoder::begin_file(output, metadata);
+    if from == 0 {
         return 0;
     }
-    if output.len() - Header::LEAST_BLOCKS < metadata.len() {
-        return 0;
-    }
-    let from = Header::LEAST_BLOCKS + metadata.len();
     let to = put_data(output, records, per_block, from);
     if to == 0 {
         return 0;
     }
-    let index = put_index(output, from, to, per_index);
-    match index {
-        RaiseOutcome::Refused(_) => 0,
-        RaiseOutcome::Answer(r) => {
-            let hash = sha256::finish(sha256::absorb(sha256::begin(), records));
-            header_encoder::put_header(
-                output,
-                metadata,
-                r.root as u64,
-                r.rootsize as u64,
-                r.end as u64,
-                hash,
-            );
-            r.end
-        },
-    }
+    let hash = sha256::finish(sha256::absorb(sha256::begin(), records));
+    file_encoder::finish_file(output, from, to, per_index, hash)
 }

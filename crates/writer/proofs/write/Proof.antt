@@ -4,7 +4,7 @@ use borrow.Author.Needs.{needs}
 use denote.Ref.{now}
 use lib.ListN.{length}
 use Rattle.output_list.specs.OutputList.{zeros}
-use Rattle.writer.proofs.FileLaws.{put-room}
+use Rattle.file_encoder.proofs.FitLaws.{put-room}
 use Rattle.writer.proofs.WriteLaws.{number-0, write-refused, write-full, write-done}
 use Rattle.writer.proofs.write.Statement.{statement}
 use Rattle.writer.proofs.write.Tie as tie

@@ -1,5 +1,4 @@
 -- `put_data` meets its contract. The loop's invariant is `DataPutting`. Assumes nothing.
-use mathlib.Core.Path.{sym, ap, subst, _∙_}
 use mathlib.Core.List.{List}
 use Prim.Native.Nat.{_-_}
 use native.Mathlib.Omega.{arith}

@@ -1,8 +1,8 @@
 -- `counts_fit` meets its contract. Assumes nothing.
 use native.Mathlib.Omega.{arith}
-use Rattle.writer.proofs.InputRuleLaws.{counts-block-low, counts-block-high, counts-index-low, counts-asked}
-use Rattle.writer.proofs.input.counts_fit.Statement.{statement}
-use Rattle.writer.proofs.input.counts_fit.Tie as tie
+use Rattle.file_encoder.proofs.CountsLaws.{counts-block-low, counts-block-high, counts-index-low, counts-asked}
+use Rattle.file_encoder.proofs.counts_fit.Statement.{statement}
+use Rattle.file_encoder.proofs.counts_fit.Tie as tie
 
 returns : tie.Need-returns
 returns c = counts-block-low _ _ (omega arith)

@@ -1,0 +1,2 @@
+-- The meaning of beginning and finishing a file.
+pub mod Begun
