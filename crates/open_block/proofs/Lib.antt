@@ -1,0 +1,2 @@
+-- Laws of putting a record into the open block.
+pub mod OpenBlockLaws
