@@ -1,0 +1,1 @@
+// What a writing session gives; no code.
