@@ -6,7 +6,7 @@
  * Every function takes any bytes and any lists, and always returns.
  *
  * Byte strings are a pointer and a length. They are never written, and may overlap each other. An output of bytes, likewise a pointer and
- * a length, is written whole, and must not overlap a byte string.
+ * a length, is written whole, save by the steps of a session, and must not overlap a byte string.
  *
  * Lists are a pointer to 64-bit numbers, aligned as such, and how many places there are. They must not overlap each other or the byte
  * strings. Numbers stand at the front, and zeros after them. Every call writes every place of every list, so a long list costs time
@@ -22,7 +22,7 @@
  *   opened    on a file that zs_check accepts: `blocks` of its answer
  *   results   on a file that zs_check accepts: twice `records` of its answer; for zs_read on any bytes: 2 * file_len
  *   list      of zs_compare: five times the sum of `records` in zs_check's answers for both files
- *   output    of zs_write: 2^30 bytes, since no file is longer; of zs_import_sim: 2 * dump_len
+ *   output    of zs_write and of a session: 2^30 bytes, since no file is longer; of zs_import_sim: 2 * dump_len
  * On other bytes there is no such length for zs_search: they can lead to one block again and again, and only the length of the opened
  * list bounds how often.
  */
@@ -35,7 +35,8 @@
 
 #define ZS_VERSION "0.1.0"
 
-/* ---- Answers. Without a refusal number and place are 0. After one every count and length is 0, and every list and output is zeros. */
+/* ---- Answers. Without a refusal number and place are 0. After one every count and length is 0, and every list and output is zeros; only a
+ * session and its output stay as they were. */
 
 typedef struct zs_read_answer { uint64_t number, place, matches; } zs_read_answer;
 typedef struct zs_checked { uint64_t number, place, blocks, records; } zs_checked;
@@ -48,6 +49,17 @@ typedef struct zs_part { uint64_t offset, length; } zs_part;
 
 /* A part of the first of two files (which is 1) or of the second (which is 2). */
 typedef struct zs_shown { uint64_t which, offset, length; } zs_shown;
+
+/* A writing session. The figures are how many records were added, the offset of the last one as results give it, and where the next block will
+ * begin, which is the end of all that stands in the output; each is 0 where there is nothing. All others belong to the session: hand them on as
+ * they are. */
+typedef struct zs_session {
+    uint64_t records, last, next;
+    uint64_t stage, blocks, per_block, per_index, start, count, payload, crc;
+} zs_session;
+
+/* The answer of a step, and the session after it. */
+typedef struct zs_stepped { uint64_t number, place; zs_session session; } zs_stepped;
 
 /* ---- Refusals: what `number` can be. README.md says what the place of each is, and what to do about it. */
 
@@ -122,7 +134,7 @@ static inline const char *zs_message(uint64_t number)
     case ZS_DATA_HASH: return "the SHA-256 of the data isn't the one that the header states";
     case ZS_OPENED_LIST_SHORT: return "the search opens more blocks than the opened list has places";
     case ZS_RESULT_LIST_SHORT: return "more records match than there is room for";
-    case ZS_BAD_RECORDS: return "the records to be written aren't each a length and as many bytes, or there are none";
+    case ZS_BAD_RECORDS: return "the records to be written aren't each a length and as many bytes, or there are none, or a session's step is out of turn";
     case ZS_INPUT_UNSORTED: return "the records to be written are out of order";
     case ZS_COUNT_OUT_OF_RANGE: return "a count is out of range: 1 to 65535 records in a data block, 2 to 65535 entries in an index block";
     case ZS_OUTPUT_SHORT: return "the output is too short, or the file would be longer than 1073741824 bytes (2^30)";
@@ -209,6 +221,36 @@ zs_compared zs_compare(const uint8_t *first, size_t first_len, const uint8_t *se
  * where it is 2. 1, 0, 0 where `which` is any other number, or the part isn't within that file. */
 zs_shown zs_show(const uint8_t *first, size_t first_len, const uint8_t *second, size_t second_len, uint64_t which, uint64_t offset,
                  uint64_t length);
+
+/* A session makes a file in the output one record at a time: start afresh, begin, add records, finish. It is a value: each step takes the session
+ * and the output as the last one left them, and hands the next session back. Between two steps the output may be lengthened by zeros, and may move;
+ * so an output that is too short can grow. A step with any other session or output is safe, and promises nothing else.
+ * After every step the figures are those that can be counted in the output: its data blocks stand one after the other, the last one framed though
+ * it may still grow, with zeros behind them. From begin to finish the file has the unfinished magic, so that zs_check refuses it with 2.
+ * A refused step changes neither session nor output, so that it may be tried again. A step out of its order is refused with 28, before all else;
+ * starting afresh never is. */
+
+/* Starts afresh, at any time and with any output, which is all zeros then. Every number of the session is 0. */
+zs_session zs_session_afresh(uint8_t *output, size_t output_len);
+
+/* Begins a file: metadata and counts are those of zs_write. Refusals in this order: 28 it is begun or finished already, 30 a count, 9 the
+ * metadata, 31 the header is longer than the output or 2^30 bytes. */
+zs_stepped zs_session_begin(zs_session session, const uint8_t *metadata, size_t metadata_len, uint64_t per_block, uint64_t per_index,
+                            uint8_t *output, size_t output_len);
+
+/* Adds a record, here without its length before it. A block that is full is closed first. Refusals in this order: 28 nothing is begun, or it is
+ * finished; 29 the record is less than the last one; 31 with it header and data blocks would be longer than the output or 2^30 bytes. The cost is
+ * that of the record, however much stands in the output; now and then the records of a block are moved by a byte. */
+zs_stepped zs_session_add(zs_session session, const uint8_t *record, size_t record_len, uint8_t *output, size_t output_len);
+
+/* Closes the block, so that the next record begins another. The output is only read. 28: nothing is begun, it is finished, or no record was added
+ * since begin or since a block was closed. */
+zs_stepped zs_session_close(zs_session session, const uint8_t *output, size_t output_len);
+
+/* Finishes the file, which then is the first `next` bytes of the output; zs_store gives its stores. It is one that zs_check accepts, holds the
+ * records added, in order, and where no block was closed early it is the file that zs_write makes of them. Refusals in this order: 28 nothing is
+ * begun, it is finished already, or it has no record; 31 with its index the file would be longer than the output or 2^30 bytes. */
+zs_stepped zs_session_finish(zs_session session, uint8_t *output, size_t output_len);
 
 /* The bytes of store 0: with what an unfinished file begins. */
 static const uint8_t zs_unfinished[8] = {0xab, 0x5a, 0x53, 0x74, 0x6f, 0x42, 0x65, 0x01};

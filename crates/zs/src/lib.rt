@@ -1,9 +1,10 @@
 // The C interface: thin exports. Each has the contract of the function that it calls, and beside it what the theorems say of that very call:
-// check, read, search, write, import and comparison are decided by the rules of their formats, and what is written can be stored so that no cut
+// check, read, search, write, import, comparison and session are decided by the rules of their formats, and what is written can be stored so that no cut
 // leaves a wrong file. include/zs.h documents the interface for callers.
 //
 // C can't receive a slice as a result, so zs_record, zs_metadata, zs_store and zs_show hand back where the part lies.
 ghost use mathlib.Core.Bool.{true};
+ghost use mathlib.Core.List.{[], _∷_};
 ghost use mathlib.Core.Logic.{_↔_};
 ghost use mathlib.Core.Path.{_≡_};
 ghost use lib.ListN.{length};
@@ -17,6 +18,10 @@ ghost use Rattle.checker.specs.Check.{checkOf, checkAnswer};
 ghost use Rattle.search.specs.Search.{searchOf, searchAnswer, openedList, resultList};
 ghost use Rattle.written.specs.Written.{writtenAnswer, writtenOutput};
 ghost use Rattle.writer.specs.Write.{writeOf};
+ghost use Rattle.session_value.specs.Stage.{Stage};
+ghost use Rattle.session_value.specs.Stage as stages;
+ghost use Rattle.session_value.specs.Steps.{beginOf, addOf, closeOf, finishOf, after};
+ghost use Rattle.session_value.specs.Held.{Held, StepTaken, OneOf, sessionOf};
 ghost use Rattle.stores.specs.FileStores.{storePart};
 ghost use Rattle.sim_import.specs.Import.{importOf};
 ghost use Rattle.shown.specs.Shown.{partShown};
@@ -26,6 +31,7 @@ ghost use Rattle.theorems_read.specs.ReadByRules.{ReadByRules};
 ghost use Rattle.theorems_search.specs.SearchedByRules.{SearchedByRules};
 ghost use Rattle.theorems_search.specs.Locality.{SearchedLocally};
 ghost use Rattle.theorems_write.specs.WrittenByRules.{WrittenByRules};
+ghost use Rattle.theorems_session.specs.SessionByRules.{SessionByRules};
 ghost use Rattle.theorems_stores.specs.StoredByRules.{StoreByRules, WrittenInStores};
 ghost use Rattle.theorems_import.specs.ImportedByRules.{ImportedByRules};
 ghost use Rattle.theorems_compare.specs.ComparedByRules.{ComparedByRules};
@@ -34,6 +40,8 @@ use comparer::Compared;
 use part::Part;
 use reader::ReadAnswer;
 use search::Found;
+use session_value::Session;
+use session_value::Stepped;
 use shown::place::Shown;
 use written::Written;
 
@@ -160,6 +168,69 @@ pub extern "C" fn zs_write(
         (length (now (output .entry))) r (now (output .exit)) ⌝ }
 {
     writer::write(metadata, records, per_block, per_index, output)
+}
+
+// Starts a writing session afresh, on any output (`session::start_afresh`).
+#[no_mangle]
+pub extern "C" fn zs_session_afresh(output: &mut [u8]) -> Session
+    ensures { λ r. ⌜ r ≡ sessionOf stages.afresh ⌝ }
+    ensures { λ _. ⌜ now (output .exit) ≡ zeros (length (now (output .entry))) ⌝ }
+    ensures { λ r. ⌜ Held stages.afresh r (now (output .exit)) × SessionByRules stages.afresh r (now (output .exit)) ⌝ }
+{
+    session::start_afresh(output)
+}
+
+// Begins a file in a session (`session::begin`).
+#[no_mangle]
+pub extern "C" fn zs_session_begin(
+    session: Session,
+    metadata: &[u8],
+    per_block: u64,
+    per_index: u64,
+    output: &mut [u8],
+) -> Stepped
+    ensures { λ r. ⌜ ((stage : Stage) → Held stage session (now (output .entry))
+        → StepTaken stage (beginOf stage (now (metadata .entry)) «per_block» «per_index» (length (now (output .entry))))
+        (length (now (output .entry))) r (now (output .exit))
+        × SessionByRules (after stage (beginOf stage (now (metadata .entry)) «per_block» «per_index» (length (now (output .entry)))))
+        (r .session) (now (output .exit))) ⌝ }
+    ensures { λ r. ⌜ OneOf (0 ∷ 28 ∷ 30 ∷ 9 ∷ 31 ∷ []) (r .number) ⌝ }
+{
+    session::begin(session, metadata, per_block, per_index, output)
+}
+
+// Adds a record in a session (`session::add`).
+#[no_mangle]
+pub extern "C" fn zs_session_add(session: Session, record: &[u8], output: &mut [u8]) -> Stepped
+    ensures { λ r. ⌜ ((stage : Stage) → Held stage session (now (output .entry))
+        → StepTaken stage (addOf stage (now («record» .entry)) (length (now (output .entry))))
+        (length (now (output .entry))) r (now (output .exit))
+        × SessionByRules (after stage (addOf stage (now («record» .entry)) (length (now (output .entry))))) (r .session) (now (output .exit))) ⌝ }
+    ensures { λ r. ⌜ OneOf (0 ∷ 28 ∷ 29 ∷ 31 ∷ []) (r .number) ⌝ }
+{
+    session::add(session, record, output)
+}
+
+// Closes the open block of a session (`session::close_block`).
+#[no_mangle]
+pub extern "C" fn zs_session_close(session: Session, output: &[u8]) -> Stepped
+    ensures { λ r. ⌜ ((stage : Stage) → Held stage session (now (output .entry))
+        → StepTaken stage (closeOf stage) (length (now (output .entry))) r (now (output .entry))
+        × SessionByRules (after stage (closeOf stage)) (r .session) (now (output .entry))) ⌝ }
+    ensures { λ r. ⌜ OneOf (0 ∷ 28 ∷ []) (r .number) ⌝ }
+{
+    session::close_block(session, output)
+}
+
+// Finishes the file of a session (`session::finish`).
+#[no_mangle]
+pub extern "C" fn zs_session_finish(session: Session, output: &mut [u8]) -> Stepped
+    ensures { λ r. ⌜ ((stage : Stage) → Held stage session (now (output .entry))
+        → StepTaken stage (finishOf stage (length (now (output .entry)))) (length (now (output .entry))) r (now (output .exit))
+        × SessionByRules (after stage (finishOf stage (length (now (output .entry))))) (r .session) (now (output .exit))) ⌝ }
+    ensures { λ r. ⌜ OneOf (0 ∷ 28 ∷ 31 ∷ []) (r .number) ⌝ }
+{
+    session::finish(session, output)
 }
 
 // Where store i of a finished file goes, and how long it is (`stores::store`); offset and length 0 where there is none.
