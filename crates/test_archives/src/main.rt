@@ -1,5 +1,5 @@
-// Runs the stored cases: for each case of the files `cases`, `more-cases`, `write-cases`, `import-cases` and `compare-cases` a call on the file
-// or the two files that it names, and a line with the answer.
+// Runs the stored cases: for each case of the files `cases`, `more-cases`, `write-cases`, `import-cases`, `session-cases` and `compare-cases` a
+// call on the file or the two files that it names, and a line with the answer; for a session a line with the answer of each step.
 ghost use Rattle.io.specs.Counts.{Counts};
 
 mod cases;
@@ -11,7 +11,9 @@ mod lists;
 mod print;
 mod read;
 mod record_part;
+mod session_steps;
 mod shown_part;
+mod steps;
 mod store_part;
 mod write;
 
@@ -66,6 +68,16 @@ fn answer(file: &[u8], stored: &[u8], case: Case) {
     print::text(b"\n");
 }
 
+// Makes the call of a case on the bytes of its file. A session prints its own lines.
+fn answer_any(file: &[u8], stored: &[u8], case: Case) {
+    if case.call == 10 {
+        let name = case.name;
+        session_steps::run(file, string(stored, name));
+    } else {
+        answer(file, stored, case);
+    }
+}
+
 // Opens the file of a case, or says why it can't, and makes the call on its bytes.
 fn run_case(stored: &[u8], case: Case) {
     let name = case.name;
@@ -77,7 +89,7 @@ fn run_case(stored: &[u8], case: Case) {
     }
     let mut space = io::large_buffer();
     let n = fill(fd, &mut space);
-    answer(&space[..n], stored, case);
+    answer_any(&space[..n], stored, case);
 }
 
 // Runs the cases one after the other.
@@ -116,5 +128,6 @@ fn main() {
     run_file(b"more-cases");
     run_file(b"write-cases");
     run_file(b"import-cases");
+    run_file(b"session-cases");
     run_file(b"compare-cases");
 }
