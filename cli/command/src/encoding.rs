@@ -77,12 +77,14 @@ impl Encoded {
     pub fn describe_fall(&self) -> Option<String> {
         let mut pairs = (1..).zip(self.records().zip(self.records().skip(1)));
         let (at, (before, record)) = pairs.find(|(_, (before, record))| record < before)?;
-        let (noun, next) = (self.noun, at + 1);
-        let (before, record) = (quote(before), quote(record));
-        Some(format!(
-            "{noun} {next}, {record}, is less than {noun} {at}, {before}"
-        ))
+        Some(describe_fall(self.noun, at, before, record))
     }
+}
+
+/// Says that a record is less than the one before it, of which there are so many up to it.
+pub fn describe_fall(noun: &str, at: u64, before: &[u8], record: &[u8]) -> String {
+    let (next, before, record) = (at + 1, quote(before), quote(record));
+    format!("{noun} {next}, {record}, is less than {noun} {at}, {before}")
 }
 
 /// Puts the records of an input of this length one after the other, and `end` after them.
@@ -101,6 +103,12 @@ fn encode<'a>(
     let left = room.len();
     bytes.truncate(most - left);
     Ok(bytes)
+}
+
+/// How many bytes a record takes in the library's form.
+pub fn length_encoded(record: &[u8]) -> u64 {
+    let bits = usize::BITS - (record.len() | 1).leading_zeros();
+    u64::from((bits + 6) / 7) + record.len() as u64
 }
 
 /// A key tells its block's first record from the one before it. It has at most one byte more than these begin with alike.

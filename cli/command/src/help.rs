@@ -27,8 +27,12 @@ stored as it is given, without white space around it. Nothing is added, so that 
 always makes the same archive.
 
 By default each line of INPUT is a record, without its line end. A last record that nothing follows
-is one, too. T takes the escapes \\t \\n \\r \\\\ and \\x00 to \\xff. Equal records are all kept. INPUT is
-read into memory.";
+is one, too. T takes the escapes \\t \\n \\r \\\\ and \\x00 to \\xff. Equal records are all kept.
+
+INPUT is read into memory: how many records make a block depends on all of them. With
+--records-per-block, and without --sort, the records of standard input or a pipe go into the archive
+as they arrive, and memory holds the archive and not INPUT. Archive and refusals are the same, and
+INPUT is read to its end.";
 
 pub const MAKE_EXAMPLES: &str = "Examples:
   zs make '{\"about\": \"names\"}' names.txt names.zs        lines that are sorted by their bytes
@@ -36,6 +40,7 @@ pub const MAKE_EXAMPLES: &str = "Examples:
   zs make '{}' names.txt names.zs --terminator '\\r\\n'    lines as Windows has them
   zs make @about.json records out.zs --length-prefixed u64le
   LC_ALL=C sort names.txt | zs make '{}' - names.zs
+  LC_ALL=C sort names.txt | zs make '{}' - names.zs --records-per-block 50
   zs make '{}' names.txt stick/names.zs --in-place
   zs dump old.zs --length-prefixed uleb128 |
     zs make \"$(zs info -m old.zs)\" - new.zs --length-prefixed uleb128 --records-per-block 50";

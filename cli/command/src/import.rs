@@ -32,10 +32,12 @@ pub fn run(asked: &Sim) -> Result<(), Failure> {
         let detail = format!("--name-length is {}", asked.name_length);
         return Err(Failure::Refused(Refusal::of_making(32, Some(detail))));
     }
-    order(asked).carry_out(|| {
+    let order = order(asked);
+    order.carry_out(|metadata| {
         let dump = Dump::read(asked)?;
         let length = dump.bytes.len();
-        show_while("importing", &asked.dump, length, || dump.import())
+        let records = show_while("importing", &asked.dump, length, || dump.import())?;
+        order.make(metadata, &records)
     })
 }
 

@@ -118,8 +118,13 @@ fn load(path: &Path, longest_read: u64) -> Result<Input, Failure> {
     Ok(Input::Read(bytes))
 }
 
+/// Whether nobody knows beforehand how long an input is: standard input, a pipe, a device.
+pub fn arrives(path: &Path) -> bool {
+    is_dash(path) || fs::metadata(path).map_or(false, |about| !about.is_file())
+}
+
 /// Opens a file, and gives its length if it has one. Standard input is read from where it stands, whatever it is.
-fn open(path: &Path) -> io::Result<(File, Option<u64>)> {
+pub fn open(path: &Path) -> io::Result<(File, Option<u64>)> {
     if is_dash(path) {
         return Ok((lend_descriptor(0)?.try_clone()?, None));
     }
@@ -188,7 +193,7 @@ fn fill(memory: &mut [u8], so_far: usize, mut file: &File) -> io::Result<usize> 
     }
 }
 
-fn lack_memory<E>(_: E) -> io::Error {
+pub fn lack_memory<E>(_: E) -> io::Error {
     let words = "there isn't enough memory to read it";
     io::Error::new(io::ErrorKind::OutOfMemory, words)
 }

@@ -5,7 +5,7 @@
 /// Levels of index blocks. Greater ones are reserved.
 pub const INDEX: std::ops::RangeInclusive<u8> = 1..=63;
 /// How long a block's checksum is.
-const CHECKSUM: u64 = 8;
+pub const CHECKSUM: u64 = 8;
 
 /// What the header says.
 pub struct Header<'a> {

@@ -7,7 +7,7 @@
 //! * [`input`], [`memory`], [`cut_files`], [`archive`], [`answers`], [`differences`], [`refusals`]: bytes, checked or not, the library's
 //!   answers with lists that grow, and refusals in words.
 //! * [`records`], [`encoding`], [`writing`], [`making`]: records one after the other in an input, and the archive that the library makes
-//!   of them, from what is asked to a file.
+//!   of them, from what is asked to a file; [`arriving`], [`adding`]: the same while the input arrives.
 //! * [`make`], [`import`], [`validate`], [`dump`], [`compare`], [`info`], [`explain`]: one module for each command.
 //! * [`output`], [`target`], [`storing`], [`unfinished`], [`signals`], [`system`]: where answers are written, how an archive comes to the
 //!   disk, and how a file appears only when it is whole.
@@ -15,9 +15,11 @@
 //! * [`layout`], [`walk`], [`metadata`]: fields, bounds and faults for display, and what a check, a search or a comparison would take.
 #![deny(unsafe_code)]
 
+mod adding;
 mod answers;
 mod archive;
 mod arguments;
+mod arriving;
 mod compare;
 #[allow(unsafe_code)]
 mod cut_files;

@@ -33,11 +33,11 @@ pub struct Argument<'a, T: ?Sized> {
 }
 
 impl<'a> Order<'a> {
-    /// Has the records loaded once nothing else is in the way, and writes nothing before the whole archive is known. It isn't checked
-    /// then: that it would be accepted is proved of the library.
+    /// Has the archive made, of these metadata, once nothing else is in the way, and writes nothing before it is whole. It isn't checked then:
+    /// that it would be accepted is proved of the library.
     pub fn carry_out(
         &self,
-        load: impl FnOnce() -> Result<Encoded, Failure>,
+        make: impl FnOnce(&[u8]) -> Result<Made, Failure>,
     ) -> Result<(), Failure> {
         self.refuse_mistakes()?;
         let output = self.find_output()?;
@@ -45,20 +45,23 @@ impl<'a> Order<'a> {
         let metadata = self.read_metadata()?;
         // The usual count, which isn't known yet, is in its range.
         refuse_early(&metadata, self.find_counts(|| MOST_PER_BLOCK))?;
-        let records = load()?;
-        let name = &self.archive.output;
-        let made = show_while("making", name, records.bytes.len(), || {
-            let draft = Draft {
-                metadata: &metadata,
-                records: &records,
-                counts: self.find_counts(|| usual_count(&records)),
-            };
-            draft.make()
-        })?;
+        let made = make(&metadata)?;
         output.store(&made.file)?;
-        let line = describe(name, &records, &made);
+        let line = describe(&self.archive.output, &made);
         line_output.map_or(Ok(()), |out| {
             out.write(&|out| out.write_all(line.as_bytes()))
+        })
+    }
+
+    /// Makes the archive of records that are all there.
+    pub fn make(&self, metadata: &[u8], records: &Encoded) -> Result<Made, Failure> {
+        show_while("making", &self.archive.output, records.bytes.len(), || {
+            let draft = Draft {
+                metadata,
+                records,
+                counts: self.find_counts(|| usual_count(records)),
+            };
+            draft.make()
         })
     }
 
@@ -159,9 +162,9 @@ impl<'a> Order<'a> {
     }
 }
 
-fn describe(name: &Path, records: &Encoded, made: &Made) -> String {
+fn describe(name: &Path, made: &Made) -> String {
     let name = escape_name(name);
-    let records = format_count(records.number, "record", "records");
+    let records = format_count(made.records, "record", "records");
     let blocks = format_count(made.blocks, "block", "blocks");
     let length = made.file.len();
     format!("{name}: made, {records} in {blocks}, {length} bytes\n")
@@ -169,9 +172,17 @@ fn describe(name: &Path, records: &Encoded, made: &Made) -> String {
 
 /// Reads what goes into the archive as it is. What is so many times as long as any archive is refused by its length.
 pub fn read(path: &Path, what: &str, times: u64) -> Result<Memory, Failure> {
-    let longest = times.saturating_mul(LONGEST as u64);
-    read_any(path, longest)?.ok_or_else(|| {
-        let detail = format!("the {what} alone has more than {longest} bytes");
-        Failure::Refused(Refusal::of_making(31, Some(detail)))
-    })
+    let longest = find_longest(times);
+    read_any(path, longest)?.ok_or_else(|| refuse_long(what, longest))
+}
+
+/// What is longer than this many times an archive is refused by its length.
+pub fn find_longest(times: u64) -> u64 {
+    times.saturating_mul(LONGEST as u64)
+}
+
+/// The refusal of what is longer than that.
+pub fn refuse_long(what: &str, longest: u64) -> Failure {
+    let detail = format!("the {what} alone has more than {longest} bytes");
+    Failure::Refused(Refusal::of_making(31, Some(detail)))
 }

@@ -24,11 +24,16 @@ pub enum Form<'a> {
 impl<'a> Form<'a> {
     /// The records of an input, up to the first that can't be made out.
     pub fn split(self, input: &'a [u8]) -> Records<'a> {
+        self.split_arrived(input, Before::default(), true)
+    }
+
+    /// The records of what has arrived of an input, after what came before. Unless the input has ended, one that may go on isn't among them.
+    pub fn split_arrived(self, arrived: &'a [u8], before: Before, ended: bool) -> Records<'a> {
         Records {
             form: self,
-            input,
-            rest: input,
-            number: 0,
+            rest: arrived,
+            before,
+            ended,
         }
     }
 
@@ -88,12 +93,26 @@ fn write_length(form: Length, length: u64, out: &mut dyn Write) -> io::Result<()
     }
 }
 
+/// How many records and bytes of an input stand before a place.
+#[derive(Clone, Copy, Default)]
+pub struct Before {
+    pub records: u64,
+    pub bytes: u64,
+}
+
 /// The records of an input; the last item says what is wrong, where something is.
 pub struct Records<'a> {
     form: Form<'a>,
-    input: &'a [u8],
     rest: &'a [u8],
-    number: u64,
+    before: Before,
+    ended: bool,
+}
+
+impl Records<'_> {
+    /// What stands before the records that are left.
+    pub fn before(&self) -> Before {
+        self.before
+    }
 }
 
 impl<'a> Iterator for Records<'a> {
@@ -103,25 +122,30 @@ impl<'a> Iterator for Records<'a> {
         if self.rest.is_empty() {
             return None;
         }
-        self.number += 1;
-        let before = self.input.len() - self.rest.len();
-        let taken = self.form.take(&mut self.rest).map_err(|fault| Flaw {
-            number: self.number,
-            before,
-            fault,
-        });
-        if taken.is_err() {
-            self.rest = &[];
+        let (mut rest, before) = (self.rest, self.before);
+        let taken = self.form.take(&mut rest);
+        if !self.ended && may_go_on(&taken, self.rest.len() - rest.len()) {
+            return None;
         }
-        Some(taken)
+        self.before.records += 1;
+        self.before.bytes += (self.rest.len() - rest.len()) as u64;
+        self.rest = if taken.is_ok() { rest } else { &[] };
+        Some(taken.map_err(|fault| Flaw { before, fault }))
+    }
+}
+
+/// Whether it depends on what follows what the first record is. Of one that is whole more is taken than itself: its length or its terminator.
+fn may_go_on(taken: &Result<&[u8], Fault>, length: usize) -> bool {
+    match taken {
+        Ok(record) => record.len() == length,
+        Err(Fault::LengthCut | Fault::RecordCut(..)) => true,
+        Err(Fault::LengthWide | Fault::LengthPadded) => false,
     }
 }
 
 /// The first record of an input that can't be made out.
 pub struct Flaw {
-    number: u64,
-    /// How many bytes stand before it.
-    before: usize,
+    before: Before,
     fault: Fault,
 }
 
@@ -139,8 +163,9 @@ enum Fault {
 
 impl fmt::Display for Flaw {
     fn fmt(&self, out: &mut fmt::Formatter) -> fmt::Result {
-        let before = format_count(self.before as u64, "byte", "bytes");
-        write!(out, "record {}, after {before}: ", self.number)?;
+        let Before { records, bytes } = self.before;
+        let bytes = format_count(bytes, "byte", "bytes");
+        write!(out, "record {}, after {bytes}: ", records + 1)?;
         match self.fault {
             Fault::LengthCut => write!(out, "its length is cut off by the end of the input"),
             Fault::LengthWide => write!(out, "its length takes more than nine bytes"),

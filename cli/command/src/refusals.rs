@@ -1,5 +1,5 @@
 //! Refusals as a person reads them, in the words of the library's table; 27 and 31 in those of the command, to which nobody lends lists or
-//! outputs, and 28 of a dump, which has its own form.
+//! outputs, and 28, which knows no sessions here, and of a dump has its own form.
 
 use zs_library::refusals::find;
 
@@ -58,6 +58,7 @@ impl Refusal {
         let refusal = Refusal::of_file(number, 0, &[]);
         Refusal {
             sentence: match number {
+                28 => "the records to be written aren't each a length and as many bytes, or there are none",
                 31 => "the archive would be longer than 1073741824 bytes (2^30)",
                 _ => refusal.sentence,
             },

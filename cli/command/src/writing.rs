@@ -32,10 +32,19 @@ pub struct Draft<'a> {
     pub counts: Counts,
 }
 
-/// An archive, and how many blocks it has.
+/// An archive, and how many records and blocks it has.
 pub struct Made {
     pub file: Memory,
+    pub records: u64,
     pub blocks: u64,
+}
+
+/// What is said of an input without records.
+pub const NO_RECORDS: &str = "there are none: the input is empty";
+
+/// What is said of records for which there is no room.
+pub fn describe_length(length: u64) -> String {
+    format!("the records alone take {length} bytes")
 }
 
 /// How many records go into a data block, where nobody says it.
@@ -73,7 +82,11 @@ impl Draft<'_> {
             return Err(Failure::Refused(refusal));
         }
         file.truncate(written.length as usize);
-        Ok(Made { file, blocks })
+        Ok(Made {
+            file,
+            records: self.records.number,
+            blocks,
+        })
     }
 
     /// Goes up level by level until a block stands alone, with counts that are in range.
@@ -98,14 +111,13 @@ impl Draft<'_> {
 
     /// What is wrong with the input, for display. That something is wrong is the library's verdict.
     fn find_detail(&self, number: u64) -> Option<String> {
-        let length = self.records.bytes.len();
         match number {
             28 => match &self.records.flaw {
                 Some(flaw) => Some(flaw.to_string()),
-                None => Some("there are none: the input is empty".into()),
+                None => Some(NO_RECORDS.into()),
             },
             29 => self.records.describe_fall(),
-            31 => Some(format!("the records alone take {length} bytes")),
+            31 => Some(describe_length(self.records.bytes.len() as u64)),
             _ => None,
         }
     }

@@ -14,6 +14,7 @@ mod inputs;
 mod make;
 mod make_outputs;
 mod make_refusals;
+mod make_streams;
 mod messages;
 mod metadata;
 mod names;

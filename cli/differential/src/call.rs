@@ -1,6 +1,8 @@
-//! A call on a file or two, of the writer on records, of the import on a dump, or on a text: which function, with what, and how much room.
+//! A call on a file or two, of the writer on records, of the import on a dump, or on a text: which function, with what, and how much room. The
+//! steps of a session are one call.
 
 use zs_reference::reader::Query;
+use zs_reference::session::Step;
 use zs_reference::writer::Counts;
 
 /// A call, as both implementations get it.
@@ -86,6 +88,11 @@ pub enum Call {
         /// Its length.
         length: u64,
     },
+    /// All steps of a session; the bytes that the call is made on are these steps as stored cases have them.
+    Session {
+        /// The steps.
+        steps: Vec<Step>,
+    },
 }
 
 /// How the lists of a call, or its output, compare with what its answer needs.
@@ -164,7 +171,25 @@ impl Call {
                 length,
                 ..
             } => format!("call: show\nwhich: {which}\noffset: {offset}\nlength: {length}\n"),
+            Call::Session { steps } => {
+                let lines = steps.iter().enumerate();
+                let lines = lines.map(|(at, step)| format!("step {at}: {}\n", step_text(step)));
+                format!("call: session\n{}", lines.collect::<String>())
+            }
         }
+    }
+}
+
+fn step_text(step: &Step) -> String {
+    match step {
+        Step::Afresh { room } => format!("afresh, on an output of {room} bytes"),
+        Step::Begin { metadata, counts } => {
+            format!("begin, {counts:?}, metadata {}", hex(metadata))
+        }
+        Step::Add(record) => format!("add {} bytes: {}", record.len(), hex(record)),
+        Step::Close => "close the block".to_string(),
+        Step::Finish => "finish".to_string(),
+        Step::Grow(bytes) => format!("the output grows by {bytes} bytes"),
     }
 }
 

@@ -5,6 +5,7 @@ use crate::frames::{data_payloads, frames, header_end};
 use crate::lent::Lent;
 use crate::outcome::Outcome;
 use crate::pair_cases::{compare_files, compare_shown};
+use crate::session_cases::compare_steps;
 use crate::store_cases::{compare_after_write, compare_cut, compare_store};
 use zs_library as library;
 use zs_reference::maker::encode;
@@ -47,6 +48,7 @@ pub fn compare(random: &mut Random, bytes: &[u8], call: &Call) -> Outcome {
             offset,
             length,
         } => compare_shown(random, lent.part(), second, [*which, *offset, *length]),
+        Call::Session { steps } => compare_steps(random, steps),
     };
     outcome.require(lent.is_unchanged(), "the bytes were changed");
     outcome
@@ -217,7 +219,7 @@ fn write_imported(outcome: &mut Outcome, records: &[u8]) {
 }
 
 /// What holds of a file written, whatever the second writer says: it is accepted, and its records and data payloads are the input.
-fn read_back(outcome: &mut Outcome, file: &[u8], records: &[u8]) {
+pub fn read_back(outcome: &mut Outcome, file: &[u8], records: &[u8]) {
     let checked = library::check(file, &mut vec![7; file.len() / 11]);
     outcome.compare("check of the file", 0, checked.number);
     let frames = header_end(file).map_or_else(Vec::new, |end| frames(file, end));

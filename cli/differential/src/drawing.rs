@@ -12,8 +12,10 @@ use crate::keys::{keys, kinds, Kinds};
 use crate::pair_calls::draw_on_pair;
 use crate::pairs::{draw_pairs, Pair};
 use crate::queries::strings_of;
+use crate::scripts::draw_steps;
 use crate::shapes::shape;
 use crate::store_calls::{draw_cuts, draw_edge, draw_stores};
+use zs_reference::corpus::encode_steps;
 use zs_reference::maker::random::{bend, Random};
 use zs_reference::maker::texts::{change, grow};
 use zs_reference::maker::{edges, Image};
@@ -22,13 +24,15 @@ use zs_reference::sim::import;
 use zs_reference::writer::write;
 
 /// Of so many numbers the last one is for the recognisers of metadata.
-const TURNS: u64 = 20;
+const TURNS: u64 = 24;
 /// The first are for the readers.
 const READERS: u64 = 10;
 /// The two after them are for the writers.
 const WRITERS: u64 = 2;
-/// Then these are for the imports, and the one after them is for bytes that may have stores.
+/// Then these are for the imports.
 const IMPORTS: u64 = 6;
+/// Then these are for sessions, and the one after them is for bytes that may have stores.
+const SESSIONS: u64 = 4;
 /// Byte strings of one number that may have stores.
 const EDGES: usize = 10;
 /// Texts of one number.
@@ -39,7 +43,7 @@ const DEPTHS: [usize; 14] = [1, 1, 1, 1, 2, 2, 2, 3, 3, 5, 20, 63, 64, 65];
 /// Bytes and the calls on them.
 #[derive(Debug, Clone)]
 pub struct Drawing {
-    /// The bytes of a file, of the first of two, or those that may have stores, the records that a writer is given, a dump, or a text.
+    /// The bytes of a file, of the first of two, or those that may have stores, the records that a writer is given, a dump, a text, or steps.
     pub bytes: Vec<u8>,
     /// The root's level, where the independent reader accepts the file; 0 for a dump that isn't refused, and for two files that aren't.
     pub accepted: Option<u8>,
@@ -53,8 +57,8 @@ pub struct Drawing {
     pub random: Random,
 }
 
-/// Makes the drawings of this number: a file and pairs with it, records and the file written, a dump, bytes that may have stores, or texts. The
-/// same seed and number give the same ones.
+/// Makes the drawings of this number: a file and pairs with it, records and the file written, a dump, the steps of a session, bytes that may have
+/// stores, or texts. The same seed and number give the same ones.
 pub fn draw(seed: u64, number: u64) -> Vec<Drawing> {
     let mut random = Random::new(Random::new(seed ^ number.rotate_left(32)).next());
     let (round, turn) = (number / TURNS, number % TURNS);
@@ -70,7 +74,11 @@ pub fn draw(seed: u64, number: u64) -> Vec<Drawing> {
     if turn < IMPORTS {
         return vec![draw_imported(random, round * IMPORTS + turn)];
     }
-    if turn == IMPORTS {
+    let turn = turn - IMPORTS;
+    if turn < SESSIONS {
+        return vec![on_session(random)];
+    }
+    if turn == SESSIONS {
         return (0..EDGES).map(|_| on_edge(&mut random)).collect();
     }
     let texts: Vec<Vec<u8>> = (0..TEXTS).map(|_| draw_text(&mut random)).collect();
@@ -92,6 +100,19 @@ fn on_texts(mut random: Random, texts: Vec<Vec<u8>>) -> impl Iterator<Item = Dra
         dump_kinds: dump_kinds::Kinds::default(),
         random: Random::new(random.next()),
     })
+}
+
+/// The steps of a session.
+fn on_session(mut random: Random) -> Drawing {
+    let steps = draw_steps(&mut random);
+    Drawing {
+        bytes: encode_steps(&steps),
+        accepted: None,
+        calls: vec![(Call::Session { steps }, Room::Any)],
+        kinds: Kinds::default(),
+        dump_kinds: dump_kinds::Kinds::default(),
+        random,
+    }
 }
 
 /// Bytes that may have stores, and the calls for some of these.
@@ -239,7 +260,7 @@ fn draw_damaged(random: &mut Random) -> (Image, Vec<u8>) {
 }
 
 /// The root's level, if the file is accepted.
-fn root_level(file: &[u8]) -> Option<u8> {
+pub fn root_level(file: &[u8]) -> Option<u8> {
     if check(file, usize::MAX).number != 0 {
         return None;
     }

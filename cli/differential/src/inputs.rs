@@ -105,7 +105,7 @@ fn long(random: &mut Random) -> Vec<u8> {
 }
 
 /// Counts within their ranges, small ones mostly.
-fn counts(random: &mut Random) -> Counts {
+pub fn counts(random: &mut Random) -> Counts {
     let (some, more) = (1 + random.below(9), 2 + random.below(9));
     Counts {
         per_block: random.pick(&[1, 1, 2, 3, some as u64, 65_535]),
@@ -114,7 +114,7 @@ fn counts(random: &mut Random) -> Counts {
 }
 
 /// 30: one count or both out of range.
-fn spoil_counts(random: &mut Random, counts: &mut Counts) {
+pub fn spoil_counts(random: &mut Random, counts: &mut Counts) {
     let high = 1 << random.pick(&[16, 31, 32, 63]);
     let wrong = [0, 65_536, u64::MAX, counts.per_block | high];
     let which = random.below(3);

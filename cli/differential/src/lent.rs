@@ -2,7 +2,7 @@
 
 use zs_reference::maker::random::Random;
 
-/// Guards on each side.
+/// Guards on each side, unless more are asked for.
 const GUARDS: usize = 4;
 
 /// A lent part and its guards, and a copy of all of it.
@@ -10,6 +10,8 @@ const GUARDS: usize = 4;
 pub struct Lent<T> {
     all: Vec<T>,
     kept: Vec<T>,
+    /// How many guards there are on each side.
+    guards: usize,
 }
 
 impl Lent<u64> {
@@ -31,6 +33,18 @@ impl Lent<u8> {
         Lent::of(all)
     }
 
+    /// A byte string, with so many arbitrary bytes on each side.
+    pub fn far_apart(random: &mut Random, bytes: &[u8], guards: usize) -> Self {
+        let mut around = || random.next().to_le_bytes().into_iter().cycle();
+        let mut all: Vec<u8> = around().take(guards).collect();
+        all.extend(bytes);
+        all.extend(around().take(guards));
+        Lent {
+            guards,
+            ..Lent::of(all)
+        }
+    }
+
     /// An output of so many arbitrary bytes, none of them 0.
     pub fn output(random: &mut Random, length: usize) -> Self {
         let mut all = Vec::new();
@@ -45,24 +59,28 @@ impl Lent<u8> {
 impl<T: Clone + PartialEq> Lent<T> {
     fn of(all: Vec<T>) -> Self {
         let kept = all.clone();
-        Lent { all, kept }
+        Lent {
+            all,
+            kept,
+            guards: GUARDS,
+        }
     }
 
     /// The part that is lent.
     pub fn part(&self) -> &[T] {
-        &self.all[GUARDS..self.all.len() - GUARDS]
+        &self.all[self.guards..self.all.len() - self.guards]
     }
 
     /// The same part, to be written.
     pub fn part_mut(&mut self) -> &mut [T] {
-        let end = self.all.len() - GUARDS;
-        &mut self.all[GUARDS..end]
+        let end = self.all.len() - self.guards;
+        &mut self.all[self.guards..end]
     }
 
     /// Whether the guards are as they were.
     pub fn guards_hold(&self) -> bool {
-        let end = self.all.len() - GUARDS;
-        self.all[..GUARDS] == self.kept[..GUARDS] && self.all[end..] == self.kept[end..]
+        let (start, end) = (self.guards, self.all.len() - self.guards);
+        self.all[..start] == self.kept[..start] && self.all[end..] == self.kept[end..]
     }
 
     /// Whether everything is as it was.

@@ -7,7 +7,7 @@ use crate::keys;
 use crate::pair_kinds;
 use crate::show_kinds;
 use crate::store_kinds;
-use crate::tally::Tally;
+use crate::tally::{Tally, STEPS};
 use zs_library::refusals::GREATEST;
 
 impl Tally {
@@ -15,7 +15,7 @@ impl Tally {
     fn write_numbers(&self, out: &mut fmt::Formatter<'_>) -> fmt::Result {
         writeln!(
             out,
-            "number    check     read   search    write   import  compare"
+            "number    check     read   search    write   import  compare    begin      add    close   finish"
         )?;
         for number in 0..=GREATEST {
             let counts = self.columns().map(|(_, column)| column.count(number));
@@ -97,6 +97,24 @@ impl Tally {
         }
         Ok(())
     }
+
+    fn write_sessions(&self, out: &mut fmt::Formatter<'_>) -> fmt::Result {
+        writeln!(out, "sessions started afresh: {}", self.afresh)?;
+        for (name, count) in self.session_kinds() {
+            writeln!(out, "    {count:4} have {name}")?;
+        }
+        writeln!(
+            out,
+            "  steps with sessions and outputs that no step handed back, and what they gave:"
+        )?;
+        for (step, column) in STEPS.iter().zip(&self.strangers) {
+            let numbers = column.numbers.iter();
+            let counts = numbers.map(|(number, count)| format!(" {number}: {count} times"));
+            let counts: Vec<String> = counts.collect();
+            writeln!(out, "    {step:?}{}", counts.join(","))?;
+        }
+        Ok(())
+    }
 }
 
 impl fmt::Display for Tally {
@@ -133,9 +151,10 @@ impl fmt::Display for Tally {
         self.write_dumps(out)?;
         self.write_stores(out)?;
         self.write_pairs(out)?;
+        self.write_sessions(out)?;
         write!(
             out,
-            "{} files, inputs, dumps and rows of bytes and texts, {} cases, {} differ",
+            "{} files, inputs, dumps, sessions and rows of bytes and texts, {} cases, {} differ",
             self.steps,
             self.cases(),
             self.differing

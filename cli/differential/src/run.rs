@@ -71,7 +71,7 @@ impl Run {
         Ok(())
     }
 
-    /// Saves the file or both, the records, the dump or the text, and the call with what differs; prints the same.
+    /// Saves the file or both, the records, the dump, the text or the steps, and the call with what differs; prints the same.
     fn save(&self, name: &str, bytes: &[u8], call: &Call, outcome: &Outcome) -> io::Result<()> {
         if self.tally.differing > MOST_SAVED {
             return Ok(());
@@ -81,6 +81,7 @@ impl Run {
             Call::Write { .. } => format!("{name}.records"),
             Call::ImportSim { .. } => format!("{name}.adn"),
             Call::IsMetadata => format!("{name}.json"),
+            Call::Session { .. } => format!("{name}.steps"),
             _ => format!("{name}.zs"),
         };
         let cases = self.tally.cases();

@@ -7,7 +7,7 @@ use crate::keys;
 use crate::pair_kinds;
 use crate::show_kinds;
 use crate::store_kinds;
-use crate::tally::Tally;
+use crate::tally::{Tally, STEPS};
 use zs_library::refusals;
 
 /// The refusal that no drawn file gets: it takes more than 2^30 bytes.
@@ -59,6 +59,19 @@ impl Tally {
         numbers
     }
 
+    /// Numbers that a step can give, and didn't give often enough with a session or an output that no step handed back.
+    fn rare_strangers(&self) -> Vec<String> {
+        let mut numbers = Vec::new();
+        for (call, column) in STEPS.iter().zip(&self.strangers) {
+            let counts = due_numbers(*call).map(|number| (number, column.count(number)));
+            let few = rare(counts);
+            let few =
+                few.map(|(number, count)| format!("{call:?} {number} of strangers: {count} times"));
+            numbers.extend(few);
+        }
+        numbers
+    }
+
     /// Numbers of the check that a comparison didn't give often enough for the first file, or for the second.
     fn rare_refusals_of_pairs(&self) -> Vec<String> {
         let mut numbers = Vec::new();
@@ -85,13 +98,16 @@ impl Tally {
         let stores = stores.map(|(name, count)| format!("stores with {name}: {count} times"));
         let pairs = pairs.map(|(name, count)| format!("pairs with {name}: {count} times"));
         let parts = parts.map(|(name, count)| format!("pairs asked for {name}: {count} times"));
+        let sessions = rare(self.session_kinds());
+        let sessions = sessions.map(|(name, count)| format!("sessions with {name}: {count} times"));
         let files = borders.chain(dumps).chain(stores);
-        files.chain(pairs).chain(parts).collect()
+        files.chain(pairs).chain(parts).chain(sessions).collect()
     }
 
     /// What the run falls short of.
     pub fn shortfalls(&self) -> Vec<String> {
         let mut missing = self.rare_numbers();
+        missing.extend(self.rare_strangers());
         missing.extend(self.rare_refusals_of_pairs());
         missing.extend(self.rare_kinds());
         let cuts = rare(CUTS.map(|cut| (cut, self.cut(cut))).into_iter());

@@ -8,6 +8,7 @@ use crate::dump_kinds;
 use crate::keys;
 use crate::outcome::Outcome;
 use crate::pair_kinds;
+use crate::session_kinds;
 use crate::show_kinds;
 use crate::store_kinds;
 use zs_library::refusals;
@@ -16,6 +17,24 @@ use zs_library::refusals;
 fn count<const N: usize>(counts: &mut [u64; N], kinds: &[bool; N]) {
     for (count, holds) in counts.iter_mut().zip(kinds) {
         *count += u64::from(*holds);
+    }
+}
+
+/// The steps of sessions that can refuse, in the order of their columns.
+pub const STEPS: [refusals::Call; 4] = [
+    refusals::Call::Begin,
+    refusals::Call::Add,
+    refusals::Call::Close,
+    refusals::Call::Finish,
+];
+
+/// Counts steps in their columns.
+fn add_each(columns: &mut [Column; 4], steps: &[(refusals::Call, u64)]) {
+    for (call, number) in steps {
+        let named = STEPS.iter().zip(columns.iter_mut());
+        for (_, column) in named.filter(|(step, _)| *step == call) {
+            *column.numbers.entry(*number).or_default() += 1;
+        }
     }
 }
 
@@ -61,8 +80,8 @@ impl Column {
 /// Counts of a run.
 #[derive(Debug, Clone, Default)]
 pub struct Tally {
-    /// Steps taken: files drawn for the readers, inputs drawn for the writers, dumps drawn for the imports, rows of texts, and rows of bytes
-    /// that may have stores.
+    /// Numbers drawn: files for the readers, inputs for the writers, dumps for the imports, sessions, rows of texts, and rows of bytes that may
+    /// have stores.
     pub steps: u64,
     /// Of the check.
     pub check: Column,
@@ -76,6 +95,12 @@ pub struct Tally {
     pub import: Column,
     /// Of the comparison.
     pub compare: Column,
+    /// Of the steps of sessions: begin, add, close and finish.
+    pub steps_of_sessions: [Column; 4],
+    /// Of such steps with sessions and outputs that no step handed back.
+    pub strangers: [Column; 4],
+    /// How often a session was started afresh.
+    pub afresh: u64,
     /// Comparisons in which the second file is refused, by number.
     pub compare_second: BTreeMap<u64, u64>,
     /// Records within the file, and others.
@@ -98,6 +123,8 @@ pub struct Tally {
     pub store_kinds: [u64; store_kinds::COUNT],
     /// Pairs of files by what they are like.
     pub pair_kinds: [u64; pair_kinds::COUNT],
+    /// Sessions by what their steps are like.
+    pub session_kinds: BTreeMap<&'static str, u64>,
     /// Pairs of files by what the parts asked for are like.
     pub show_kinds: [u64; show_kinds::COUNT],
     /// The lengths of name fields that came up, and how many dumps with records were imported with each.
@@ -138,6 +165,7 @@ impl Tally {
             Call::Store { .. } => return self.stores[parity] += 1,
             Call::Show { .. } => return self.shown[parity] += 1,
             Call::Cut { whole, .. } => return *self.cuts.entry((*whole, number)).or_default() += 1,
+            Call::Session { .. } => return self.add_steps(outcome),
         };
         *column.numbers.entry(number).or_default() += 1;
         let level = match accepted {
@@ -151,6 +179,13 @@ impl Tally {
         }
     }
 
+    /// Counts the steps of a session.
+    fn add_steps(&mut self, outcome: &Outcome) {
+        self.afresh += outcome.afresh;
+        add_each(&mut self.steps_of_sessions, &outcome.steps);
+        add_each(&mut self.strangers, &outcome.strangers);
+    }
+
     /// Counts what a drawing is like.
     pub fn add_kinds(&mut self, drawing: &Drawing) {
         count(&mut self.kinds, &drawing.kinds);
@@ -159,10 +194,20 @@ impl Tally {
         count(&mut self.store_kinds, &store_kinds::kinds(bytes, calls));
         count(&mut self.pair_kinds, &pair_kinds::kinds(bytes, calls));
         count(&mut self.show_kinds, &show_kinds::kinds(bytes, calls));
+        for name in session_kinds::kinds(calls) {
+            *self.session_kinds.entry(name).or_default() += 1;
+        }
+    }
+
+    /// The kinds of steps of sessions, and how many sessions have each.
+    pub fn session_kinds(&self) -> impl Iterator<Item = (&'static str, u64)> + '_ {
+        let count = |name| self.session_kinds.get(name).copied().unwrap_or(0);
+        session_kinds::names().map(move |name| (name, count(name)))
     }
 
     /// The calls that can refuse, and their counts.
-    pub fn columns(&self) -> [(refusals::Call, &Column); 6] {
+    pub fn columns(&self) -> [(refusals::Call, &Column); 10] {
+        let [begin, add, close, finish] = &self.steps_of_sessions;
         [
             (refusals::Call::Check, &self.check),
             (refusals::Call::Read, &self.read),
@@ -170,6 +215,10 @@ impl Tally {
             (refusals::Call::Write, &self.write),
             (refusals::Call::ImportSim, &self.import),
             (refusals::Call::Compare, &self.compare),
+            (refusals::Call::Begin, begin),
+            (refusals::Call::Add, add),
+            (refusals::Call::Close, close),
+            (refusals::Call::Finish, finish),
         ]
     }
 
@@ -186,7 +235,9 @@ impl Tally {
             self.stores,
             self.shown,
         ];
+        let strangers = self.strangers.iter();
+        let strangers = strangers.flat_map(|column| column.numbers.values());
         let others = others.iter().flatten().chain(self.cuts.values());
-        counted.chain(others).sum()
+        self.afresh + counted.chain(strangers).chain(others).sum::<u64>()
     }
 }

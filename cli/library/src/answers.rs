@@ -78,6 +78,40 @@ pub struct Compared {
     pub sum: i64,
 }
 
+/// A session of writing a file one record at a time: three figures, all 0 before a file is begun, and what the next step needs.
+#[repr(C)]
+#[derive(Clone, Copy, Debug, PartialEq, Eq)]
+pub struct Session {
+    /// How many records the file has.
+    pub records: u64,
+    /// The offset of the last record, 0 where there is none.
+    pub last: u64,
+    /// The offset of the next block, which is the end of all that stands in the output.
+    pub next: u64,
+    pub(crate) rest: [u64; 8],
+}
+
+/// Number and place of a refusal, both 0 without one, and the session after the step, which a refused one leaves as it was.
+#[repr(C)]
+#[derive(Clone, Copy, Debug, PartialEq, Eq)]
+pub struct Stepped {
+    /// The refusal, or 0.
+    pub number: u64,
+    /// Its place, or 0.
+    pub place: u64,
+    /// The session to hand to the next step.
+    pub session: Session,
+}
+
+/// Number and place of a refusal.
+#[derive(Clone, Copy, Debug, PartialEq, Eq)]
+pub struct Refused {
+    /// The refusal.
+    pub number: u64,
+    /// Its place, or 0.
+    pub place: u64,
+}
+
 /// How many records a data block holds, and how many entries an index block.
 #[derive(Clone, Copy, Debug, PartialEq, Eq)]
 pub struct Counts {

@@ -1,20 +1,25 @@
 //! Safe calls of the proved library, and [`map`], which is unsafe.
 //!
 //! Each call hands over slices as pointer and length, and the contracts of the functions that are called hold for every slice, so
-//! nothing is asked of the caller. Only [`map`] asks for a promise: that nobody changes the file. Beside this file, unsafe code stands
-//! where the command calls [`map`] (`cli/command/src/input.rs`), handles signals (`signals.rs` and `cut_files.rs` beside it) and asks
-//! for what `std` has no call for (`system.rs`), in the test of long files, in the example that measures ways of reading
+//! nothing is asked of the caller. Only [`map`] asks for a promise: that nobody changes the file. Beside this file and `session.rs`, unsafe
+//! code stands where the command calls [`map`] (`cli/command/src/input.rs`), handles signals (`signals.rs` and `cut_files.rs` beside it) and
+//! asks for what `std` has no call for (`system.rs`), in the test of long files, in the example that measures ways of reading
 //! (`cli/command/examples/reading.rs`), and in the benchmark (`bench/src/foreign.rs` and `loaded.rs`).
 #![warn(missing_docs)]
 #![deny(unsafe_op_in_unsafe_fn)]
 
 mod answers;
 pub mod refusals;
+mod session;
 
 use std::fs::File;
 use std::io;
 
-pub use answers::{Checked, Compared, Counts, Found, Part, Query, ReadAnswer, Shown, Written};
+pub use answers::{
+    Checked, Compared, Counts, Found, Part, Query, ReadAnswer, Refused, Session, Shown, Stepped,
+    Written,
+};
+pub use session::Writer;
 
 /// A file as a slice of bytes that the operating system reads when they are looked at.
 pub type Mapping = memmap2::Mmap;

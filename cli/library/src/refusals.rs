@@ -18,6 +18,14 @@ pub enum Call {
     ImportSim,
     /// [`compare`](crate::compare), which checks both files.
     Compare,
+    /// [`begin`](crate::Session::begin), of a session.
+    Begin,
+    /// [`add`](crate::Session::add), of a session.
+    Add,
+    /// [`close_block`](crate::Session::close_block), of a session.
+    Close,
+    /// [`finish`](crate::Session::finish), of a session.
+    Finish,
 }
 
 /// A refusal.
@@ -36,19 +44,34 @@ pub struct Row {
 }
 
 const READERS: &[Call] = &[Call::Check, Call::Read, Call::Search, Call::Compare];
-const EVERY: &[Call] = &[
+const WITH_METADATA: &[Call] = &[
     Call::Check,
     Call::Read,
     Call::Search,
     Call::Write,
     Call::Compare,
+    Call::Begin,
 ];
 const CHECK: &[Call] = &[Call::Check, Call::Compare];
 const SEARCH: &[Call] = &[Call::Search];
 const CHECK_AND_SEARCH: &[Call] = &[Call::Check, Call::Search, Call::Compare];
 const READ_AND_SEARCH: &[Call] = &[Call::Read, Call::Search];
-const WRITE: &[Call] = &[Call::Write];
-const OUTPUTS: &[Call] = &[Call::Write, Call::ImportSim];
+const WRITE_AND_STEPS: &[Call] = &[
+    Call::Write,
+    Call::Begin,
+    Call::Add,
+    Call::Close,
+    Call::Finish,
+];
+const WRITE_AND_ADD: &[Call] = &[Call::Write, Call::Add];
+const WRITE_AND_BEGIN: &[Call] = &[Call::Write, Call::Begin];
+const OUTPUTS: &[Call] = &[
+    Call::Write,
+    Call::ImportSim,
+    Call::Begin,
+    Call::Add,
+    Call::Finish,
+];
 const IMPORT_SIM: &[Call] = &[Call::ImportSim];
 const COMPARE: &[Call] = &[Call::Compare];
 
@@ -84,7 +107,7 @@ pub const TABLE: &[Row] = &[
         "make the archive again with the codec `none`"),
     row(8, READERS, ZERO, "the file's length isn't the one that its header states",
         COPY),
-    row(9, EVERY, ZERO, "the metadata isn't one JSON object from { to }, in UTF-8 and nested at most 64 deep",
+    row(9, WITH_METADATA, ZERO, "the metadata isn't one JSON object from { to }, in UTF-8 and nested at most 64 deep",
         "make the archive again with metadata that is one JSON object, with nothing before or after it"),
     row(10, READERS, BLOCK, "this block is cut off: its number or its bytes run past the end of the file",
         COPY_OR_MAKE),
@@ -122,11 +145,11 @@ pub const TABLE: &[Row] = &[
         "check the file, then give an opened list with a place for each data and index block"),
     row(27, READ_AND_SEARCH, ZERO, "more records match than there is room for",
         "ask for fewer records, or give a greater --max-results or a result list with two places per match"),
-    row(28, WRITE, ZERO, "the records to be written aren't each a length and as many bytes, or there are none",
-        "give one record or more, each after its length, a number in shortest form"),
-    row(29, WRITE, ZERO, "the records to be written are out of order",
+    row(28, WRITE_AND_STEPS, ZERO, "the records to be written aren't each a length and as many bytes, or there are none, or a session's step is out of turn",
+        "give one record or more, each after its length, a number in shortest form; in a session begin once, then add records, and finish last"),
+    row(29, WRITE_AND_ADD, ZERO, "the records to be written are out of order",
         "sort the records as unsigned bytes"),
-    row(30, WRITE, ZERO, "a count is out of range: 1 to 65535 records in a data block, 2 to 65535 entries in an index block",
+    row(30, WRITE_AND_BEGIN, ZERO, "a count is out of range: 1 to 65535 records in a data block, 2 to 65535 entries in an index block",
         "give counts within these ranges"),
     row(31, OUTPUTS, ZERO, "the output is too short, or the file would be longer than 1073741824 bytes (2^30)",
         "give a longer output, or put the records into several archives"),

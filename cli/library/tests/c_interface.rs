@@ -10,8 +10,8 @@ const CXX: &[&str] = &["-x", "c++", "-std=c++11"];
 const STRICT: &[&str] = &["-Wall", "-Wextra", "-Werror", "-pedantic"];
 const TWO_BLOCKS: &str = "crates/test_archives/data/two-blocks";
 
-/// What `interface.c` prints of the calls on the example with two data blocks, of writing its records, of importing a phonebook, of stores, and
-/// of comparing.
+/// What `interface.c` prints of the calls on the example with two data blocks, of writing its records, of importing a phonebook, of stores, of
+/// comparing, and of adding its records one by one.
 const CALLS: &str = "\
 check 0 0 3 4
 work 0 0 0 0
@@ -93,6 +93,27 @@ sum 1
 compare 35 0 0 0
 sum 0
 list 0 0 0 0 0 0 0 0 0 0 0 0 0 0
+begin 30 0 0 0 0
+begin 9 0 0 0 0
+begin 31 0 0 0 0
+begin 0 0 0 0 106
+begin 28 0 0 0 106
+close 28 0 0 0 106
+finish 28 0 0 0 106
+add 31 0 0 0 106
+add 0 0 1 109 118
+add 0 0 2 111 121
+add 0 0 3 124 134
+add 0 0 4 127 136
+add 29 0 4 127 136
+close 0 0 4 127 136
+close 28 0 4 127 136
+unfinished 2 0 0 0
+finish 31 0 4 127 136
+finish 0 0 4 127 154
+finish 28 0 4 127 154
+add 28 0 4 127 154
+the file 1 0 0 0
 null file 3 0 0 0
 work 0 0 0 0
 null file 3 0 0 0
@@ -132,6 +153,13 @@ sum 0
 null first 1 0 0 0
 null second 2 0 0 0
 null second 1 0 0 0
+null metadata 9 0 0 0 0
+null output 31 0 0 0 0
+null record 28 0 0 0 0
+null output 28 0 0 0 0
+null output 28 0 0 0 0
+begin 0 0 0 0 106
+null record 0 0 1 109 117
 ";
 
 /// What `lookup.c` prints.

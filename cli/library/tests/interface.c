@@ -55,6 +55,14 @@ static void print_part(const char *name, struct zs_part part)
     print_four(name, part.offset, part.length, 0, 0);
 }
 
+/* The refusal, and the figures of the session. */
+static zs_session print_stepped(const char *name, struct zs_stepped answer)
+{
+    const uint64_t fields[5] = {answer.number, answer.place, answer.session.records, answer.session.last, answer.session.next};
+    print_list(name, fields, 5);
+    return answer.session;
+}
+
 static void print_shown(const char *name, struct zs_shown part)
 {
     print_four(name, part.which, part.offset, part.length, 0);
@@ -215,6 +223,36 @@ static void call_compare(void)
     print_list("list", list, 14);
 }
 
+/* Adds the records of the example one by one, in an output that begins with room for the header alone and is lengthened by zeros; among these
+ * steps some that are refused. */
+static void call_session(void)
+{
+    const char *records[4] = {"a", "b\xff", "b\xff", "c"};
+    const uint8_t *metadata = (const uint8_t *)"{}";
+    memset(output, 7, sizeof output);
+    zs_session session = zs_session_afresh(output, 105);
+    session = print_stepped("begin", zs_session_begin(session, metadata, 2, 0, 2, output, 105));
+    session = print_stepped("begin", zs_session_begin(session, metadata, 1, 2, 2, output, 105));
+    session = print_stepped("begin", zs_session_begin(session, metadata, 2, 2, 2, output, 105));
+    memset(output + 105, 0, sizeof output - 105);
+    session = print_stepped("begin", zs_session_begin(session, metadata, 2, 2, 2, output, 106));
+    session = print_stepped("begin", zs_session_begin(session, metadata, 2, 2, 2, output, 106));
+    session = print_stepped("close", zs_session_close(session, output, 106));
+    session = print_stepped("finish", zs_session_finish(session, output, 106));
+    session = print_stepped("add", zs_session_add(session, (const uint8_t *)"a", 1, output, 117));
+    for (size_t i = 0; i < 4; i++)
+        session = print_stepped("add", zs_session_add(session, (const uint8_t *)records[i], strlen(records[i]), output, OUTPUT));
+    session = print_stepped("add", zs_session_add(session, (const uint8_t *)"b", 1, output, OUTPUT));
+    session = print_stepped("close", zs_session_close(session, output, OUTPUT));
+    session = print_stepped("close", zs_session_close(session, output, OUTPUT));
+    print_checked("unfinished", zs_check(output, (size_t)session.next, work, WORK));
+    session = print_stepped("finish", zs_session_finish(session, output, 153));
+    session = print_stepped("finish", zs_session_finish(session, output, OUTPUT));
+    session = print_stepped("finish", zs_session_finish(session, output, OUTPUT));
+    session = print_stepped("add", zs_session_add(session, (const uint8_t *)"c", 1, output, OUTPUT));
+    print_four("the file", session.next == length && memcmp(output, file, length) == 0, 0, 0, 0);
+}
+
 /* Every pointer is NULL once. */
 static void call_with_null(void)
 {
@@ -255,6 +293,16 @@ static void call_with_null(void)
     print_shown("null first", zs_show(NULL, 0, file, length, 1, 0, 0));
     print_shown("null second", zs_show(file, length, NULL, 0, 2, 0, 0));
     print_shown("null second", zs_show(file, length, NULL, 0, 2, 0, 1));
+
+    zs_session session = zs_session_afresh(NULL, 0);
+    session = print_stepped("null metadata", zs_session_begin(session, NULL, 0, 1, 2, output, OUTPUT));
+    session = print_stepped("null output", zs_session_begin(session, (const uint8_t *)"{}", 2, 1, 2, NULL, 0));
+    session = print_stepped("null record", zs_session_add(session, NULL, 0, NULL, 0));
+    session = print_stepped("null output", zs_session_close(session, NULL, 0));
+    session = print_stepped("null output", zs_session_finish(session, NULL, 0));
+    session = zs_session_afresh(output, OUTPUT);
+    session = print_stepped("begin", zs_session_begin(session, (const uint8_t *)"{}", 2, 1, 2, output, OUTPUT));
+    print_stepped("null record", zs_session_add(session, NULL, 0, output, OUTPUT));
 }
 
 /* Version, and the refusals of a file without its last byte and of a short list by their names. */
@@ -281,6 +329,7 @@ int main(int count, char **words)
     import_and_check();
     call_store();
     call_compare();
+    call_session();
     call_with_null();
     print_words();
     return 0;

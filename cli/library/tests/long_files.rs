@@ -1,7 +1,9 @@
 //! Refusals 1 and 31 at the limit of length: 1 over sparse files that are mapped and never written, 31 over outputs that are longer. The
 //! import has no such limit.
 use std::fs::OpenOptions;
-use zs_library::{check, compare, import_sim, map, read, search, write, Counts, Query};
+use zs_library::{
+    check, compare, import_sim, map, read, search, write, Counts, Query, Refused, Writer,
+};
 
 const LONGEST: u64 = 1 << 30;
 
@@ -95,6 +97,54 @@ fn the_longest_file_is_written() {
     let written = write(b"{}", &input_for(LONGEST), COUNTS, short);
     assert_eq!((written.number, written.length), (31, 0));
     assert!(is_zeros(short));
+}
+
+const NO_ROOM: Refused = Refused {
+    number: 31,
+    place: 0,
+};
+
+/// A file that is begun in an output longer than a file may be, and a record of zero bytes with which its only data block ends at `end`. Beside
+/// the record the block has its number of five bytes, the level, the record's number of five bytes, and the CRC.
+fn begun_for(end: u64) -> (Writer, Vec<u8>) {
+    let mut writer = Writer::on(vec![7; LONGEST as usize + 1]);
+    assert_eq!(writer.begin(b"{}", COUNTS), Ok(()));
+    let record = end - 106 - 5 - 1 - 5 - 8;
+    (writer, vec![0; record as usize])
+}
+
+#[test]
+fn a_session_has_an_output_longer_than_the_longest_file_but_not_the_file() {
+    let (mut writer, record) = begun_for(LONGEST + 1);
+    assert_eq!(writer.add(&record), Err(NO_ROOM));
+    assert_eq!((writer.records(), writer.next_block()), (0, 106));
+    assert!(is_zeros(&writer.output()[106..]));
+    assert_eq!(writer.add(b""), Ok(()));
+    assert_eq!(writer.add(&record), Err(NO_ROOM));
+    assert_eq!((writer.records(), writer.next_block()), (1, 117));
+    assert!(is_zeros(&writer.output()[117..]));
+    assert_eq!(writer.finish(), Ok(()));
+    assert_eq!(check(writer.standing(), &mut [7; 2]).number, 0);
+}
+
+/// The data blocks alone are as long as a file may be, so that no index fits.
+#[test]
+#[ignore = "checksums over 2 GiB and more"]
+fn a_session_up_to_the_longest_file() {
+    let (mut writer, record) = begun_for(LONGEST);
+    assert_eq!(writer.add(&record), Ok(()));
+    assert_eq!((writer.records(), writer.next_block()), (1, LONGEST));
+    assert_eq!(writer.add(&record), Err(NO_ROOM));
+    let before = writer.clone();
+    assert_eq!(writer.finish(), Err(NO_ROOM));
+    assert!(writer == before);
+    // The index block has 17 bytes: its one key is empty.
+    writer.start_afresh();
+    assert_eq!(writer.begin(b"{}", COUNTS), Ok(()));
+    assert_eq!(writer.add(&record[17..]), Ok(()));
+    assert_eq!(writer.finish(), Ok(()));
+    assert_eq!(writer.next_block(), LONGEST);
+    assert_eq!(check(writer.standing(), &mut [7; 2]).number, 0);
 }
 
 /// Equal records with the longest names, of which ours take 257 bytes each.

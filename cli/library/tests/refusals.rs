@@ -71,13 +71,18 @@ fn zs_h_has_a_name_and_the_sentence_for_each_number() {
 fn readme_says_which_call_gives_which_numbers() {
     let words = |call| in_words(&numbers(call).collect::<Vec<_>>());
     let due = format!(
-        "The check gives {}, reading front to back {}, the search {}, writing {}, importing a SIM phonebook {}, comparing {}.",
+        "The check gives {}, reading front to back {}, the search {}, writing {}, importing a SIM phonebook {}, comparing {}; \
+         of a session's steps begin {}, add {}, closing a block {}, and finish {}.",
         words(Call::Check),
         words(Call::Read),
         words(Call::Search),
         words(Call::Write),
         words(Call::ImportSim),
-        words(Call::Compare)
+        words(Call::Compare),
+        words(Call::Begin),
+        words(Call::Add),
+        words(Call::Close),
+        words(Call::Finish)
     );
     assert!(refusals_section().contains(&due), "{due}");
 }

@@ -5,6 +5,7 @@
 //!
 //! * [`reader`] checks, reads and searches files, and hands back records.
 //! * [`writer`] writes files from metadata and records.
+//! * [`session`] writes files one record at a time.
 //! * [`stores`] gives the stores by which a finished file comes to a disk, and what a cut leaves of them.
 //! * [`sim`] imports SIM phonebooks: records for the writer.
 //! * [`compare`] lists what differs between two files, and hands back the records listed.
@@ -22,6 +23,7 @@ mod json;
 pub mod maker;
 pub mod reader;
 pub mod samples;
+pub mod session;
 pub mod sim;
 pub mod stores;
 pub mod writer;

@@ -12,7 +12,7 @@ use crate::reader::{is_metadata, number};
 
 const LONGEST_FILE: usize = 1 << 30;
 const GOOD_MAGIC: &[u8] = b"\xabZSfiLe\x01";
-const CODEC_NONE: &[u8] = b"none\0\0\0\0\0\0\0\0\0\0\0\0";
+pub(crate) const CODEC_NONE: &[u8] = b"none\0\0\0\0\0\0\0\0\0\0\0\0";
 
 /// Bytes of a header whose metadata are empty.
 const HEADER: usize = 104;
@@ -49,8 +49,7 @@ pub fn write_by(
     counts: Counts,
     room: usize,
 ) -> Result<Vec<u8>, u64> {
-    let per_block = in_range(counts.per_block, 1..=65_535)?;
-    let per_index = in_range(counts.per_index, 2..=65_535)?;
+    let (per_block, per_index) = counts_in_range(counts)?;
     if !is_metadata(metadata) {
         return Err(9);
     }
@@ -59,11 +58,21 @@ pub fn write_by(
     if records.windows(2).any(|pair| pair[0] > pair[1]) {
         return Err(29);
     }
-    let file = lay_out(rule, metadata, &records, per_block, per_index);
-    if file.len() > room.min(LONGEST_FILE) {
-        return Err(31);
-    }
-    Ok(file)
+    let blocks: Vec<&[&[u8]]> = records.chunks(per_block).collect();
+    fitting(lay_out(rule, metadata, &blocks, per_index), room)
+}
+
+/// 31: bytes that don't fit in an output of `room` bytes, or are more than a file may have.
+pub(crate) fn fitting(bytes: Vec<u8>, room: usize) -> Result<Vec<u8>, u64> {
+    let fits = bytes.len() <= room.min(LONGEST_FILE);
+    Some(bytes).filter(|_| fits).ok_or(31)
+}
+
+/// Both counts, or 30: one is out of range.
+pub(crate) fn counts_in_range(counts: Counts) -> Result<(usize, usize), u64> {
+    let per_block = in_range(counts.per_block, 1..=65_535)?;
+    let per_index = in_range(counts.per_index, 2..=65_535)?;
+    Ok((per_block, per_index))
 }
 
 /// 30: a count out of range.
@@ -87,7 +96,7 @@ fn parse(input: &[u8]) -> Option<Vec<&[u8]>> {
 }
 
 /// A block that stands in the file, as an entry names it.
-struct Named<'a> {
+pub(crate) struct Named<'a> {
     key: &'a [u8],
     offset: u64,
     size: u64,
@@ -116,24 +125,21 @@ pub fn whole_record<'a>(_before: Option<&[u8]>, first: &'a [u8]) -> &'a [u8] {
     first
 }
 
-/// The whole file. An entry over an index block has the key of the block's own first entry.
-fn lay_out(
+/// The whole file of these data blocks, each one record or more. An entry over an index block has the key of the block's own first entry.
+pub(crate) fn lay_out(
     rule: KeyRule,
     metadata: &[u8],
-    records: &[&[u8]],
-    per_block: usize,
+    blocks: &[&[&[u8]]],
     per_index: usize,
 ) -> Vec<u8> {
     // The header's place; what it holds is known when all blocks stand.
     let mut file = vec![0; HEADER + metadata.len()];
-    let payloads: Vec<Vec<u8>> = records.chunks(per_block).map(data_payload).collect();
-    let key = |first: usize| {
-        rule(
-            first.checked_sub(1).map(|last| records[last]),
-            records[first],
-        )
-    };
-    let keys = (0..records.len()).step_by(per_block).map(key);
+    let payloads: Vec<Vec<u8>> = blocks.iter().map(|block| data_payload(block)).collect();
+    let lasts = blocks.iter().map(|block| block.last().copied());
+    let before = std::iter::once(None).chain(lasts);
+    let keys = before
+        .zip(blocks)
+        .map(|(before, block)| rule(before, block[0]));
     let mut row: Vec<Named> = keys
         .zip(&payloads)
         .map(|(key, payload)| put_block(&mut file, 0, payload, key))
@@ -153,7 +159,12 @@ fn lay_out(
 }
 
 /// Puts a block at the end of the file.
-fn put_block<'a>(file: &mut Vec<u8>, level: u8, payload: &[u8], key: &'a [u8]) -> Named<'a> {
+pub(crate) fn put_block<'a>(
+    file: &mut Vec<u8>,
+    level: u8,
+    payload: &[u8],
+    key: &'a [u8],
+) -> Named<'a> {
     let covered = [&[level], payload].concat();
     let block = [
         &encode(covered.len() as u64),
@@ -170,7 +181,8 @@ fn put_block<'a>(file: &mut Vec<u8>, level: u8, payload: &[u8], key: &'a [u8]) -
     }
 }
 
-fn data_payload(records: &[&[u8]]) -> Vec<u8> {
+/// Records, each after its length.
+pub(crate) fn data_payload(records: &[&[u8]]) -> Vec<u8> {
     let strings: Vec<Vec<u8>> = records.iter().map(|record| string(record)).collect();
     strings.concat()
 }

@@ -3,8 +3,11 @@
 use std::collections::{BTreeMap, BTreeSet};
 
 use crate::support::tree::faults;
-use zs_reference::corpus::{published_file, Call, Case, Claim, Corpus, File, ALL_CALLS};
+use zs_reference::corpus::{
+    decode_steps, encode_steps, published_file, Call, Case, Claim, Corpus, File, ALL_CALLS,
+};
 use zs_reference::reader::check;
+use zs_reference::session::Step;
 use zs_reference::sim::import;
 use zs_reference::writer::{write, Counts};
 
@@ -24,6 +27,13 @@ fn holds(file: &File) -> bool {
         Claim::Dump(name_length, number) => {
             let imported = import(&file.bytes, name_length, usize::MAX);
             imported.err().unwrap_or(0) == number
+        }
+        Claim::Steps => {
+            let steps: Vec<Step> = decode_steps(&file.bytes)
+                .into_iter()
+                .map(|(_, step)| step)
+                .collect();
+            encode_steps(&steps) == file.bytes
         }
     }
 }
@@ -60,7 +70,8 @@ fn each_refusal_has_two_files() {
             Claim::Only(number, _) => *times.entry(number).or_default() += 1,
             Claim::First(number @ (21 | 23), _) => *times.entry(number).or_default() += 1,
             Claim::First(_, _) => several += 1,
-            Claim::Sound | Claim::Nothing | Claim::Records(_) | Claim::Dump(..) => {}
+            Claim::Sound | Claim::Nothing => {}
+            Claim::Records(_) | Claim::Dump(..) | Claim::Steps => {}
         }
     }
     for number in (2..=17).chain(19..=25) {

@@ -7,6 +7,8 @@ mod examples;
 mod json;
 mod opening;
 mod samples;
+mod session;
+mod session_cases;
 mod sim;
 mod sim_drawn;
 mod stores;

@@ -1,4 +1,4 @@
-//! Compares the proved library with the independent reader, writer, import and comparison until it is stopped, and saves what differs.
+//! Compares the proved library with the independent reader, writer, session, import and comparison until it is stopped, and saves what differs.
 //!
 //!     fuzz [--seed N] [--cases N]
 //!

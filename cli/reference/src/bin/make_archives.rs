@@ -1,8 +1,8 @@
-//! `make-archives DIR [read] [check] [search] [record] [write] [import_sim] [store] [compare] [shown]`
+//! `make-archives DIR [read] [check] [search] [record] [write] [import_sim] [store] [compare] [shown] [session]`
 //!
 //! Writes the corpus: `DIR/data/*` are the files, `DIR/data/cases`, `DIR/data/more-cases`,
-//! `DIR/data/write-cases`, `DIR/data/import-cases` and `DIR/data/compare-cases` the cases of the calls
-//! named (all nine if none is), and `DIR/stdout` the lines due. The same calls always give the same bytes.
+//! `DIR/data/write-cases`, `DIR/data/import-cases`, `DIR/data/session-cases` and `DIR/data/compare-cases` the cases of
+//! the calls named (all ten if none is), and `DIR/stdout` the lines due. The same calls always give the same bytes.
 
 use std::error::Error;
 use std::fs;
@@ -12,7 +12,7 @@ use std::process::ExitCode;
 use zs_reference::corpus::{Call, Corpus, ALL_CALLS};
 
 const USAGE: &str =
-    "usage: make-archives DIR [read] [check] [search] [record] [write] [import_sim] [store] [compare] [shown]";
+    "usage: make-archives DIR [read] [check] [search] [record] [write] [import_sim] [store] [compare] [shown] [session]";
 
 fn main() -> ExitCode {
     let arguments: Vec<String> = std::env::args().skip(1).collect();

@@ -21,10 +21,12 @@ pub enum Call {
     Compare,
     /// Handing back a part of the file or of a second one.
     Shown,
+    /// Taking the steps of a session that the file holds.
+    Session,
 }
 
 /// Every call, in the order of their numbers.
-pub const ALL_CALLS: [Call; 9] = [
+pub const ALL_CALLS: [Call; 10] = [
     Call::Read,
     Call::Check,
     Call::Search,
@@ -34,6 +36,7 @@ pub const ALL_CALLS: [Call; 9] = [
     Call::Store,
     Call::Compare,
     Call::Shown,
+    Call::Session,
 ];
 
 impl Call {
@@ -49,6 +52,7 @@ impl Call {
             Call::Store => 7,
             Call::Compare => 8,
             Call::Shown => 9,
+            Call::Session => 10,
         }
     }
 
@@ -64,12 +68,16 @@ impl Call {
             Call::Store => "store",
             Call::Compare => "compare",
             Call::Shown => "shown",
+            Call::Session => "session",
         }
     }
 
     /// Whether the call is lent lists.
     pub fn has_lists(self) -> bool {
-        !matches!(self, Call::Write | Call::ImportSim | Call::Shown)
+        !matches!(
+            self,
+            Call::Write | Call::ImportSim | Call::Shown | Call::Session
+        )
     }
 
     /// Whether the call is one on two files.

@@ -110,7 +110,7 @@ impl Case {
         out
     }
 
-    /// The line due for the case, given the bytes of its file, and those of the second one where it has two.
+    /// The line due for the case, or one for each step of a session, given the bytes of its file, and those of the second one where it has two.
     pub fn line(&self, file: &[u8], second: &[u8]) -> String {
         let answer = match self.call {
             Call::Read => self.read_line(file),
@@ -122,6 +122,7 @@ impl Case {
             Call::Store => self.store_line(file),
             Call::Compare => self.compare_line(file, second),
             Call::Shown => self.shown_line(file, second),
+            Call::Session => return self.session_lines(file),
         };
         self.line_with(&answer)
     }

@@ -20,13 +20,16 @@ mod order_faults;
 mod pair;
 mod payload_faults;
 mod queried;
+mod sessions;
 mod sound;
+mod steps;
 mod stored;
 mod two_faults;
 mod written;
 
 pub use call::{Call, ALL_CALLS};
 pub use case::Case;
+pub use steps::{decode_steps, encode_steps};
 pub use written::published_file;
 
 use std::collections::HashMap;
@@ -46,6 +49,8 @@ const MORE_CASES: &str = "more-cases";
 const WRITE_CASES: &str = "write-cases";
 /// The file that holds those of the import.
 const IMPORT_CASES: &str = "import-cases";
+/// The file that holds those of sessions.
+const SESSION_CASES: &str = "session-cases";
 /// The file that holds those on two files.
 const COMPARE_CASES: &str = "compare-cases";
 
@@ -64,6 +69,8 @@ pub enum Claim {
     Records(u64),
     /// A dump for the import. With name fields of this length, and with room, it gives this number.
     Dump(u64, u64),
+    /// The steps of a session.
+    Steps,
 }
 
 /// A named file of the corpus.
@@ -105,6 +112,7 @@ impl Corpus {
         written::add(&mut corpus);
         imported::add(&mut corpus);
         compared::add(&mut corpus);
+        sessions::add(&mut corpus);
         corpus.gather();
         corpus
     }
@@ -132,15 +140,17 @@ impl Corpus {
     }
 
     /// The files with the cases, by name, in the order in which they are run.
-    pub fn case_files(&self) -> [(&'static str, Vec<u8>); 5] {
+    pub fn case_files(&self) -> [(&'static str, Vec<u8>); 6] {
         let (mut cases, mut more) = (Vec::new(), Vec::new());
-        let (mut writes, mut imports, mut pairs) = (Vec::new(), Vec::new(), Vec::new());
+        let (mut writes, mut imports) = (Vec::new(), Vec::new());
+        let (mut sessions, mut pairs) = (Vec::new(), Vec::new());
         for case in &self.cases {
             let encoded = case.encode();
             let fits = more.is_empty() && cases.len() + encoded.len() <= LONGEST_DATA;
             match case.call {
                 Call::Write => writes.extend(encoded),
                 Call::ImportSim => imports.extend(encoded),
+                Call::Session => sessions.extend(encoded),
                 Call::Compare | Call::Shown => pairs.extend(encoded),
                 _ if fits => cases.extend(encoded),
                 _ => more.extend(encoded),
@@ -151,11 +161,12 @@ impl Corpus {
             (MORE_CASES, more),
             (WRITE_CASES, writes),
             (IMPORT_CASES, imports),
+            (SESSION_CASES, sessions),
             (COMPARE_CASES, pairs),
         ]
     }
 
-    /// The output due, one line for each case.
+    /// The output due, one line for each case, and of a session one for each step.
     pub fn lines(&self) -> String {
         let files = self.files.iter();
         let bytes: HashMap<&str, &[u8]> = files
@@ -201,6 +212,14 @@ impl Corpus {
 /// Whether a name may stand in a case.
 fn is_good_name(name: &str) -> bool {
     let good = |byte: u8| matches!(byte, b'a'..=b'z' | b'0'..=b'9' | b'_' | b'-');
-    let taken = [CASES, MORE_CASES, WRITE_CASES, IMPORT_CASES, COMPARE_CASES].contains(&name);
+    let taken = [
+        CASES,
+        MORE_CASES,
+        WRITE_CASES,
+        IMPORT_CASES,
+        SESSION_CASES,
+        COMPARE_CASES,
+    ];
+    let taken = taken.contains(&name);
     (1..=LONGEST_NAME).contains(&name.len()) && !taken && name.bytes().all(good)
 }
