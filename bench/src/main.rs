@@ -44,7 +44,7 @@ use others::Programs;
 use report::Report;
 use sections::{
     block_sizes, checking, checksums, comparing, crc_lengths, earlier_build, earlier_library,
-    growth, importing, keys, lookups, metadata, profile, writing, Setting, FULL, QUICK,
+    growth, importing, keys, lookups, metadata, profile, sessions, writing, Setting, FULL, QUICK,
 };
 use shapes::Shape;
 
@@ -151,6 +151,7 @@ fn measure(arguments: Arguments, folder: &Path) -> (Report, [Panel; 2]) {
     drop(archive);
     metadata::measure(&setting, &mut report);
     writing::measure(&setting, &mut report);
+    sessions::measure(&setting, &mut report);
     importing::measure(&setting, &mut report);
     comparing::measure(&setting, &mut report);
     earlier_build::measure(&setting, &file, &mut report);
