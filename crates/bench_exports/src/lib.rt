@@ -5,9 +5,9 @@ ghost use Rattle.crc64.specs.Crc64.{crc64};
 ghost use Rattle.payload.specs.Payload.{recordsAt, entriesAt};
 ghost use Rattle.payload.specs.Answers.{payloadSaid};
 ghost use Rattle.query.specs.Query.{queryOf};
-ghost use Rattle.matching.specs.Matching.{matching, recordsFrom};
 ghost use Rattle.matching.specs.ResultList.{Stored, putAll};
 ghost use Rattle.bench_exports.specs.Digest.{digestStart};
+ghost use Rattle.bench_exports.specs.Matches.{matchesIn};
 use payload::PayloadOutcome;
 
 const LONGEST: usize = 1073741824;
@@ -68,7 +68,7 @@ pub extern "C" fn bench_entries(bytes: &[u8]) -> u64
     refusal_number(payload::entries_at(bytes, 0))
 }
 
-// How many records of a data block's payload match; those for which the list has room are put on it.
+// How many records of a data block's payload match; those for which the list has room are put on it. None for more than 2^30 bytes.
 #[no_mangle]
 pub extern "C" fn bench_matches(
     bytes: &[u8],
@@ -80,7 +80,10 @@ pub extern "C" fn bench_matches(
 ) -> u64
     ensures { λ r. ⌜ _≡_ {A = Stored} (record { count = r; list = now (results .exit) })
         (putAll (record { count = 0; list = now (results .entry) })
-        (matching (queryOf (now (start .entry)) «stop_given» (now (stop .entry)) (now (prefix .entry))) (recordsFrom 0 (now (bytes .entry)) 0))) ⌝ }
+        (matchesIn (queryOf (now (start .entry)) «stop_given» (now (stop .entry)) (now (prefix .entry))) (now (bytes .entry)))) ⌝ }
 {
+    if bytes.len() > LONGEST {
+        return 0;
+    }
     matching::collect_records(bytes, 0, start, stop_given, stop, prefix, results, 0) as u64
 }

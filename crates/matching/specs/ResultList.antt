@@ -1,21 +1,26 @@
 -- The result list: what a match is on it, how many places matches take, and how one is put there. Nothing else says so.
-use Prim.Native.Nat.{ℕ, _+_, _*_}
-use mathlib.Core.List.{List, [], _∷_, flatMap}
+use Prim.Native.Nat.{ℕ, _+_}
+use mathlib.Core.List.{List, [], _∷_, map}
 use lib.ListN.{length}
-use Rattle.output_list.specs.OutputList.{withPair}
+use Rattle.output_list.specs.OutputList.{withNumber}
 use Rattle.payload.specs.Payload.{Text}
+use Rattle.matching.specs.Packing.{packed}
 
 -- the places that n matches take
 unfoldable pub roomFor : ℕ → ℕ
-roomFor n = 2 * n
+roomFor n = n
 
--- two numbers for each match: the offset of the record's first byte, and its length
+-- the number of a match
+unfoldable pub matchNumber : Text → ℕ
+matchNumber m = packed (m .at) (length (m .bytes))
+
+-- one number for each match
 unfoldable pub numbersOf : List Text → List ℕ
-numbersOf ms = flatMap (λ m. m .at ∷ length (m .bytes) ∷ []) ms
+numbersOf ms = map matchNumber ms
 
 -- the list with a record put after `count` matches, where there is room, or as it is
 unfoldable pub withRecord : List ℕ → (count offset length : ℕ) → List ℕ
-withRecord list count offset length = withPair list count offset length
+withRecord list count offset length = withNumber list count (packed offset length)
 
 -- how many matches there were, and the list
 pub record Stored : Type 0 where

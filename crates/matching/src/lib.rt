@@ -5,6 +5,7 @@ ghost use lib.ListN.{length};
 ghost use mathlib.Core.Path.{_≡_};
 ghost use Rattle.query.specs.Query.{queryOf};
 ghost use Rattle.matching.specs.Matching.{matching, recordsFrom};
+ghost use Rattle.matching.specs.Packing.{packed};
 ghost use Rattle.matching.specs.ResultList.{roomFor, withRecord, Stored, putAll};
 use part::Part;
 use payload::TextOutcome;
@@ -14,15 +15,23 @@ use payload::text_at;
 pub fn has_room(results: &[u64], n: usize) -> bool
     ensures { λ r. ⌜ r ≡ leb (roomFor n) (length (now (results .entry))) ⌝ }
 {
-    n <= results.len() / 2
+    n <= results.len()
 }
 
-// Puts a record after `count` matches, where there is room; answers whether there was.
-pub fn put_match(results: &mut [u64], count: usize, found: Part) -> bool
-    ensures { λ r. ⌜ (r ≡ leb (roomFor (count + 1)) (length (now (results .entry))))
-        × (now (results .exit) ≡ withRecord (now (results .entry)) count (found .offset) (found .length)) ⌝ }
+// A match as one number: its offset times 2^32, plus its length.
+fn pack(found: Part) -> u64
+    requires { ⌜ (found .offset < 2 ^ 32) × (found .length < 2 ^ 32) ⌝ }
+    ensures { λ r. ⌜ r ≡ packed (found .offset) (found .length) ⌝ }
 {
-    output_list::put_pair(results, count, found.offset as u64, found.length as u64)
+    found.offset as u64 * 4294967296 + found.length as u64
+}
+
+// Puts a record after `count` matches, where there is room.
+fn put_match(results: &mut [u64], count: usize, found: Part)
+    requires { ⌜ (found .offset < 2 ^ 32) × (found .length < 2 ^ 32) ⌝ }
+    ensures { λ _. ⌜ now (results .exit) ≡ withRecord (now (results .entry)) count (found .offset) (found .length) ⌝ }
+{
+    output_list::put(results, count, pack(found));
 }
 
 // Puts the matching records from an offset to the end of `s` after `count` matches; answers how many matches there are then.
@@ -36,7 +45,7 @@ pub fn collect_records(
     results: &mut [u64],
     count: usize,
 ) -> usize
-    requires { ⌜ count + (length (now s) - from) < 2 ^ 64 ⌝ }
+    requires { ⌜ (count + (length (now s) - from) < 2 ^ 64) × (length (now s) < 2 ^ 32) ⌝ }
     ensures { λ r. ⌜ ((place : ℕ) → _≡_ {A = Stored} (record { count = r; list = now (results .exit) })
         (putAll (record { count = count; list = now (results .entry) })
         (matching (queryOf (now (start .entry)) «stop_given» (now (stop .entry)) (now (prefix .entry))) (recordsFrom place (now (s .entry)) from)))) ⌝ }

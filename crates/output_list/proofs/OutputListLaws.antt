@@ -3,16 +3,16 @@
 use mathlib.Core.Path.{_≡_, refl, sym, ap, _∙_}
 use mathlib.Core.Bool.{Bool, true, false, cond}
 use mathlib.Core.List.{List, [], _∷_, _++_, append-nil}
-use Prim.Native.Nat.{ℕ, suc, _+_, _-_, _*_, _/_, _≤_, _<_}
+use Prim.Native.Nat.{ℕ, suc, _+_, _-_, _≤_, _<_}
 use native.Mathlib.Nat.{sub-zero}
 use native.Mathlib.Omega.{arith}
 use borrow.Author.Fill.{fill-more}
-use borrow.Author.Tests.{le-leb, lt-leb, lt-ltb, le-ltb}
-use lib.Dec.{leb, ltb}
+use borrow.Author.Tests.{lt-ltb, le-ltb}
+use lib.Dec.{ltb}
 use lib.ListN.{length, getD, set, take, drop, replicate, length-append, length-replicate, length-set, List·getD-append}
 use lib.Seq.{drop-length, take-append-seam, drop-append-seam, set-append-seam, getD-append-add, append-snoc}
 use Rattle.lists.proofs.ListsLaws.{zeros-at}
-use Rattle.output_list.specs.OutputList.{padded, zeros, hasPlace, withNumber, withNumbers, hasRoom, withPair}
+use Rattle.output_list.specs.OutputList.{padded, zeros, hasPlace, withNumber, withNumbers}
 
 -- ---- zeros
 
@@ -171,45 +171,3 @@ withNumbers-padded room l count (n ∷ ns) e h =
     ap (λ (list : List ℕ). withNumbers list (count + 1) ns) (withNumber-padded room l count n e (omega arith))
     ∙ withNumbers-padded room (l ++ (n ∷ [])) (count + 1) ns (length-append l (n ∷ []) ∙ ap (λ (k : ℕ). k + 1) e) (omega arith)
     ∙ ap (padded room) (append-snoc l n ns)
-
--- ---- pairs
-
-pub room-none : (list : List ℕ) (count first second : ℕ) → length list / 2 ≤ count → (false ≡ hasRoom list count) × (list ≡ withPair list count first second)
-unfolding hasRoom withPair
-room-none list count first second h =
-    let full : leb (2 * count + 2) (length list) ≡ false = lt-leb (2 * count + 2) (length list) (omega arith) in
-    (sym full, sym (ap (λ (b : Bool). cond b (set (set list (2 * count) first) (2 * count + 1) second) list) full))
-
-pub room-some : (list : List ℕ) (count first second : ℕ) → count < length list / 2
-    → (true ≡ hasRoom list count) × (set (set list (2 * count) first) (2 * count + 1) second ≡ withPair list count first second)
-unfolding hasRoom withPair
-room-some list count first second h =
-    let room : leb (2 * count + 2) (length list) ≡ true = le-leb (2 * count + 2) (length list) (omega arith) in
-    (sym room, sym (ap (λ (b : Bool). cond b (set (set list (2 * count) first) (2 * count + 1) second) list) room))
-
--- a pair after pairs
-pub withPair-padded : (room : ℕ) (l : List ℕ) (count first second : ℕ) → length l ≡ 2 * count → 2 * count + 2 ≤ room
-    → withPair (padded room l) count first second ≡ padded room (l ++ (first ∷ second ∷ []))
-withPair-padded room l count first second e h =
-    let long : length (padded room l) ≡ room = length-padded room l (omega arith) in
-    let more : length (l ++ (first ∷ [])) ≡ 2 * count + 1 = length-append l (first ∷ []) ∙ ap (λ (n : ℕ). n + 1) e in
-    let put₁ : set (padded room l) (2 * count) first ≡ padded room (l ++ (first ∷ [])) =
-    ap (λ (n : ℕ). set (padded room l) n first) (sym e) ∙ set-padded room l first (omega arith) in
-    let put₂ : set (padded room (l ++ (first ∷ []))) (2 * count + 1) second ≡ padded room ((l ++ (first ∷ [])) ++ (second ∷ [])) =
-    ap (λ (n : ℕ). set (padded room (l ++ (first ∷ []))) n second) (sym more) ∙ set-padded room (l ++ (first ∷ [])) second (omega arith) in
-    sym (room-some (padded room l) count first second (omega arith) .1)
-    ∙ ap (λ (list : List ℕ). set list (2 * count + 1) second) put₁
-    ∙ put₂
-    ∙ ap (padded room) (append-snoc l first (second ∷ []))
-
--- where there is no room nothing is stored
-pub withPair-full : (list : List ℕ) (count first second : ℕ) → length list < 2 * count + 2 → withPair list count first second ≡ list
-withPair-full list count first second h = sym (room-none list count first second (omega arith) .1)
-
-pub length-withPair : (list : List ℕ) (count first second : ℕ) → length (withPair list count first second) ≡ length list
-unfolding withPair
-length-withPair list count first second = go (hasRoom list count)
-  where
-    go : (b : Bool) → length (cond b (set (set list (2 * count) first) (2 * count + 1) second) list) ≡ length list
-    go true = simp length-set
-    go false = refl

@@ -1,9 +1,9 @@
 -- A lent list of 64-bit numbers (an opened, result or work list): the numbers put, in order, at its front, and
 -- zeros after them.
-use Prim.Native.Nat.{ℕ, _+_, _-_, _*_}
+use Prim.Native.Nat.{ℕ, _+_, _-_}
 use mathlib.Core.Bool.{Bool, cond}
 use mathlib.Core.List.{List, [], _∷_, _++_}
-use lib.Dec.{leb, ltb}
+use lib.Dec.{ltb}
 use lib.ListN.{length, set, replicate}
 
 -- a list of `room` places that holds these numbers at the front and zeros after them
@@ -26,11 +26,3 @@ withNumber list count number = cond (hasPlace list count) (set list count number
 unfoldable pub withNumbers : List ℕ → (count : ℕ) → List ℕ → List ℕ
 withNumbers list count [] = list
 withNumbers list count (n ∷ ns) = withNumbers (withNumber list count n) (count + 1) ns
-
--- there is room for a pair after `count` pairs
-unfoldable pub hasRoom : List ℕ → ℕ → Bool
-hasRoom list count = leb (2 * count + 2) (length list)
-
--- the list with a pair stored after `count` pairs, where there is room, or as it is
-unfoldable pub withPair : List ℕ → (count first second : ℕ) → List ℕ
-withPair list count first second = cond (hasRoom list count) (set (set list (2 * count) first) (2 * count + 1) second) list

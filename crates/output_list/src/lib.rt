@@ -1,7 +1,7 @@
 // Lent lists of answers: the numbers put stand at the front, and zeros after them.
 ghost use mathlib.Core.Path.{_≡_};
 ghost use lib.ListN.{length};
-ghost use Rattle.output_list.specs.OutputList.{zeros, hasPlace, withNumber, hasRoom, withPair};
+ghost use Rattle.output_list.specs.OutputList.{zeros, hasPlace, withNumber};
 
 // Every place of the list becomes 0.
 pub fn clear(list: &mut [u64])
@@ -22,17 +22,5 @@ pub fn put(list: &mut [u64], count: usize, number: u64) -> bool
         return false;
     }
     list[count] = number;
-    true
-}
-
-// Stores a pair after the `count` pairs at the front, where there is room; answers whether there was.
-pub fn put_pair(list: &mut [u64], count: usize, first: u64, second: u64) -> bool
-    ensures { λ r. ⌜ (r ≡ hasRoom (now (list .entry)) count) × (now (list .exit) ≡ withPair (now (list .entry)) count first second) ⌝ }
-{
-    if list.len() / 2 <= count {
-        return false;
-    }
-    list[2 * count] = first;
-    list[2 * count + 1] = second;
     true
 }

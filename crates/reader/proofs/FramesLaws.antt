@@ -2,7 +2,7 @@
 -- Assumes nothing.
 use mathlib.Core.Path.{_≡_, refl, sym, ap, _∙_}
 use mathlib.Core.List.{List}
-use Prim.Native.Nat.{ℕ, _+_, _-_, _≤_, _<_}
+use Prim.Native.Nat.{ℕ, _+_, _-_, _^_, _≤_, _<_}
 use native.Mathlib.Omega.{arith}
 use lib.ListN.{length, take, length-take}
 use Rattle.outcome.specs.Outcome.{answer, refused}
@@ -27,9 +27,10 @@ module _ (file : List ℕ) (from : ℕ) (q : Query) (first : Stored) where
 
   -- the frame f was read at `at`
   module _ (at : ℕ) (stored : Stored) (p : FramesCollected at stored) (h : at < length file) (f : Frame) (e : frameAt file at ≡ answer f) where
-    -- there are fewer matches, with those of the block, than a file of this length has bytes
-    pub frames-room : (limit : ℕ) → first .count + length file < limit → stored .count + (length (take (f .end) file) - (f .body + 1)) < limit
-    frames-room limit short =
+    -- there are fewer matches, with those of the block, than a file of this length has bytes; and offsets and lengths can be packed
+    pub frames-room : (limit : ℕ) → first .count + length file < limit → length file ≤ 2 ^ 30
+        → (stored .count + (length (take (f .end) file) - (f .body + 1)) < limit) × (length (take (f .end) file) < 2 ^ 32)
+    frames-room limit short small =
         let l = frame⇒Framed file at f e in
         let number = l .number in
         let some = l .some in
@@ -37,7 +38,7 @@ module _ (file : List ℕ) (from : ℕ) (q : Query) (first : Stored) where
         let within = l .within in
         let cut = length-take (f .end) file in
         let so-far = p .few in
-        omega arith
+        (omega arith, omega arith)
 
     -- the matching records of a data block are put
     pub frames-data : f .level ≡ 0 → (later : Stored) → later ≡ putAll stored (matching q (recordsFrom (f .start) (take (f .end) file) (f .body + 1)))

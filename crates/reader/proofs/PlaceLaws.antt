@@ -22,10 +22,10 @@ use Rattle.framing.proofs.FrameLaws.{Framed, frame⇒Framed}
 use Rattle.payload.specs.Payload.{Text, textAt}
 use Rattle.payload.specs.Answers.{textIn}
 use Rattle.payload.proofs.PayloadLaws.{text⇒Placed}
-use Rattle.block.specs.Block.{Block, isData, blocksAt}
+use Rattle.block.specs.Block.{Block, isData, blockAt, blocksAt}
 use Rattle.block.specs.Laid.{laidItems, laidRecords, laidIn, laidAt, laidFrom}
 use Rattle.block.specs.Survey.{recordsOf}
-use Rattle.block.proofs.LaidLaws.{blocks⇒laid}
+use Rattle.block.proofs.LaidLaws.{block⇒laid, blocks⇒laid}
 use Rattle.query.specs.Query.{Query, matches}
 use Rattle.matching.specs.Matching.{matching}
 use Rattle.lists.proofs.RisingLaws.{each-once}
@@ -133,6 +133,10 @@ module _ (file : List ℕ) where
       subst (λ (t : Step Block). LaidOut at (t .item .records) (t .next) × (t .next ≤ length file)) (answer-injective _ s (all .2))
       (frame-laid at (all .0) l, l .within)
 
+  -- the records of a block that can be read
+  pub block-laid : (at : ℕ) (b : Block) → blockAt file at ≡ answer b → LaidOut at (b .records) (at + b .frame .size) × (at + b .frame .size ≤ length file)
+  block-laid at b e = step-laid at (record { item = b; next = at + b .frame .size }) (block⇒laid file at b e)
+
   -- the records of a file whose blocks are accepted
   pub blocks-laid : (from : ℕ) (bs : List Block) → blocksAt file from ≡ answer bs → from ≤ length file → LaidOut from (recordsOf bs) (length file)
   unfolding recordsOf laidFrom
@@ -183,3 +187,17 @@ module _ (file : List ℕ) where
     where
       Kept : Text → Type 0
       Kept t = (t .at + length (t .bytes) ≤ end) × (part file (t .at) (length (t .bytes)) ≡ t .bytes)
+
+  -- it lies after where they begin
+  pub laid-after : (r : Text) (rs : List Text) (from end : ℕ) → LaidOut from rs end → List·Memᴰ r rs → from < r .at
+  unfolding LaidOut
+  laid-after r [] from end h m = absurd (List·Memᴰ·not-nil m)
+  laid-after r (x ∷ rs) from end (s, h) m =
+      ⊎-elim (λ same. subst (λ (t : Text). from < t .at) (sym same) (s .after))
+      (λ later. let rest = laid-after r rs _ end h later in let first = s .after in omega arith) (List·Memᴰ·cases-cons m)
+
+  -- there are at most as many as bytes
+  pub laid-few : (rs : List Text) (from end : ℕ) → LaidOut from rs end → length rs + from ≤ end
+  unfolding LaidOut
+  laid-few [] from end h = omega arith
+  laid-few (r ∷ rs) from end (s, h) = let rest = laid-few rs _ end h in let after = s .after in omega arith

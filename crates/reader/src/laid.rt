@@ -1,5 +1,7 @@
 // Putting the matching records of a file on a result list. The file's blocks have been tested before.
 ghost use mathlib.Core.Path.{_≡_};
+ghost use Prim.Native.Nat.{_^_, _≤_};
+ghost use lib.ListN.{length};
 ghost use Rattle.block.specs.Laid.{laidFrom};
 ghost use Rattle.block.specs.Survey.{recordsOf};
 ghost use Rattle.query.specs.Query.{queryOf};
@@ -19,6 +21,7 @@ pub fn collect(
     prefix: &[u8],
     results: &mut [u64],
 ) -> usize
+    requires { ⌜ length (now file) ≤ 2 ^ 30 ⌝ }
     ensures { λ r. ⌜ _≡_ {A = Stored} (record { count = r; list = now (results .exit) })
         (putAll (record { count = 0; list = now (results .entry) })
         (matching (queryOf (now (start .entry)) «stop_given» (now (stop .entry)) (now (prefix .entry))) (recordsOf (laidFrom (now (file .entry)) from)))) ⌝ }

@@ -1,6 +1,6 @@
 // Reading a file front to back under a query.
 ghost use mathlib.Core.Path.{_≡_};
-ghost use Prim.Native.Nat.{_≤_};
+ghost use Prim.Native.Nat.{_^_, _≤_};
 ghost use lib.ListN.{length};
 ghost use Rattle.output_list.specs.OutputList.{zeros};
 ghost use Rattle.header.specs.Header.{blocksFrom};
@@ -43,7 +43,7 @@ fn no_room(list: &mut [u64]) -> ReadAnswer
     refusal(27, 0)
 }
 
-// Reads the file front to back. The result list holds offset and length of each match, then zeros; after a refusal zeros.
+// Reads the file front to back. The result list holds a number for each match, its offset and length packed, then zeros; after a refusal zeros.
 pub fn read(
     file: &[u8],
     start: &[u8],
@@ -77,7 +77,7 @@ fn read_blocks(
     prefix: &[u8],
     results: &mut [u64],
 ) -> ReadAnswer
-    requires { ⌜ (blocksFrom h ≤ length (now file)) × (now results ≡ zeros (length (now results))) ⌝ }
+    requires { ⌜ (length (now file) ≤ 2 ^ 30) × (blocksFrom h ≤ length (now file)) × (now results ≡ zeros (length (now results))) ⌝ }
     ensures { λ r. ⌜ r ≡ readAnswer
         (readBlocks (now (file .entry)) (queryOf (now (start .entry)) «stop_given» (now (stop .entry)) (now (prefix .entry)))
         (length (now (results .entry))) h) ⌝ }

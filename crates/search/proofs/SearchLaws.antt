@@ -1,7 +1,7 @@
 -- Laws of the search: from the header to the root, from the root down, and what is answered.
 -- Assumes nothing.
 use mathlib.Core.Path.{_≡_, refl, sym, ap, ap₂, _∙_, subst}
-use mathlib.Core.List.{List, [], _∷_, flatMap}
+use mathlib.Core.List.{List, [], _∷_}
 use mathlib.Core.Option.{Option, none}
 use Prim.Native.Nat.{ℕ, _^_, _≤_}
 use native.Mathlib.Omega.{arith}
@@ -17,7 +17,7 @@ use Rattle.framing.specs.declared.Frame.{Frame}
 use Rattle.block.specs.Block.{Block}
 use Rattle.query.specs.Query.{Query}
 use Rattle.matching.specs.ResultList.{numbersOf}
-use Rattle.matching.proofs.ResultListLaws.{roomFor-none}
+use Rattle.matching.proofs.ResultListLaws.{roomFor-none, numbers-none}
 use Rattle.search.specs.declared.Found.{Found}
 use Rattle.search.specs.declared.opening.Named.{Named}
 use Rattle.search.specs.declared.opening.OpenOutcome.{OpenOutcome}
@@ -35,11 +35,6 @@ use Rattle.search.proofs.OpeningLaws.{IsOpened, said⇒IsOpened, said�
 -- what is opened and found with the root
 abbrev pub begun : Progress
 begun = record { used = 1; found = 0 }
-
--- no match takes no number
-numbers-none : numbersOf [] ≡ []
-unfolding numbersOf flatMap
-numbers-none = refl
 
 -- the search after the header, with these lists
 module _ (file : List ℕ) (q : Query) (from root rootsize : ℕ) (openedFirst results : List ℕ) where

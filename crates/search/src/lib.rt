@@ -32,7 +32,7 @@ pub struct Found {
 }
 
 // Searches the file through its index. The opened list holds the offset of each block opened, in walk order, root first; the result list
-// offset and length of each match; then zeros. After a refusal both hold zeros.
+// a number for each match, its offset and length packed; then zeros. After a refusal both hold zeros.
 pub fn search(
     file: &[u8],
     start: &[u8],

@@ -79,13 +79,21 @@ matches-requires : tie.Need-matches-requires Inv-loop μ-loop
 matches-requires c κs = search needs
 
 put-match-requires : tie.Need-put-match-requires Inv-loop μ-loop
-put-match-requires c κs = search needs
+unfolding textSaid
+put-match-requires c κs =
+    let args = c .before .before .before .before .before .before .before .before .before .before .before .before .before .before .before .before .args in
+    let loop = c .before .before .before .before .before .before .before .before .before .before .loop in
+    let text-at = c .before .before .before .before .before .before .before .before .text-at in
+    let step = c .before .before .before .before .before .before .step in
+    let pre = c .before .before .before .before .before .before .before .before .before .before .before .before .before .before .before .before .pre in
+    let b = text-bounds 0 (now (args .s)) (loop .at) _ _ (sym (text-at .ensures 0) ∙ ap (textSaid 0 (now (args .s))) (step .given .1)) in
+    let forward = b .0 in let within = b .1 in let small = pre .1 in (omega arith, omega arith)
 
 add-found : tie.Need-add-found Inv-loop μ-loop
 add-found c =
     let loop = c .before .before .before .before .before .before .before .before .before .before .before .before .before .loop in
     let pre = c .before .before .before .before .before .before .before .before .before .before .before .before .before .before .before .before .before .before .before .pre in
-    let few = loop .inv .few in let room = pre in omega arith
+    let few = loop .inv .few in let room = pre .0 in omega arith
 
 loop-less : tie.Need-loop-less Inv-loop μ-loop
 unfolding textSaid
@@ -109,7 +117,7 @@ loop-again c =
     let if1 = c .before .before .before .before .if1 in
     let put-match = c .before .before .put-match in
     records-kept _ _ _ _ _ _ (loop .inv) (loop-test .taken) _ _ (λ place. (sym (text-at .ensures place) ∙ ap (textSaid place (now
-    (args .s))) (step .given .1))) (sym (matches .ensures) ∙ if1 .taken) _ (put-match .ensures .1)
+    (args .s))) (step .given .1))) (sym (matches .ensures) ∙ if1 .taken) _ (put-match .ensures)
 
 loop-less-2 : tie.Need-loop-less-2 Inv-loop μ-loop
 unfolding textSaid

@@ -4,7 +4,7 @@ use borrow.Author.Needs.{needs}
 use denote.Ref.{now}
 use lib.ListN.{length}
 use Rattle.header.specs.Header.{headerSaid}
-use Rattle.header.proofs.HeaderLaws.{blocks-within}
+use Rattle.header.proofs.HeaderLaws.{is-header, blocks-within}
 use Rattle.query.specs.Query.{queryOf}
 use Rattle.reader.proofs.ReadLaws.{told-refusal, header-refuses, still-zeros, read-after}
 use Rattle.reader.proofs.read.Statement.{statement}
@@ -31,8 +31,10 @@ read-blocks-requires c κs =
     let args = c .before .before .before .before .before .before .before .before .before .before .before .before .before .before .args in
     let read = c .before .before .before .before .read in
     let made2 = c .before .before .made2 in
-    let clear = c .before .before .before .before .before .before .before .clear in (
-      blocks-within (now (args .file)) _ (sym (read .ensures) ∙ ap headerSaid (made2 .given .1)),
+    let clear = c .before .before .before .before .before .before .before .clear in
+    let accepted = sym (read .ensures) ∙ ap headerSaid (made2 .given .1) in (
+      is-header (now (args .file)) _ accepted .small,
+      blocks-within (now (args .file)) _ accepted,
       still-zeros (now (args .results)) _
           (clear .ensures),
     )

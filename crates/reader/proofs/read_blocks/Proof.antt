@@ -24,7 +24,9 @@ enum-told : tie.Need-enum-told
 enum-told c = search needs
 
 collect-requires : tie.Need-collect-requires
-collect-requires c κs = search needs
+collect-requires c κs =
+    let pre = c .before .before .before .before .before .before .before .before .before .pre in
+    pre .0
 
 has-room-requires : tie.Need-has-room-requires
 has-room-requires c κs = search needs
@@ -47,7 +49,7 @@ returns c =
     let if1 = c .before .before .before .before .if1 in
     let no-room = c .before .before .no-room in
     read-overflow (now (args .file)) (queryOf (now (args .start)) (args .stop-given) (now (args .stop)) (now (args .prefix))) (length (now
-    (args .results))) (args .h) (now (args .results)) (pre .1) _ _ (collect .ensures) _ (sym (survey .ensures) ∙ ap surveySaid
+    (args .results))) (args .h) (now (args .results)) (pre .2) _ _ (collect .ensures) _ (sym (survey .ensures) ∙ ap surveySaid
     (enum-told .given .1)) (sym (has-room .ensures) ∙ not-true _ (if1 .taken)) _ _ (no-room .ensures .0) (no-room .ensures .1)
 
 returns-2 : tie.Need-returns-2
@@ -58,7 +60,7 @@ returns-2 c =
     let stage = c .before .before .stage in
     let pre = c .before .before .before .before .before .before .before .before .before .before .pre in
     read-refused (now (args .file)) (queryOf (now (args .start)) (args .stop-given) (now (args .stop)) (now (args .prefix))) (length (now
-    (args .results))) (args .h) _ _ (sym (survey .ensures) ∙ ap surveySaid (stage .given .1)) _ _ (c .refusal .ensures) (pre .1)
+    (args .results))) (args .h) _ _ (sym (survey .ensures) ∙ ap surveySaid (stage .given .1)) _ _ (c .refusal .ensures) (pre .2)
 
 same-length-2 : tie.Need-same-length-2
 same-length-2 c = search needs
@@ -72,7 +74,7 @@ returns-3 c =
     let survey = c .before .before .before .before .before .before .before .before .before .survey in
     let enum-told = c .before .before .before .before .before .before .before .enum-told in
     read-fit (now (args .file)) (queryOf (now (args .start)) (args .stop-given) (now (args .stop)) (now (args .prefix))) (length (now
-    (args .results))) (args .h) (now (args .results)) (pre .1) _ _ (collect .ensures) _ (sym (survey .ensures) ∙ ap surveySaid
+    (args .results))) (args .h) (now (args .results)) (pre .2) _ _ (collect .ensures) _ (sym (survey .ensures) ∙ ap surveySaid
     (enum-told .given .1)) (sym (c .before .has-room .ensures) ∙ not-false _ (c .if1 .left))
 
 pub read-blocks-spec : {M : Type 1} → statement M

@@ -86,10 +86,11 @@ collect-records-requires c κs =
     let loop = c .before .before .before .before .before .before .before .before .before .before .before .loop in
     let loop-test = c .before .before .before .before .before .before .before .before .before .before .loop-test in
     let frame-at = c .before .before .before .before .before .before .before .before .before .frame-at in
-    let the-frame = c .before .before .before .before .before .before .before .frame in
+    let frame = c .before .before .before .before .before .before .before .frame in
     let good = c .before .before .before .before .before .before .before .before .before .before .before .before .before .before .before .before .before .good in
-    frames-room _ _ _ _ _ _ (loop .inv) (loop-test .taken) _ (sym (frame-at .ensures) ∙ ap (frameSaid (loop .at)) (the-frame .given .1)) (2 ^
-    64) (omega (arith, good))
+    let pre = c .before .before .before .before .before .before .before .before .before .before .before .before .before .before .before .before .before .pre in
+    frames-room _ _ _ _ _ _ (loop .inv) (loop-test .taken) _ (sym (frame-at .ensures) ∙ ap (frameSaid (loop .at)) (frame .given .1)) (2 ^
+    64) (omega (arith, good)) pre
 
 loop-less : tie.Need-loop-less Inv-loop μ-loop
 unfolding frameSaid

@@ -27,7 +27,7 @@ collect-records-requires c κs =
     let pre = c .before .before .before .before .before .before .before .before .pre in
     let good = c .before .before .before .before .before .before .before .before .good in
     let long = length-take-le (args .f .end) (now (args .file)) (pre .frame .end) in let end = pre .frame .end in let small = pre .small in
-    let room = pre .fits in let few = roomFor-some (args .p .found) in omega (arith, good)
+    let room = pre .fits in let few = roomFor-some (args .p .found) in (omega (arith, good), omega arith)
 
 has-room-requires : tie.Need-has-room-requires
 has-room-requires c κs = search needs
