@@ -22,7 +22,8 @@ use Rattle.theorems_check.proofs.AcceptLaws.{accepted⇒Accepted, Rules⇒accep
 use Rattle.theorems_check.proofs.CheckTheorems.{number-0⇒Rules}
 use Rattle.header.specs.Header.{headerNumbers}
 use Rattle.theorems_read.specs.ReadByRules.{GivesMatches, ReadByRules}
-use Rattle.theorems_read.proofs.ReadTheorems.{is-read, read-answer, read-whole, read-laid}
+use Rattle.theorems_read.proofs.PairLaws.{placed⇒unpacks}
+use Rattle.theorems_read.proofs.ReadTheorems.{is-read, read-answer, read-whole, read-laid, read-placed}
 
 -- records that lie one after the other begin at rising offsets
 module _ (file : List ℕ) where
@@ -51,7 +52,13 @@ module _ (file : List ℕ) (bs : List Block) (accepted : acceptOf file ≡ answe
       let ms = matching q (recordsOf bs) in
       let told = read-answer file q room ms accepted⇒read in
       let laid = read-laid file q room ms (is-read file q room ms accepted⇒read) in
-      record { answered = told .0; listed = told .1; stand = λ m i. laid-member file m ms _ (length file) laid i; rising = laid⇒Rising file ms _ (length file) laid }
+      record {
+        answered = told .0;
+        listed = told .1;
+        unpack = λ m i. placed⇒unpacks m (read-placed file q room ms accepted⇒read m i);
+        stand = λ m i. laid-member file m ms _ (length file) laid i;
+        rising = laid⇒Rising file ms _ (length file) laid;
+      }
 
 -- a file that keeps the rules: not refused with room, exactly the records that match, and the list
 pub Rules⇒read : (file : List ℕ) (bs : List Block) → Rules file bs → (q : Query) (room : ℕ) → roomFor (length (matching q (recordsOf bs))) ≤ room

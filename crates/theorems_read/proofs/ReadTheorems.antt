@@ -2,7 +2,7 @@
 -- Assumes nothing.
 use mathlib.Core.Path.{_≡_, refl, sym, ap, ap₂, _∙_, subst}
 use mathlib.Core.Bool.{Bool, true, false}
-use mathlib.Core.List.{List, _∷_, _++_, List·Memᴰ}
+use mathlib.Core.List.{List, _∷_, _++_, List·Memᴰ, List·Memᴰ·head, Memᴰ·append-right}
 use Prim.Native.Nat.{ℕ, _+_, _≤_, _<_}
 use native.Mathlib.Omega.{arith}
 use lib.Dec.{leb}
@@ -15,20 +15,22 @@ use Rattle.part.specs.Part.{part}
 use Rattle.outcome.proofs.OutcomeLaws.{answer-injective, answer-not-refused, bind⁻¹, kept⁻¹}
 use Rattle.header.specs.declared.Header.{Header}
 use Rattle.header.specs.Header.{headerOf, blocksFrom}
-use Rattle.header.proofs.HeaderLaws.{blocks-within}
+use Rattle.header.proofs.HeaderLaws.{is-header, blocks-within}
 use Rattle.payload.specs.Payload.{Text}
 use Rattle.block.specs.Block.{Block, blocksAt}
 use Rattle.block.specs.Survey.{recordsOf}
 use Rattle.query.specs.Query.{Query, matches}
 use Rattle.matching.specs.Matching.{matching}
-use Rattle.matching.specs.ResultList.{roomFor, numbersOf}
+use Rattle.matching.specs.Packing.{packed, offsetOf, lengthOf}
+use Rattle.matching.specs.ResultList.{roomFor, matchNumber, numbersOf}
 use Rattle.reader.specs.Read.{readBlocks, readOf, readAnswer, readList}
 use Rattle.record.specs.Record.{recordOf}
 use Rattle.record.proofs.RecordLaws.{within-of, record-within}
 use Rattle.matching.proofs.MatchLaws.{matching-member, member-matching}
-use Rattle.matching.proofs.ResultListLaws.{length-numbers, pair-padded}
+use Rattle.matching.proofs.ResultListLaws.{roomFor-is, length-numbers, number-padded}
 use Rattle.reader.proofs.ReadLaws.{answer-of-refusal, list-of-refusal, answer-of-matches, list-of-matches, blocks-refused, blocks-fit, blocks-overflow, header-accepts}
-use Rattle.reader.proofs.PlaceLaws.{LaidOut, blocks-laid, matching-laid, laid-part, laid-rising, laid-member}
+use Rattle.reader.proofs.PlaceLaws.{LaidOut, blocks-laid, matching-laid, laid-part, laid-rising, laid-member, laid-after}
+use Rattle.theorems_read.proofs.PairLaws.{Placed, placed⇒unpacks}
 
 module _ (file : List ℕ) (q : Query) (room : ℕ) where
   -- ---- what an answer says: header and blocks are accepted, and there is room for the matches
@@ -67,7 +69,7 @@ module _ (file : List ℕ) (q : Query) (room : ℕ) where
       → (readAnswer (readOf file q room) ≡ record { number = number; place = place; matches = 0 }) × (readList room (readOf file q room) ≡ zeros room)
   read-refusal number place e = (answer-of-refusal (readOf file q room) number place e, list-of-refusal room (readOf file q room) number place e)
 
-  -- without one number and place are 0, the matches are counted, and the list is their pairs and then zeros
+  -- without one number and place are 0, the matches are counted, and the list is their numbers and then zeros
   pub read-answer : (ms : List Text) → readOf file q room ≡ answer ms
       → (readAnswer (readOf file q room) ≡ record { number = 0; place = 0; matches = length ms }) × (readList room (readOf file q room) ≡ padded room (numbersOf ms))
   read-answer ms e = (answer-of-matches (readOf file q room) ms e, list-of-matches room (readOf file q room) ms e)
@@ -130,16 +132,29 @@ module _ (file : List ℕ) (q : Query) (room : ℕ) where
       let records = blocks-laid file from (r .blocks) (r .blocks-accepted) (blocks-within file (r .header) (r .header-accepted)) in
       subst (λ (l : List Text). LaidOut file from l (length file)) (sym (r .matches-are)) (matching-laid file q (recordsOf (r .blocks)) from (length file) records)
 
-  -- the pair of each match: the offset of its first byte and its length. The record that is handed back for a pair is the match.
-  pub read-pair : (xs : List Text) (m : Text) (ys : List Text) → readOf file q room ≡ answer (xs ++ m ∷ ys)
+  -- they lie after the first byte of a file of at most 2^30 bytes
+  pub read-placed : (ms : List Text) → readOf file q room ≡ answer ms → (m : Text) → List·Memᴰ m ms → Placed m
+  read-placed ms e m i =
+      let r = is-read ms e in
+      let laid = read-laid ms r in
+      let after = laid-after file m ms _ (length file) laid i in
+      let within = laid-member file m ms _ (length file) laid i .0 in
+      let small = is-header file (r .header) (r .header-accepted) .small in
+      record { after = omega arith; within = omega arith }
+
+  -- The number of each match unpacks to the offset of its first byte and its length, and isn't 0. The record that is handed back for it is the match.
+  pub read-number : (xs : List Text) (m : Text) (ys : List Text) → readOf file q room ≡ answer (xs ++ m ∷ ys)
       → (list : List ℕ) → list ≡ readList room (readOf file q room)
-      → (getD list (roomFor (length xs)) 0 ≡ m .at) × (getD list (roomFor (length xs) + 1) 0 ≡ length (m .bytes)) × (recordOf file (getD list (roomFor (length xs)) 0) (getD list (roomFor (length xs) + 1) 0) ≡ m .bytes)
-  read-pair xs m ys e list is =
+      → (getD list (length xs) 0 ≡ packed (m .at) (length (m .bytes))) × (0 < getD list (length xs) 0)
+      × (recordOf file (offsetOf (getD list (length xs) 0)) (lengthOf (getD list (length xs) 0)) ≡ m .bytes)
+  unfolding matchNumber
+  read-number xs m ys e list is =
       let held = is ∙ read-answer (xs ++ m ∷ ys) e .1 in
-      let pair = pair-padded room xs m ys in
-      let first : getD list (roomFor (length xs)) 0 ≡ m .at = ap (λ (l : List ℕ). getD l (roomFor (length xs)) 0) held ∙ pair .0 in
-      let second : getD list (roomFor (length xs) + 1) 0 ≡ length (m .bytes) = ap (λ (l : List ℕ). getD l (roomFor (length xs) + 1) 0) held ∙ pair .1 in
-      (first, second, ap₂ (recordOf file) first second ∙ handed)
+      let number : getD list (length xs) 0 ≡ matchNumber m =
+      ap₂ (λ (l : List ℕ) (i : ℕ). getD l i 0) held (sym (roomFor-is (length xs))) ∙ number-padded room xs m ys in
+      let u = placed⇒unpacks m (read-placed (xs ++ m ∷ ys) e m (Memᴰ·append-right xs (List·Memᴰ·head refl))) in
+      let some = u .some in
+      (number, omega (arith, number), ap₂ (recordOf file) (ap offsetOf number ∙ u .offset) (ap lengthOf number ∙ u .size) ∙ handed)
     where
       handed : recordOf file (m .at) (length (m .bytes)) ≡ m .bytes
       handed =

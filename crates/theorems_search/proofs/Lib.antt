@@ -11,6 +11,10 @@ pub mod SearchTheorems
 pub mod SearchNumbers
 pub mod WalkGrows
 pub mod SearchLocal
+pub mod FoundPlaces
+pub mod OtherRoom
+pub mod ShortRoom
+pub mod SearchPairs
 -- The blocks that the search opens: exactly those of the rule, and few in vain.
 pub mod KeptLaws
 pub mod RuleWays

@@ -17,6 +17,7 @@ use Rattle.block.specs.Survey.{ordinary, recordsOf}
 use Rattle.query.specs.Query.{Query}
 use Rattle.matching.specs.Matching.{matching}
 use Rattle.matching.specs.ResultList.{roomFor}
+use Rattle.matching.proofs.ResultListLaws.{roomFor-is}
 use Rattle.search.specs.declared.Found.{Found}
 use Rattle.search.specs.Search.{searchOf, searchAnswer, openedList, resultList}
 use Rattle.tree.specs.Tree.{blockLevel}
@@ -121,9 +122,11 @@ module _ (file : List ℕ) (bs : List Block) (accepted : acceptOf file ≡ answe
       exact-26 matches-fit =
           subst (λ (l : List ℕ). (searchAnswer (searchOf file q places room) .number ≡ 26) ↔ (places < length l)) same (rooms.edge-26 file bs accepted q places room matches-fit)
 
-      -- with room for the opened blocks: 27 exactly if there is no room for the matches
-      pub exact-27 : length opened ≤ places → (searchAnswer (searchOf file q places room) .number ≡ 27) ↔ (room < roomFor (length (matching q (recordsOf bs))))
-      exact-27 opened-fit = rooms.edge-27 file bs accepted q places room (subst (λ (l : List ℕ). length l ≤ places) (sym same) opened-fit)
+      -- with room for the opened blocks: 27 exactly if the matches exceed the places of the result list
+      pub exact-27 : length opened ≤ places → (searchAnswer (searchOf file q places room) .number ≡ 27) ↔ (room < length (matching q (recordsOf bs)))
+      exact-27 opened-fit =
+          subst (λ (n : ℕ). (searchAnswer (searchOf file q places room) .number ≡ 27) ↔ (room < n)) (roomFor-is (length (matching q (recordsOf bs))))
+          (rooms.edge-27 file bs accepted q places room (subst (λ (l : List ℕ). length l ≤ places) (sym same) opened-fit))
 
 -- ---- the same from the rules, and from what the check answers
 

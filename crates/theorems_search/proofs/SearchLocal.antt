@@ -1,8 +1,8 @@
 -- A search that is answered depends only on the file's length, its header and the blocks on the opened list.
 -- Assumes nothing.
 use mathlib.Core.Path.{_≡_, refl, sym, ap, _∙_, subst}
-use mathlib.Core.Bool.{Bool, true, false, _&&_, cond}
-use mathlib.Core.List.{List, [], _∷_, List·Memᴰ, List·Memᴰ·head, Memᴰ·append-right}
+use mathlib.Core.Bool.{Bool, _&&_}
+use mathlib.Core.List.{List, List·Memᴰ, List·Memᴰ·head, Memᴰ·append-right}
 use mathlib.Core.Option.{Option, none}
 use Prim.Native.Nat.{ℕ, zero, suc, _+_}
 use native.Mathlib.Omega.{arith}
@@ -17,20 +17,19 @@ use Rattle.header.specs.Header.{headerOf, blocksFrom, H}
 use Rattle.header.proofs.HeaderLaws.{header-local}
 use Rattle.framing.specs.declared.Frame.{Frame}
 use Rattle.framing.specs.Frame.{soundFrameAt}
-use Rattle.payload.specs.Payload.{Entry}
 use Rattle.block.specs.Block.{Block, blockIn, blockAt}
 use Rattle.block.proofs.BlockLaws.{block⇒BlockRead}
 use Rattle.block.proofs.LocalLaws.{block-local}
 use Rattle.query.specs.Query.{Query}
-use Rattle.query.specs.Opening.{mayMatch}
 use Rattle.search.specs.declared.Found.{Found}
 use Rattle.search.specs.declared.opening.Named.{Named}
-use Rattle.search.specs.Search.{Walked, nothing, withOpened, nextKey, rootNamed, childNamed, fittingBlock, namedBlock, openBlock, walkOver, walkOf, walkFrom, searchOf, searchAnswer, openedList, resultList}
+use Rattle.search.specs.Search.{Walked, nothing, withOpened, rootNamed, childNamed, fittingBlock, namedBlock, openBlock, walkOf}
+use Rattle.search.specs.Search.{walkFrom, searchOf, searchAnswer, openedList, resultList}
 use Rattle.theorems_search.specs.Locality.{headerEnd, SameWhereOpened, SearchedLocally}
 use Rattle.theorems_search.proofs.SearchTheorems.{search-answer}
 use Rattle.theorems_search.proofs.SearchNumbers.{number-0⇒answered}
 use Rattle.theorems_search.proofs.WalkSteps.{named⁻¹, named-block, open⁻¹}
-use Rattle.theorems_search.proofs.WalkGrows.{Grown, grown-member, over-grows, opens-grow, walk-grows}
+use Rattle.theorems_search.proofs.WalkGrows.{Grown, grown-member, opens-grow, walk-grows, over-same}
 
 module _ (file other : List ℕ) (long : length other ≡ length file) where
   -- the same bytes in the block at an offset, and in every block opened so far
@@ -83,31 +82,13 @@ module _ (file other : List ℕ) (long : length other ≡ length file) where
 
   -- ---- the walk
 
-  over-local : (q : Query) (here there : Entry → Option (List ℕ) → Walked → Outcome Walked) (above : Option (List ℕ))
-      → ((e : Entry) (bound : Option (List ℕ)) (s t : Walked) → here e bound s ≡ answer t → Grown s t)
-      → ((e : Entry) (bound : Option (List ℕ)) (s t : Walked) → here e bound s ≡ answer t → AllAlike t → there e bound s ≡ answer t)
-      → (es : List Entry) (s t : Walked) → walkOver q here above es s ≡ answer t → AllAlike t → walkOver q there above es s ≡ answer t
-  unfolding walkOver
-  over-local q here there above grows same [] s t a alike = a
-  over-local q here there above grows same (e ∷ es) s t a alike =
-      let bound = nextKey es above in
-      let first = bind⁻¹ (cond (mayMatch (e .key .bytes) bound q) (here e bound s) (answer s)) (walkOver q here above es) t a in
-      let before = alike-before (first .0) t (over-grows q here above grows es (first .0) t (first .2)) alike in
-      bind-answer (cond (mayMatch (e .key .bytes) bound q) (there e bound s) (answer s)) (walkOver q there above es) (first .0)
-      (one (mayMatch (e .key .bytes) bound q) (first .0) (first .1) before)
-      ∙ over-local q here there above grows same es (first .0) t (first .2) alike
-    where
-      one : (b : Bool) (u : Walked) → cond b (here e (nextKey es above) s) (answer s) ≡ answer u → AllAlike u → cond b (there e (nextKey es above) s) (answer s) ≡ answer u
-      one true u p before = same e (nextKey es above) s u p before
-      one false u p before = p
-
   module _ (q : Query) (places room from : ℕ) where
     pub walk-local : (level : ℕ) (b : Block) (upper : Option (List ℕ)) (s t : Walked)
         → walkOf file q places room from level b upper s ≡ answer t → AllAlike t → walkOf other q places room from level b upper s ≡ answer t
     unfolding walkOf childNamed
     walk-local zero b upper s t e alike = e
     walk-local (suc level) b upper s t e alike =
-        over-local q _ _ upper
+        over-same AllAlike alike-before q _ _ upper
         (λ x bound. opens-grow file places from (childNamed (b .frame .start) level (x .offset) (x .size)) (λ c. walkOf file q places room from level c bound) (λ c. walk-grows file q places room from level c bound))
         (λ x bound. opens-local places from (childNamed (b .frame .start) level (x .offset) (x .size)) (λ c. walkOf file q places room from level c bound) (λ c. walkOf other q places room from level c bound)
         (λ c. walk-grows file q places room from level c bound) (λ c. walk-local level c bound))

@@ -71,7 +71,7 @@ module _ (file : List ℕ) (q : Query) (places room : ℕ) where
   unfolding searchAnswer openedList resultList numberOf placeOf countOf listOf
   search-refusal number place e = (rw e, rw e, rw e)
 
-  -- without one number and place are 0, blocks and matches are counted, and the lists are the offsets opened and the pairs of the matches,
+  -- without one number and place are 0, blocks and matches are counted, and the lists are the offsets opened and the numbers of the matches,
   -- and then zeros
   pub search-answer : (s : Walked) → searchOf file q places room ≡ answer s
       → (searchAnswer (searchOf file q places room) ≡ record { number = 0; place = 0; matches = length (s .matches); opened = length (s .opened) })

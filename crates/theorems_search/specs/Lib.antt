@@ -2,3 +2,4 @@
 pub mod OpeningRule
 pub mod SearchedByRules
 pub mod Locality
+pub mod SearchPairs

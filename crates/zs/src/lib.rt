@@ -28,8 +28,10 @@ ghost use Rattle.shown.specs.Shown.{partShown};
 ghost use Rattle.comparer.specs.Compare.{compareAnswer, compareList};
 ghost use Rattle.theorems_check.specs.CheckedByRules.{CheckedByRules};
 ghost use Rattle.theorems_read.specs.ReadByRules.{ReadByRules};
+ghost use Rattle.theorems_read.specs.Pairs.{ReadUnpacks};
 ghost use Rattle.theorems_search.specs.SearchedByRules.{SearchedByRules};
 ghost use Rattle.theorems_search.specs.Locality.{SearchedLocally};
+ghost use Rattle.theorems_search.specs.SearchPairs.{SearchUnpacks};
 ghost use Rattle.theorems_write.specs.WrittenByRules.{WrittenByRules};
 ghost use Rattle.theorems_session.specs.SessionByRules.{SessionByRules};
 ghost use Rattle.theorems_stores.specs.StoredByRules.{StoreByRules, WrittenInStores};
@@ -60,6 +62,9 @@ pub extern "C" fn zs_read(
     ensures { λ r. ⌜ now (results .exit) ≡ readList (length (now (results .entry))) (readOf (now (file .entry))
         (queryOf (now (start .entry)) «stop_given» (now (stop .entry)) (now (prefix .entry))) (length (now (results .entry)))) ⌝ }
     ensures { λ r. ⌜ ReadByRules (now (file .entry))
+        (queryOf (now (start .entry)) «stop_given» (now (stop .entry)) (now (prefix .entry)))
+        (length (now (results .entry))) r (now (results .exit)) ⌝ }
+    ensures { λ r. ⌜ ReadUnpacks (now (file .entry))
         (queryOf (now (start .entry)) «stop_given» (now (stop .entry)) (now (prefix .entry)))
         (length (now (results .entry))) r (now (results .exit)) ⌝ }
 {
@@ -100,6 +105,9 @@ pub extern "C" fn zs_search(
         (queryOf (now (start .entry)) «stop_given» (now (stop .entry)) (now (prefix .entry)))
         (length (now (opened .entry))) (length (now (results .entry))) r (now (opened .exit)) (now (results .exit)) ⌝ }
     ensures { λ r. ⌜ SearchedLocally (now (file .entry))
+        (queryOf (now (start .entry)) «stop_given» (now (stop .entry)) (now (prefix .entry)))
+        (length (now (opened .entry))) (length (now (results .entry))) r (now (opened .exit)) (now (results .exit)) ⌝ }
+    ensures { λ r. ⌜ SearchUnpacks (now (file .entry))
         (queryOf (now (start .entry)) «stop_given» (now (stop .entry)) (now (prefix .entry)))
         (length (now (opened .entry))) (length (now (results .entry))) r (now (opened .exit)) (now (results .exit)) ⌝ }
 {

@@ -4,6 +4,7 @@ use lib.ListN.{length}
 use borrow.Author.Needs.{needs}
 use Rattle.query.specs.Query.{queryOf}
 use Rattle.theorems_read.proofs.ReadAccepted.{read-by-rules}
+use Rattle.theorems_read.proofs.ReadPairs.{read-unpacks}
 use Rattle.zs.proofs.zs_read.Statement.{statement}
 use Rattle.zs.proofs.zs_read.Tie as tie
 
@@ -18,7 +19,9 @@ returns c =
     let args = c .before .before .before .before .before .before .before .before .before .args in
     let q = queryOf (now (args .start)) (args .stop-given) (now (args .stop)) (now (args .prefix)) in
     let told = c .before .before .read .ensures in
-    (told .0, (told .1, read-by-rules (now (args .file)) q (length (now (args .results))) _ _ (told .0) (told .1)))
+    let by-rules = read-by-rules (now (args .file)) q (length (now (args .results))) _ _ (told .0) (told .1) in
+    let unpacks = read-unpacks (now (args .file)) q (length (now (args .results))) _ _ (told .0) (told .1) in
+    (told .0, (told .1, (by-rules, unpacks)))
 
 pub zs-read-spec : {M : Type 1} → statement M
 zs-read-spec = tie.close (tie.spec read-requires same-length returns)

@@ -9,6 +9,7 @@ use Rattle.query.specs.Query.{queryOf}
 use Rattle.theorems_search.specs.SearchedByRules.{QueryBytes}
 use Rattle.theorems_search.proofs.SearchAccepted.{search-by-rules}
 use Rattle.theorems_search.proofs.SearchLocal.{search-locally}
+use Rattle.theorems_search.proofs.SearchPairs.{search-unpacks}
 use Rattle.zs.proofs.zs_search.Statement.{statement}
 use Rattle.zs.proofs.zs_search.Tie as tie
 
@@ -37,7 +38,8 @@ returns c =
     let asked : QueryBytes q = record { start = start-bytes; prefix = prefix-bytes } in
     let by-rules = search-by-rules file file-bytes q asked places room _ _ _ (told .0) (told .1 .0) (told .1 .1) in
     let locally = search-locally file q places room _ _ _ (told .0) (told .1 .0) (told .1 .1) in
-    (told .0, (told .1 .0, (told .1 .1, (by-rules, locally))))
+    let unpacks = search-unpacks file q places room _ _ _ (told .0) (told .1 .0) (told .1 .1) in
+    (told .0, (told .1 .0, (told .1 .1, (by-rules, (locally, unpacks)))))
 
 pub zs-search-spec : {M : Type 1} → statement M
 zs-search-spec = tie.close (tie.spec search-requires same-length same-length-2 returns)
