@@ -20,7 +20,7 @@
  * Lengths that always suffice:
  *   work      file_len / 11, since a block with records or entries takes 11 bytes or more; of zs_compare that of the longer file
  *   opened    on a file that zs_check accepts: `blocks` of its answer
- *   results   on a file that zs_check accepts: twice `records` of its answer; for zs_read on any bytes: 2 * file_len
+ *   results   on a file that zs_check accepts: `records` of its answer; for zs_read on any bytes: file_len
  *   list      of zs_compare: five times the sum of `records` in zs_check's answers for both files
  *   output    of zs_write and of a session: 2^30 bytes, since no file is longer; of zs_import_sim: 2 * dump_len
  * On other bytes there is no such length for zs_search: they can lead to one block again and again, and only the length of the opened
@@ -47,10 +47,17 @@ typedef struct zs_compared { uint64_t number, place, which, differences; int64_t
 /* A part of the file. */
 typedef struct zs_part { uint64_t offset, length; } zs_part;
 
+/* Where a match lies, from its number on a result list: the offset times 2^32, plus the length. */
+static inline zs_part zs_unpack(uint64_t match)
+{
+    zs_part part = {match >> 32, match & 0xffffffffu};
+    return part;
+}
+
 /* A part of the first of two files (which is 1) or of the second (which is 2). */
 typedef struct zs_shown { uint64_t which, offset, length; } zs_shown;
 
-/* A writing session. The figures are how many records were added, the offset of the last one as results give it, and where the next block will
+/* A writing session. The figures are how many records were added, the offset of the last one's first byte, and where the next block will
  * begin, which is the end of all that stands in the output; each is 0 where there is nothing. All others belong to the session: hand them on as
  * they are. */
 typedef struct zs_session {
@@ -156,15 +163,16 @@ extern "C" {
  * ordinary block, else the number is 18 (where nothing before it applies). Whatever it held before, it is all zeros after every call. */
 zs_checked zs_check(const uint8_t *file, size_t file_len, uint64_t *work, size_t work_len);
 
-/* Reads the file front to back. The result list receives offset and length of each record that matches, in file order. 27: it hasn't
- * two places for each. Where stop_given is false the bytes of stop have no influence. */
+/* Reads the file front to back. The result list receives one number for each record that matches, in file order: the offset of its first
+ * byte times 2^32, plus its length, which zs_unpack takes apart. No such number is 0. 27: more records match than the list has places. Where
+ * stop_given is false the bytes of stop have no influence. */
 zs_read_answer zs_read(const uint8_t *file, size_t file_len, const uint8_t *start, size_t start_len, bool stop_given,
                        const uint8_t *stop, size_t stop_len, const uint8_t *prefix, size_t prefix_len, uint64_t *results,
                        size_t results_len);
 
 /* Searches the file through its index. The opened list receives the offset of each block opened, in walk order, root first; the result
- * list is that of zs_read. 26: no place is left for a block to open; 27: no two places are left for a match. Any bytes may be
- * searched; that every match is found is promised for files that zs_check accepts. */
+ * list is that of zs_read. 26: no place is left for a block to open; 27: none is left for a match. Any bytes may be searched; that every
+ * match is found is promised for files that zs_check accepts. */
 zs_found zs_search(const uint8_t *file, size_t file_len, const uint8_t *start, size_t start_len, bool stop_given,
                    const uint8_t *stop, size_t stop_len, const uint8_t *prefix, size_t prefix_len, uint64_t *opened,
                    size_t opened_len, uint64_t *results, size_t results_len);

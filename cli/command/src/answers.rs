@@ -3,7 +3,7 @@
 //! A short list is refused (18, 27) and the call is made again with a longer one. How many blocks a file has (18) and how many a search
 //! opens (26) is counted beforehand. So a person never sees these numbers, except 27 where `--max-results` sets the limit.
 
-use zs_library::Query;
+use zs_library::{Part, Query};
 
 use crate::failure::Failure;
 use crate::input::LONGEST;
@@ -14,9 +14,9 @@ use crate::walk::measure;
 /// The least full size of an ordinary block: a number, a level, one byte of payload and the checksum.
 pub const SMALLEST_BLOCK: usize = 11;
 /// Places of a first list: a lookup finds few records.
-const FIRST_PLACES: usize = 1024;
+const FIRST_PLACES: usize = 512;
 /// Besides, a first list has a place for so many bytes that may be searched.
-const BYTES_PER_PLACE: usize = 64;
+const BYTES_PER_PLACE: usize = 128;
 
 /// What an accepted file holds, or what a search meets at most.
 #[derive(Clone, Copy, Debug)]
@@ -25,7 +25,8 @@ pub struct Contents {
     pub records: u64,
 }
 
-/// The blocks opened, in walk order (none where the file was read front to back), and the result list without its zeros.
+/// The blocks opened, in walk order (none where the file was read front to back), and the result list without its zeros, a number for each
+/// match.
 pub struct Answer {
     pub opened: Vec<u64>,
     results: Vec<u64>,
@@ -33,12 +34,12 @@ pub struct Answer {
 
 impl Answer {
     pub fn count(&self) -> u64 {
-        self.results.len() as u64 / 2
+        self.results.len() as u64
     }
 
-    /// Offset and length of each match.
-    pub fn matches(&self) -> impl Iterator<Item = (u64, u64)> + '_ {
-        self.results.chunks_exact(2).map(|pair| (pair[0], pair[1]))
+    /// Where each match lies.
+    pub fn matches(&self) -> impl Iterator<Item = Part> + '_ {
+        self.results.iter().map(|number| Part::of_match(*number))
     }
 }
 
@@ -133,10 +134,10 @@ pub fn search(
     };
     let mut results = Places::new(first, most_results(most.records, limit));
     loop {
-        let (mut opened, mut pairs) = (zeros(places(most.blocks))?, results.zeros()?);
-        let answer = zs_library::search(file, query, &mut opened, &mut pairs);
+        let (mut opened, mut list) = (zeros(places(most.blocks))?, results.zeros()?);
+        let answer = zs_library::search(file, query, &mut opened, &mut list);
         match answer.number {
-            0 => return Ok(cut_lists(opened, answer.opened, pairs, answer.matches)),
+            0 => return Ok(cut_lists(opened, answer.opened, list, answer.matches)),
             27 if results.grow() => {}
             27 => return refuse_matches(file, limit),
             number => return refuse(file, number, answer.place),
@@ -155,12 +156,12 @@ pub fn read(
     let first = known.map_or(0, |contents| first_results(length, query, contents));
     // A record takes a byte or more.
     let records = known.map_or(length as u64, |contents| contents.records);
-    let mut results = Places::new(first.max(length / 16), most_results(records, limit));
+    let mut results = Places::new(first.max(length / 32), most_results(records, limit));
     loop {
-        let mut pairs = results.zeros()?;
-        let answer = zs_library::read(file, query, &mut pairs);
+        let mut list = results.zeros()?;
+        let answer = zs_library::read(file, query, &mut list);
         match answer.number {
-            0 => return Ok(cut_lists(Vec::new(), 0, pairs, answer.matches)),
+            0 => return Ok(cut_lists(Vec::new(), 0, list, answer.matches)),
             27 if results.grow() => {}
             27 => return refuse_matches(file, limit),
             number => return refuse(file, number, answer.place),
@@ -215,15 +216,15 @@ pub fn readable(file: &[u8]) -> &[u8] {
 /// Places for the results of a checked file. A check takes longer than clearing a long list, which saves calls.
 fn first_results(length: usize, query: &Query, contents: Contents) -> usize {
     if asks_for_all(query) {
-        places(contents.records.saturating_mul(2))
+        places(contents.records)
     } else {
         length / BYTES_PER_PLACE + FIRST_PLACES
     }
 }
 
-/// Two places for each record, and no more than the limit asks for.
+/// A place for each record, and no more than the limit asks for.
 fn most_results(records: u64, limit: Option<u64>) -> usize {
-    places(limit.unwrap_or(records).min(records).saturating_mul(2))
+    places(limit.unwrap_or(records).min(records))
 }
 
 fn places(number: u64) -> usize {
@@ -233,7 +234,7 @@ fn places(number: u64) -> usize {
 /// Cuts the lists to what was put on them.
 fn cut_lists(mut opened: Vec<u64>, blocks: u64, mut results: Vec<u64>, matches: u64) -> Answer {
     opened.truncate(places(blocks));
-    results.truncate(places(matches.saturating_mul(2)));
+    results.truncate(places(matches));
     Answer { opened, results }
 }
 

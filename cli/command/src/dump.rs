@@ -36,6 +36,5 @@ pub fn run(asked: &Dump) -> Result<(), Failure> {
 /// Writes each record, which is a part of the file.
 fn write_records(form: Form, file: &[u8], answer: &Answer, out: &mut dyn Write) -> io::Result<()> {
     let mut matches = answer.matches();
-    matches
-        .try_for_each(|(offset, length)| form.write(zs_library::bytes(file, offset, length), out))
+    matches.try_for_each(|part| form.write(zs_library::bytes(file, part.offset, part.length), out))
 }

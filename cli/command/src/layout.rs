@@ -2,6 +2,8 @@
 //!
 //! Nothing here decides anything. Verdicts, matches and opened blocks are the proved library's; what can't be made out is left out.
 
+use zs_library::Part;
+
 /// Levels of index blocks. Greater ones are reserved.
 pub const INDEX: std::ops::RangeInclusive<u8> = 1..=63;
 /// How long a block's checksum is.
@@ -100,19 +102,19 @@ pub fn count_blocks(file: &[u8]) -> usize {
 pub fn all_records(file: &[u8]) -> impl Iterator<Item = &[u8]> {
     let data = blocks(file).filter(|block| block.level == 0);
     data.flat_map(move |block| {
-        records(&block).map(move |(offset, length)| &file[offset as usize..][..length as usize])
+        records(&block).map(move |part| &file[part.offset as usize..][..part.length as usize])
     })
 }
 
-/// Offset and length of each record of a data block, up to the first that can't be made out.
-pub fn records<'a>(block: &Block<'a>) -> impl Iterator<Item = (u64, u64)> + 'a {
+/// Where each record of a data block lies, up to the first that can't be made out.
+pub fn records<'a>(block: &Block<'a>) -> impl Iterator<Item = Part> + 'a {
     let payload_end = block.end - CHECKSUM;
     let mut rest = block.payload;
     std::iter::from_fn(move || {
         let length = take_number(&mut rest)?;
         let offset = payload_end - rest.len() as u64;
         rest = rest.get(usize::try_from(length).ok()?..)?;
-        Some((offset, length))
+        Some(Part { offset, length })
     })
 }
 

@@ -2,22 +2,12 @@
 
 use std::fs;
 
-use crate::support::{shell, zs, Folder, CONTACTS, SMALL};
+use crate::support::{matching_records, shell, zs, Folder, CONTACTS, SMALL};
 use zs_reference::maker::random::{query, tree, Random};
 use zs_reference::maker::Tree;
 use zs_reference::reader::{self, Query};
 
 const AMPLE: usize = 100_000;
-
-/// The records that match, by the independent reader.
-fn matching_records(file: &[u8], query: &Query) -> Vec<Vec<u8>> {
-    let answer = reader::read(file, query, AMPLE);
-    assert_eq!(answer.number, 0);
-    let pairs = answer.results.chunks(2).take(answer.matches as usize);
-    pairs
-        .map(|pair| file[pair[0] as usize..(pair[0] + pair[1]) as usize].to_vec())
-        .collect()
-}
 
 fn lines(records: &[Vec<u8>]) -> Vec<u8> {
     records

@@ -3,15 +3,14 @@
 use crate::support::{shell, zs, Folder, SMALL};
 use zs_reference::maker::{Image, Plan};
 
-#[test]
-fn counting_everything_takes_no_list() {
-    // Four million empty records, of a byte each. A list of them takes sixteen bytes for each.
+/// Counts four million empty records, of a byte each, within so many KiB of memory. A list of them takes 32768.
+fn count_many(ways: &[&str], memory: u32) {
     let records = vec![0; 1 << 22];
     let blocks = vec![Plan::bytes(0, &records), Plan::index(1, &[("", 0)])];
     let folder = Folder::new();
     folder.write("many.zs", &Image::new(blocks).bytes());
-    for way in ["", "--scan", "--start ''"] {
-        let line = format!("ulimit -v 50000; exec $ZS dump --count many.zs {way}");
+    for way in ways {
+        let line = format!("ulimit -v {memory}; exec $ZS dump --count many.zs {way}");
         let run = shell(&line, &folder);
         assert_eq!(
             (run.status, run.text().as_str()),
@@ -20,6 +19,16 @@ fn counting_everything_takes_no_list() {
             run.err
         );
     }
+}
+
+#[test]
+fn counting_everything_takes_no_list() {
+    count_many(&["", "--scan", "--start ''"], 30_000);
+}
+
+#[test]
+fn counting_matches_takes_eight_bytes_for_each() {
+    count_many(&["--stop a", "--scan --stop a", "--unchecked"], 60_000);
 }
 
 #[test]

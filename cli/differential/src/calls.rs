@@ -6,7 +6,7 @@ use crate::inputs::Input;
 use crate::queries::{narrow_range, query};
 use crate::store_calls::draw_stores;
 use zs_reference::maker::random::Random;
-use zs_reference::reader::{check, read, search, Checked, Query};
+use zs_reference::reader::{check, read, search, unpack, Checked, Query};
 use zs_reference::sim::import;
 use zs_reference::writer::{whole_record, write, write_by};
 
@@ -94,7 +94,7 @@ pub fn draw_calls(random: &mut Random, file: &[u8], strings: &[Vec<u8>]) -> Vec<
 
 /// Everything, and some queries near the given strings.
 fn draw_queries(random: &mut Random, checked: &Checked, strings: &[Vec<u8>]) -> Vec<Query> {
-    if 2 * checked.records > AMPLE as u64 {
+    if checked.records > AMPLE as u64 {
         return vec![narrow_range(random, strings)];
     }
     let mut queries = vec![Query::default()];
@@ -131,7 +131,7 @@ fn add_searches(random: &mut Random, file: &[u8], query: &Query, calls: &mut Vec
         calls.push((call, room));
     };
     if answer.number == 0 {
-        let (opened, results) = (answer.opened as usize, 2 * answer.matches as usize);
+        let (opened, results) = (answer.opened as usize, answer.matches as usize);
         let (more, further) = (1 + random.below(9), 1 + random.below(9));
         ask(opened + more, results + further, Room::Plenty);
         ask(opened, results, Room::Exact);
@@ -147,9 +147,12 @@ fn add_searches(random: &mut Random, file: &[u8], query: &Query, calls: &mut Vec
         if opened > 0 {
             ask(opened - 1, results, Room::Any);
         }
+        if results > 0 {
+            ask(opened, results - 1, Room::Any);
+        }
     }
     if random.once_in(2) {
-        ask(random.below(12), random.below(12), Room::Any);
+        ask(random.below(12), random.below(6), Room::Any);
     }
 }
 
@@ -175,17 +178,17 @@ fn add_reads(random: &mut Random, file: &[u8], query: &Query, calls: &mut Vec<As
         calls.push((Call::Read { query, results }, room));
     };
     if answer.number == 0 {
-        let results = 2 * answer.matches as usize;
+        let results = answer.matches as usize;
         ask(results + 1 + random.below(9), Room::Plenty);
         ask(results, Room::Exact);
         if results > 0 {
             ask(results - 1, Room::ResultsShort);
         }
     } else {
-        ask(random.pick(&[AMPLE, 0, 1, 4]), Room::Any);
+        ask(random.pick(&[AMPLE, 0, 1, 2]), Room::Any);
     }
     if random.once_in(2) {
-        ask(random.below(12), Room::Any);
+        ask(random.below(6), Room::Any);
     }
 }
 
@@ -195,8 +198,8 @@ fn add_records(random: &mut Random, file: &[u8], calls: &mut Vec<Asked>) {
     let mut ask = |offset, length| calls.push((Call::Record { offset, length }, Room::Any));
     let answer = read(file, &Query::default(), AMPLE);
     if answer.matches > 0 {
-        let record = 2 * random.below(answer.matches as usize);
-        ask(answer.results[record], answer.results[record + 1]);
+        let (offset, length) = unpack(answer.results[random.below(answer.matches as usize)]);
+        ask(offset, length);
     }
     let back = random.below(20) as u64;
     let near = end.saturating_sub(back) + random.below(3) as u64;

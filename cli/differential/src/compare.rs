@@ -226,19 +226,21 @@ pub fn read_back(outcome: &mut Outcome, file: &[u8], records: &[u8]) {
     let payloads: Vec<&[u8]> = data_payloads(file, &frames).collect();
     outcome.require(payloads.concat() == records, "other data payloads");
 
-    let mut results = vec![7; 2 * checked.records as usize];
+    let mut results = vec![7; checked.records as usize];
     let everything = library::Query {
         start: &[],
         stop: None,
         prefix: &[],
     };
     library::read(file, &everything, &mut results);
-    let mut found = Vec::new();
-    for pair in results.chunks(2) {
-        found.extend(encode(pair[1]));
-        found.extend(library::bytes(file, pair[0], pair[1]));
+    let mut rest = Some(records);
+    for part in results.into_iter().map(library::Part::of_match) {
+        let record = library::bytes(file, part.offset, part.length);
+        rest = rest
+            .and_then(|rest| rest.strip_prefix(&encode(part.length)[..]))
+            .and_then(|rest| rest.strip_prefix(record));
     }
-    outcome.require(found == records, "other records are read");
+    outcome.require(rest == Some(&[]), "other records are read");
 }
 
 /// A query with arbitrary bytes around its parts.

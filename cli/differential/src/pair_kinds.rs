@@ -5,7 +5,7 @@ use std::collections::BTreeMap;
 use crate::call::Call;
 use crate::calls::Asked;
 use crate::frames::{frames, header_end};
-use zs_reference::reader::{check, read, Query};
+use zs_reference::reader::{check, read, unpack, Query};
 
 /// What a pair may be like, in words, and the test.
 type Kind = (&'static str, fn(&Seen) -> bool);
@@ -231,10 +231,10 @@ impl Seen {
 /// The records of an accepted file, each with the number of its block.
 fn records(file: &[u8], count: u64) -> impl Iterator<Item = (usize, &[u8])> {
     let frames = header_end(file).map_or_else(Vec::new, |end| frames(file, end));
-    let all = read(file, &Query::default(), 2 * count as usize).results;
-    (0..count as usize).map(move |at| {
-        let (offset, length) = (all[2 * at] as usize, all[2 * at + 1] as usize);
+    let all = read(file, &Query::default(), count as usize).results;
+    all.into_iter().map(unpack).map(move |(offset, length)| {
+        let offset = offset as usize;
         let block = frames.partition_point(|frame| frame.start < offset);
-        (block, &file[offset..offset + length])
+        (block, &file[offset..][..length as usize])
     })
 }

@@ -4,7 +4,7 @@ use crate::faults::{draw_faulty, NUMBERS};
 use crate::shapes::{reshape, shape};
 use crate::strings::vary;
 use zs_reference::maker::random::Random;
-use zs_reference::reader::{check, read, Query};
+use zs_reference::reader::{check, read, unpack, Query};
 
 /// A file and the one that it is compared with.
 pub type Pair = [Vec<u8>; 2];
@@ -62,10 +62,10 @@ fn draw_related(random: &mut Random, file: &[u8]) -> Vec<u8> {
 
 /// The records of an accepted file.
 pub fn records_of(file: &[u8]) -> Vec<Vec<u8>> {
-    let places = 2 * check(file, usize::MAX).records as usize;
+    let places = check(file, usize::MAX).records as usize;
     let all = read(file, &Query::default(), places);
-    let parts = all.results.chunks(2);
-    let bytes = |part: &[u64]| file[part[0] as usize..][..part[1] as usize].to_vec();
+    let parts = all.results.into_iter().map(unpack);
+    let bytes = |(offset, length)| file[offset as usize..][..length as usize].to_vec();
     parts.map(bytes).collect()
 }
 

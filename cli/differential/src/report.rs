@@ -27,6 +27,32 @@ impl Tally {
         Ok(())
     }
 
+    fn write_readers(&self, out: &mut fmt::Formatter<'_>) -> fmt::Result {
+        writeln!(
+            out,
+            "accepted files, one for each query: {} searches, {} with matches; {} reads, {} with matches",
+            self.search.answered, self.search.matched, self.read.answered, self.read.matched
+        )?;
+        writeln!(
+            out,
+            "  with two or more levels below the root: {} searches, {} with matches",
+            self.deep, self.deep_matched
+        )?;
+        writeln!(
+            out,
+            "  just enough places: {} searches, {} reads, {} checks",
+            self.search.exact, self.read.exact, self.check.exact
+        )?;
+        writeln!(
+            out,
+            "  one place short: {} opened lists, {} + {} result lists, {} work lists",
+            self.search.first_short,
+            self.search.results_short,
+            self.read.results_short,
+            self.check.first_short
+        )
+    }
+
     fn write_inputs(&self, out: &mut fmt::Formatter<'_>) -> fmt::Result {
         writeln!(
             out,
@@ -129,24 +155,7 @@ impl fmt::Display for Tally {
         )?;
         let [metadata, others] = self.texts;
         writeln!(out, "texts: {metadata} are metadata, {others} not")?;
-        writeln!(
-            out,
-            "accepted files, one for each query: {} searches, {} with matches; {} reads, {} with matches",
-            self.search.answered, self.search.matched, self.read.answered, self.read.matched
-        )?;
-        writeln!(
-            out,
-            "  with two or more levels below the root: {} searches, {} with matches",
-            self.deep, self.deep_matched
-        )?;
-        writeln!(
-            out,
-            "  one place short: {} opened lists, {} + {} result lists, {} work lists",
-            self.search.first_short,
-            self.search.results_short,
-            self.read.results_short,
-            self.check.first_short
-        )?;
+        self.write_readers(out)?;
         self.write_inputs(out)?;
         self.write_dumps(out)?;
         self.write_stores(out)?;

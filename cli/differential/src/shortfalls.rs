@@ -115,6 +115,7 @@ impl Tally {
             format!("{number} after {whole} stores: {count} times")
         }));
         missing.extend(self.missing_lengths());
+        missing.extend(self.missing_exact());
         let unmet = self.demands().into_iter().filter(|(met, _)| !met);
         missing.extend(unmet.map(|(_, what)| what.to_string()));
         missing
@@ -129,6 +130,15 @@ impl Tally {
         };
         let first = (0..FIELDS).chain(FAR).find(is_missing);
         first.map(|length| format!("name fields of {length} bytes"))
+    }
+
+    /// Calls that weren't answered with just enough room as often as with more.
+    fn missing_exact(&self) -> Vec<String> {
+        let columns = self.columns().into_iter();
+        let missed = columns.filter(|(_, column)| column.exact != column.answered);
+        missed
+            .map(|(call, column)| format!("{call:?} with just enough room: {} times", column.exact))
+            .collect()
     }
 
     /// What a run has to reach besides the count of each number, and whether it did.

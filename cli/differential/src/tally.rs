@@ -47,6 +47,8 @@ pub struct Column {
     pub answered: u64,
     /// Those of them with matches.
     pub matched: u64,
+    /// Answers with just enough room, on the same.
+    pub exact: u64,
     /// Refusals 18 or 26 on accepted files, by a work list or opened list that is one place short; 31 by such an output.
     pub first_short: u64,
     /// Refusals 27 or 35 on accepted files, by a result list or a list of differences that is one place short.
@@ -67,7 +69,8 @@ impl Column {
             Room::FirstShort => self.first_short += u64::from([18, 26, 31].contains(&number)),
             Room::ResultsShort => self.results_short += u64::from([27, 35].contains(&number)),
             Room::WholeShort => self.whole_short += u64::from(number == 0),
-            Room::Exact | Room::Any => {}
+            Room::Exact => self.exact += u64::from(number == 0),
+            Room::Any => {}
         }
     }
 

@@ -131,6 +131,16 @@ pub struct Part {
     pub length: u64,
 }
 
+impl Part {
+    /// Where a match lies, from its number on a result list: the offset times 2^32, plus the length.
+    pub const fn of_match(number: u64) -> Self {
+        Part {
+            offset: number >> 32,
+            length: number & 0xffff_ffff,
+        }
+    }
+}
+
 /// A part of one of two files.
 #[repr(C)]
 #[derive(Clone, Copy, Debug, PartialEq, Eq)]

@@ -104,7 +104,7 @@ pub fn check(file: &[u8], work: &mut [u64]) -> Checked {
     unsafe { zs_check(file.as_ptr(), file.len(), work.as_mut_ptr(), work.len()) }
 }
 
-/// Reads the file front to back; `results` holds offset and length of each match, then zeros.
+/// Reads the file front to back; `results` holds a number for each match, which [`Part::of_match`] takes apart, then zeros.
 pub fn read(file: &[u8], query: &Query, results: &mut [u64]) -> ReadAnswer {
     let stop = query.stop.unwrap_or(&[]);
     // SAFETY: each pointer comes with the length of the slice it is taken from, and `results` is borrowed alone.
@@ -125,8 +125,8 @@ pub fn read(file: &[u8], query: &Query, results: &mut [u64]) -> ReadAnswer {
     }
 }
 
-/// Searches through the index; `opened` holds the offset of each block opened in walk order, `results` offset and length of each match,
-/// each then zeros.
+/// Searches through the index; `opened` holds the offset of each block opened in walk order, `results` a number for each match as those of
+/// [`read`] do, each then zeros.
 pub fn search(file: &[u8], query: &Query, opened: &mut [u64], results: &mut [u64]) -> Found {
     let stop = query.stop.unwrap_or(&[]);
     // SAFETY: each pointer comes with the length of the slice it is taken from; `opened` and `results` are each borrowed alone, so

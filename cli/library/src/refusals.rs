@@ -144,7 +144,7 @@ pub const TABLE: &[Row] = &[
     row(26, SEARCH, ZERO, "the search opens more blocks than the opened list has places",
         "check the file, then give an opened list with a place for each data and index block"),
     row(27, READ_AND_SEARCH, ZERO, "more records match than there is room for",
-        "ask for fewer records, or give a greater --max-results or a result list with two places per match"),
+        "ask for fewer records, or give a greater --max-results or a result list with a place for each match"),
     row(28, WRITE_AND_STEPS, ZERO, "the records to be written aren't each a length and as many bytes, or there are none, or a session's step is out of turn",
         "give one record or more, each after its length, a number in shortest form; in a session begin once, then add records, and finish last"),
     row(29, WRITE_AND_ADD, ZERO, "the records to be written are out of order",

@@ -16,10 +16,11 @@ const CALLS: &str = "\
 check 0 0 3 4
 work 0 0 0 0
 read 0 0 2 0
-results 111 2 124 2 0 0
+results 476741369858 532575944706 0
 search 0 0 2 3
 opened 136 106 121 0
-results 111 2 124 2 0 0
+results 476741369858 532575944706 0
+first 111 2 0 0
 record 111 2 0 0
 within 1 0 0 0
 metadata 96 2 0 0
@@ -28,7 +29,7 @@ write 0 0 154 0
 the file 1 0 0 0
 check 0 0 3 4
 read 0 0 3 0
-results 111 2 124 2 127 1
+results 476741369858 532575944706 545460846593
 write 31 0 0 0
 import 0 0 32 0
 names 97 0 98 11

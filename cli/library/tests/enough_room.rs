@@ -71,10 +71,13 @@ fn opened_and_result_places_by_the_counts_of_the_check() {
         let checked = check(&file, &mut vec![7; file.len() / 11]);
         if checked.number == 0 {
             let mut opened = vec![7; checked.blocks as usize];
-            let mut results = vec![7; 2 * checked.records as usize];
+            let mut results = vec![7; checked.records as usize];
             let found = search(&file, &ALL, &mut opened, &mut results);
             assert_eq!((found.number, found.matches), (0, checked.records));
             assert_eq!(read(&file, &ALL, &mut results).number, 0);
+            let short = &mut results[1..];
+            assert_eq!(search(&file, &ALL, &mut opened, short).number, 27);
+            assert_eq!(read(&file, &ALL, short).number, 27);
             accepted += 1;
         }
     }
@@ -101,9 +104,9 @@ fn five_places_for_each_record_of_two_files() {
 }
 
 #[test]
-fn two_result_places_for_each_byte_when_reading_anything() {
+fn a_result_place_for_each_byte_when_reading_anything() {
     for file in files() {
-        assert_ne!(read(&file, &ALL, &mut vec![7; 2 * file.len()]).number, 27);
+        assert_ne!(read(&file, &ALL, &mut vec![7; file.len()]).number, 27);
     }
 }
 
@@ -133,7 +136,7 @@ fn a_stack_of_64_kib() {
     let dump = full_phonebook(241, 100);
     let calls = move || {
         let checked = check(&file, &mut [7; 64]);
-        let found = search(&file, &ALL, &mut [7; 64], &mut [7; 2]);
+        let found = search(&file, &ALL, &mut [7; 64], &mut [7; 1]);
         let written = write(
             &nested_arrays(64),
             &RECORDS,

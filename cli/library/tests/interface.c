@@ -4,7 +4,7 @@
 
 #include "zs.h"
 
-enum { WORK = 4, OPENED = 4, RESULTS = 6, LIST = 16, OUTPUT = 200 };
+enum { WORK = 4, OPENED = 4, RESULTS = 3, LIST = 16, OUTPUT = 200 };
 
 static uint8_t file[65536], output[OUTPUT], archive[OUTPUT];
 static size_t length;
@@ -93,7 +93,9 @@ static void call_all(void)
     print_list("opened", opened, OPENED);
     print_list("results", results, RESULTS);
 
-    print_part("record", zs_record(file, length, results[0], results[1]));
+    zs_part first = zs_unpack(results[0]);
+    print_part("first", first);
+    print_part("record", zs_record(file, length, first.offset, first.length));
     print_four("within", zs_within(file, length, length, 0), zs_within(file, length, length, 1), 0, 0);
 
     zs_part metadata = zs_metadata(file, length);

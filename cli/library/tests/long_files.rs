@@ -2,7 +2,7 @@
 //! import has no such limit.
 use std::fs::OpenOptions;
 use zs_library::{
-    check, compare, import_sim, map, read, search, write, Counts, Query, Refused, Writer,
+    check, compare, import_sim, map, read, search, write, Counts, Part, Query, Refused, Writer,
 };
 
 const LONGEST: u64 = 1 << 30;
@@ -85,6 +85,22 @@ fn an_output_may_be_longer_than_the_longest_file_but_not_the_file() {
     assert!(is_zeros(&output));
 }
 
+/// Both readers find one record that begins so, and it lies there.
+fn expect_match(file: &[u8], prefix: &[u8], due: Part) {
+    let query = Query {
+        start: &[],
+        stop: None,
+        prefix,
+    };
+    let [mut read_results, mut search_results] = [[7; 1]; 2];
+    let answer = read(file, &query, &mut read_results);
+    let found = search(file, &query, &mut [7; 2], &mut search_results);
+    assert_eq!([answer.number, found.number], [0; 2]);
+    assert_eq!([answer.matches, found.matches], [1; 2]);
+    assert_eq!(read_results, search_results);
+    assert_eq!(read_results.map(Part::of_match), [due]);
+}
+
 #[test]
 #[ignore = "checksums over 2 GiB and more"]
 fn the_longest_file_is_written() {
@@ -93,6 +109,14 @@ fn the_longest_file_is_written() {
     assert_eq!((written.number, written.length), (0, LONGEST));
     let checked = check(&output, &mut [7; 2]);
     assert_eq!((checked.number, checked.blocks, checked.records), (0, 2, 2));
+    expect_match(
+        &output,
+        &[0],
+        Part {
+            offset: 118,
+            length: LONGEST - 143,
+        },
+    );
     let short = &mut output[1..];
     let written = write(b"{}", &input_for(LONGEST), COUNTS, short);
     assert_eq!((written.number, written.length), (31, 0));
@@ -141,10 +165,14 @@ fn a_session_up_to_the_longest_file() {
     // The index block has 17 bytes: its one key is empty.
     writer.start_afresh();
     assert_eq!(writer.begin(b"{}", COUNTS), Ok(()));
-    assert_eq!(writer.add(&record[17..]), Ok(()));
+    assert_eq!(writer.add(&record[19..]), Ok(()));
+    assert_eq!(writer.add(&[1]), Ok(()));
     assert_eq!(writer.finish(), Ok(()));
     assert_eq!(writer.next_block(), LONGEST);
     assert_eq!(check(writer.standing(), &mut [7; 2]).number, 0);
+    let offset = writer.last_record();
+    assert_eq!(offset, LONGEST - 17 - 8 - 1);
+    expect_match(writer.standing(), &[1], Part { offset, length: 1 });
 }
 
 /// Equal records with the longest names, of which ours take 257 bytes each.

@@ -23,22 +23,22 @@ static void refuse(uint64_t number, uint64_t place)
     exit(1);
 }
 
-static void print_part(const uint8_t *file, uint64_t offset, uint64_t length)
+static void print_part(const uint8_t *file, zs_part part)
 {
-    fwrite(file + offset, 1, (size_t)length, stdout);
+    fwrite(file + part.offset, 1, (size_t)part.length, stdout);
     printf("\n");
 }
 
 /* The counts of the check are the lengths of lists that suffice for any search of the file. */
 static void look_up(const uint8_t *file, size_t file_len, zs_checked checked, const char *prefix)
 {
-    uint64_t *opened = list(checked.blocks), *results = list(2 * checked.records);
+    uint64_t *opened = list(checked.blocks), *results = list(checked.records);
     zs_found found = zs_search(file, file_len, NULL, 0, false, NULL, 0, (const uint8_t *)prefix, strlen(prefix), opened,
-                               checked.blocks, results, 2 * checked.records);
+                               checked.blocks, results, checked.records);
     if (found.number != ZS_OK)
         refuse(found.number, found.place);
     for (uint64_t i = 0; i < found.matches; i++)
-        print_part(file, results[2 * i], results[2 * i + 1]);
+        print_part(file, zs_unpack(results[i]));
     free(opened);
     free(results);
 }
@@ -57,8 +57,7 @@ int main(int count, char **words)
     free(work);
     if (checked.number != ZS_OK)
         refuse(checked.number, checked.place);
-    zs_part metadata = zs_metadata(file, file_len);
-    print_part(file, metadata.offset, metadata.length);
+    print_part(file, zs_metadata(file, file_len));
     look_up(file, file_len, checked, words[2]);
     return 0;
 }

@@ -1,7 +1,7 @@
 //! Sessions: the output and the figures after each step, refusals that change nothing, outputs that grow, and the writer's file.
 
 use zs_library::{
-    check, read, write, Counts, Query, Refused, Session, Stepped, Writer, UNFINISHED,
+    check, read, write, Counts, Part, Query, Refused, Session, Stepped, Writer, UNFINISHED,
 };
 
 const COUNTS: Counts = Counts {
@@ -112,12 +112,11 @@ fn the_file_is_the_writer_s_unless_a_block_is_closed_early() {
             stop: None,
             prefix: &[],
         };
-        let mut results = [7; 8];
+        let mut results = [7; 4];
         assert_eq!(read(&file, &everything, &mut results).matches, 4);
-        let found = results
-            .chunks(2)
-            .map(|pair| zs_library::bytes(&file, pair[0], pair[1]));
-        assert_eq!(found.collect::<Vec<_>>(), RECORDS);
+        let parts = results.map(Part::of_match);
+        let found = parts.map(|part| zs_library::bytes(&file, part.offset, part.length));
+        assert_eq!(found, RECORDS);
     }
 }
 

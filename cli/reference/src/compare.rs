@@ -4,7 +4,7 @@
 
 use std::collections::BTreeMap;
 
-use crate::reader::{check, read, within, Query};
+use crate::reader::{check, read, unpack, within, Query};
 
 /// The answer of the comparison. Its work list is all zeros after every call.
 #[derive(Debug, Clone, Default, PartialEq, Eq)]
@@ -88,9 +88,8 @@ fn records(file: &[u8], which: u64, work_places: usize) -> Result<usize, Compare
 
 /// Counts all records of a file.
 fn count<'a>(counted: &mut Counted<'a>, at: usize, file: &'a [u8], records: usize) {
-    let all = read(file, &Query::default(), 2 * records);
-    for pair in all.results.chunks_exact(2) {
-        let (offset, length) = (pair[0], pair[1]);
+    let all = read(file, &Query::default(), records);
+    for (offset, length) in all.results.into_iter().map(unpack) {
         let copies = &mut counted.entry(part(file, offset, length)).or_default()[at];
         if copies.count == 0 || offset < copies.lowest {
             copies.lowest = offset;

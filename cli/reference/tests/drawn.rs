@@ -2,6 +2,7 @@
 
 use std::collections::BTreeSet;
 
+use crate::support::results::records_at;
 use crate::support::tree::{faults, Tree as Seen};
 use zs_reference::maker::random::{bend, break_bytes, query, tree, Random};
 use zs_reference::maker::{Keys, Tree};
@@ -52,11 +53,8 @@ fn compare_with_records(tree: &Tree, file: &[u8], query: &Query, found: &Found) 
         .map(Vec::as_slice)
         .filter(|record| query.matches(record))
         .collect();
-    let pairs = found.results.chunks(2).take(found.matches as usize);
-    let given: Vec<&[u8]> = pairs
-        .map(|pair| &file[pair[0] as usize..(pair[0] + pair[1]) as usize])
-        .collect();
-    assert_eq!(given, due);
+    let numbers = &found.results[..found.matches as usize];
+    assert_eq!(records_at(file, numbers), due);
 }
 
 /// Opened exactly by the rule, and at most two in vain on each level below the root.
@@ -81,7 +79,7 @@ fn compare_opened(file: &[u8], query: &Query, found: &Found) {
 
 /// With exactly the places needed the answer stays; with one less it is 26 or 27.
 fn compare_short_lists(file: &[u8], query: &Query, found: &Found) {
-    let (opened, results) = (found.opened as usize, 2 * found.matches as usize);
+    let (opened, results) = (found.opened as usize, found.matches as usize);
     let fitting = search(file, query, opened, results);
     assert_eq!(fitting.number, 0);
     assert_eq!(fitting.results, found.results[..results]);
@@ -132,7 +130,7 @@ fn compare_any(random: &mut Random, file: &[u8]) {
     let checked = check(file, AMPLE);
     compare_number(checked.number, &faults(file));
     let query = query(random);
-    let (opened_places, result_places) = (random.below(40), random.below(20));
+    let (opened_places, result_places) = (random.below(40), random.below(10));
     let answer = read(file, &query, result_places);
     let found = search(file, &query, opened_places, result_places);
     assert_eq!(answer.results.len(), result_places);

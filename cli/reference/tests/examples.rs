@@ -2,7 +2,8 @@
 
 use zs_reference::corpus::Corpus;
 use zs_reference::reader::{
-    check, may_hold_match, metadata, number, read, record, search, within, NumberFault, Query,
+    check, may_hold_match, metadata, number, read, record, search, unpack, within, NumberFault,
+    Query,
 };
 
 fn file(name: &str) -> Vec<u8> {
@@ -78,7 +79,9 @@ fn smallest_file() {
     assert_eq!((checked.number, checked.place), (0, 0));
     assert_eq!((checked.blocks, checked.records), (2, 1));
     assert_eq!(check(&file, 1).number, 18);
-    assert_eq!(read(&file, &Query::default(), 2).results, [109, 0]);
+    assert_eq!(read(&file, &Query::default(), 1).results, [468_151_435_264]);
+    assert_eq!(unpack(468_151_435_264), (109, 0));
+    assert_eq!(read(&file, &Query::default(), 0).number, 27);
 }
 
 #[test]
@@ -91,24 +94,36 @@ fn two_block_file() {
     let checked = check(&file, 3);
     assert_eq!((checked.number, checked.blocks, checked.records), (0, 3, 4));
 
-    let found = search(&file, &prefix(b"\x62"), 3, 4);
-    assert_eq!(found.number, 0);
-    assert_eq!(found.results, [111, 2, 124, 2]);
+    let found = search(&file, &prefix(b"\x62"), 3, 2);
+    assert_eq!((found.number, found.matches), (0, 2));
+    assert_eq!(found.results, [476_741_369_858, 532_575_944_706]);
     assert_eq!(found.opened_list, [136, 106, 121]);
-    let answer = read(&file, &prefix(b"\x62"), 4);
+    let answer = read(&file, &prefix(b"\x62"), 2);
     assert_eq!((answer.number, answer.matches), (0, 2));
-    assert_eq!(answer.results, [111, 2, 124, 2]);
+    assert_eq!(answer.results, [476_741_369_858, 532_575_944_706]);
+    assert_eq!(unpack(476_741_369_858), (111, 2));
+    assert_eq!(unpack(532_575_944_706), (124, 2));
 
     let found = search(&file, &prefix(b"\x61"), 3, 2);
-    assert_eq!(found.results, [109, 1]);
+    assert_eq!(found.results, [468_151_435_265, 0]);
     assert_eq!(found.opened_list, [136, 106, 0]);
-    assert_eq!(found.opened, 2);
+    assert_eq!((found.matches, found.opened), (1, 2));
+    assert_eq!(unpack(468_151_435_265), (109, 1));
+}
 
-    assert_eq!(search(&file, &prefix(b"\x62"), 3, 3).number, 27);
-    assert_eq!(read(&file, &prefix(b"\x62"), 3).number, 27);
-    let short = search(&file, &prefix(b"\x62"), 2, 4);
+#[test]
+fn two_block_file_without_room() {
+    let file = file("two-blocks");
+    let short = search(&file, &prefix(b"\x62"), 3, 1);
+    assert_eq!((short.number, short.place), (27, 0));
+    assert_eq!((short.matches, short.opened), (0, 0));
+    assert_eq!((short.opened_list, short.results), (vec![0; 3], vec![0; 1]));
+    let short = read(&file, &prefix(b"\x62"), 1);
+    assert_eq!((short.number, short.place, short.matches), (27, 0, 0));
+    assert_eq!(short.results, [0]);
+    let short = search(&file, &prefix(b"\x62"), 2, 2);
     assert_eq!((short.number, short.place, short.opened), (26, 0, 0));
-    assert_eq!((short.opened_list, short.results), (vec![0; 2], vec![0; 4]));
+    assert_eq!((short.opened_list, short.results), (vec![0; 2], vec![0; 2]));
 }
 
 #[test]

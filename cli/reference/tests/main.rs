@@ -6,6 +6,7 @@ mod drawn;
 mod examples;
 mod json;
 mod opening;
+mod results;
 mod samples;
 mod session;
 mod session_cases;

@@ -1,5 +1,6 @@
 //! The second session: bytes that can be worked out by hand, its refusals, the moves of an open block, and the writer's files.
 
+use crate::support::results::records_at;
 use crate::support::tree::faults;
 use zs_reference::checksums::crc64;
 use zs_reference::maker::random::Random;
@@ -315,11 +316,8 @@ fn drawn_sessions() {
         );
         assert_eq!((check(file, AMPLE).number, faults(file).len()), (0, 0));
         let found = read(file, &Query::default(), AMPLE);
-        let pairs = found.results.chunks(2).take(records.len());
-        let found: Vec<&[u8]> = pairs
-            .map(|pair| &file[pair[0] as usize..][..pair[1] as usize])
-            .collect();
-        assert_eq!(found, records);
+        let numbers = &found.results[..records.len()];
+        assert_eq!(records_at(file, numbers), records);
         short += compare_with_writer(&session, &records, per_block, per_index);
     }
     assert!((50..250).contains(&short), "{short}");

@@ -2,6 +2,7 @@
 
 use std::collections::BTreeSet;
 
+use crate::support::results::records_at;
 use crate::support::take_apart;
 use crate::support::tree::faults;
 use zs_reference::maker::random::{tree, Random};
@@ -270,10 +271,6 @@ fn is_the_makers(rule: KeyRule, tree: &Tree, counts: Counts, records: &[Vec<u8>]
 fn keeps_rules(file: &[u8], records: &[Vec<u8>]) {
     assert_eq!(check(file, AMPLE).number, 0);
     assert_eq!(faults(file), BTreeSet::new());
-    let answer = read(file, &Query::default(), 2 * records.len());
-    let pairs = answer.results.chunks(2);
-    let given: Vec<&[u8]> = pairs
-        .map(|pair| &file[pair[0] as usize..(pair[0] + pair[1]) as usize])
-        .collect();
-    assert_eq!(given, records);
+    let answer = read(file, &Query::default(), records.len());
+    assert_eq!(records_at(file, &answer.results), records);
 }

@@ -199,11 +199,17 @@ pub fn damaged_sample() -> (Vec<u8>, usize) {
 
 /// The records of an archive, by the independent reader.
 pub fn records_of(file: &[u8]) -> Vec<Vec<u8>> {
-    let answer = reader::read(file, &Query::default(), 2 * file.len());
+    matching_records(file, &Query::default())
+}
+
+/// Those of them that match.
+pub fn matching_records(file: &[u8], query: &Query) -> Vec<Vec<u8>> {
+    let answer = reader::read(file, query, file.len());
     assert_eq!(answer.number, 0);
-    let pairs = answer.results.chunks(2).take(answer.matches as usize);
-    pairs
-        .map(|pair| file[pair[0] as usize..(pair[0] + pair[1]) as usize].to_vec())
+    let matches = answer.results.iter().take(answer.matches as usize);
+    let parts = matches.map(|number| reader::unpack(*number));
+    parts
+        .map(|(offset, length)| file[offset as usize..][..length as usize].to_vec())
         .collect()
 }
 

@@ -2,7 +2,7 @@
 
 use super::{Call, Case, Claim, Corpus, File, MOST_PLACES};
 use crate::maker::{Image, Tree};
-use crate::reader::{check, read, search, Query};
+use crate::reader::{check, read, search, unpack, Query};
 use crate::sim::import;
 use crate::writer::{write, Counts};
 
@@ -120,7 +120,7 @@ impl Corpus {
         let answer = read(&self.bytes_of(name), query, usize::from(MOST_PLACES));
         let spare = self.spare_places();
         let places = match answer.number {
-            0 => 2 * answer.matches + spare,
+            0 => answer.matches + spare,
             _ => 4 + spare,
         };
         self.read(name, query, places);
@@ -134,11 +134,21 @@ impl Corpus {
         let few = search(&file, query, FEW, FEW);
         let spare = self.spare_places();
         let (opened, results) = match answer.number {
-            0 => (answer.opened + spare, 2 * answer.matches + spare),
+            0 => (answer.opened + spare, answer.matches + spare),
             number if few.number == number => (FEW as u64, FEW as u64 + spare),
             _ => (most as u64, most as u64),
         };
         self.search(name, query, opened, results);
+    }
+
+    /// Reads and searches an accepted file with just enough result places, one less and one more. Some record must match.
+    pub fn ask_result_places(&mut self, name: &str, query: &Query) {
+        let most = usize::from(MOST_PLACES);
+        let found = search(&self.bytes_of(name), query, most, most);
+        for places in [found.matches, found.matches - 1, found.matches + 1] {
+            self.read(name, query, places);
+            self.search(name, query, found.opened, places);
+        }
     }
 
     /// Places beyond those needed: none, one or two, by turns.
@@ -224,8 +234,9 @@ impl Corpus {
     pub fn ask_records(&mut self, name: &str, query: &Query, some: usize) {
         let answer = read(&self.bytes_of(name), query, usize::from(MOST_PLACES));
         let matches = answer.matches as usize;
-        for pair in answer.results.chunks_exact(2).take(some.min(matches)) {
-            self.record(name, pair[0], pair[1]);
+        for number in answer.results.into_iter().take(some.min(matches)) {
+            let (offset, length) = unpack(number);
+            self.record(name, offset, length);
         }
     }
 }

@@ -38,7 +38,7 @@ fn add_roots(corpus: &mut Corpus) {
     }
     let image = alter(&plain(), |image| image.blocks.clear());
     corpus.add_refused("17-no-blocks", image.bytes(), 17, 0);
-    corpus.search("17-no-blocks", &prefix(b"a"), 0, 2);
+    corpus.search("17-no-blocks", &prefix(b"a"), 0, 1);
     let mut tree = plain();
     tree.reserved = vec![(9, 64, b"\0\x6a\x0e".to_vec())];
     let image = alter(&tree, |image| image.root = Target::Block(4));

@@ -10,6 +10,7 @@ pub fn add(corpus: &mut Corpus) {
     add_asked(corpus, "all-ff", all_ff(), &ff_queries());
     add_asked(corpus, "end-of-prefix", end_of_prefix(), &prefix_queries());
     add_asked(corpus, "empty-records", empty_records(), &empty_queries());
+    corpus.ask_result_places("empty-records", &stop(b"a"));
     add_asked(corpus, "unsigned-order", unsigned(), &unsigned_queries());
     add_asked(corpus, "beginning-first", beginning(), &beginning_queries());
     for keys in [Keys::FirstRecord, Keys::LastBefore, Keys::Separator] {

@@ -140,6 +140,7 @@ fn add_shapes(corpus: &mut Corpus) {
     ] {
         corpus.ask("three-levels", &query);
     }
+    corpus.ask_result_places("three-levels", &query(b"f", Some(b"q"), b""));
     let single = Tree::new(&[&["only"]]);
     corpus.add_sound("one-record", single.bytes());
 }
@@ -150,7 +151,7 @@ fn add_chains(corpus: &mut Corpus) {
     corpus.add_sound("chain-63", tree.bytes());
     corpus.ask_search("chain-63", &stop(b"a"));
     corpus.ask_search("chain-63", &prefix(b"b"));
-    corpus.search("chain-63", &prefix(b"b"), 63, 2);
+    corpus.search("chain-63", &prefix(b"b"), 63, 1);
     corpus.check("chain-63", 63);
 
     tree.groups.push(vec![b"c".to_vec()]);
@@ -174,6 +175,7 @@ fn add_long_numbers(corpus: &mut Corpus) {
     corpus.ask("long-records", &prefix(b"b"));
     corpus.ask("long-records", &stop(b"b"));
     corpus.ask_search("long-records", &start(&long(b'b', 255)));
+    corpus.ask_result_places("long-records", &prefix(b"b"));
 
     let records = [long(b'k', 130)];
     let tree = Tree::new(&[&records[..], &records[..], &records[..]]);

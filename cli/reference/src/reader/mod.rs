@@ -11,6 +11,7 @@ mod part;
 mod query;
 mod read;
 mod refusal;
+mod results;
 mod search;
 
 pub use check::{check, Checked};
@@ -19,6 +20,7 @@ pub use number::{number, NumberFault};
 pub use part::{metadata, record, within};
 pub use query::{may_hold_match, Query};
 pub use read::{read, ReadAnswer};
+pub use results::unpack;
 pub use search::{search, Found};
 
 use refusal::Refusal;

@@ -3,6 +3,7 @@
 use super::block::{block_at, summarize, Block, Item};
 use super::header::{header, Header};
 use super::query::{may_hold_match, Query};
+use super::results::pack;
 use super::{fill_list, Refusal};
 
 /// The answer of a search.
@@ -18,7 +19,7 @@ pub struct Found {
     pub opened: u64,
     /// The whole opened list: offset of each block opened, then zeros.
     pub opened_list: Vec<u64>,
-    /// The whole result list: offset and length of each match, then zeros.
+    /// The whole result list: a number for each match, then zeros.
     pub results: Vec<u64>,
 }
 
@@ -28,7 +29,7 @@ pub fn search(file: &[u8], query: &Query, opened_places: usize, result_places: u
         Ok((opened, results)) => Found {
             number: 0,
             place: 0,
-            matches: (results.len() / 2) as u64,
+            matches: results.len() as u64,
             opened: opened.len() as u64,
             opened_list: fill_list(opened, opened_places),
             results: fill_list(results, result_places),
@@ -159,11 +160,10 @@ impl<'a> Walk<'a> {
             if !self.query.matches(record.bytes) {
                 continue;
             }
-            if self.result_places - self.results.len() < 2 {
+            if self.results.len() >= self.result_places {
                 return Err(Refusal::of_file(27));
             }
-            self.results
-                .extend([record.at as u64, record.bytes.len() as u64]);
+            self.results.push(pack(record.at, record.bytes.len()));
         }
         Ok(())
     }

@@ -5,6 +5,7 @@
 
 pub mod compare;
 pub mod json;
+pub mod results;
 pub mod sim;
 pub mod tree;
 
