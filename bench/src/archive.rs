@@ -1,11 +1,11 @@
 //! What the measurements need to know of an archive: where its blocks are, and what its check and its lookups do.
 
-use zs_library::{check, read, search, Checked, Query};
+use zs_library::{check, read, search, Checked, Part, Query};
 
 /// Places of the lists of a lookup; the library clears and fills them within the time that is measured.
 pub const OPENED_PLACES: usize = 256;
-/// The same for the result list: eight records.
-pub const RESULT_PLACES: usize = 16;
+/// The same for the result list, a place for each record.
+pub const RESULT_PLACES: usize = 8;
 
 /// An archive with room for its check.
 pub struct Archive {
@@ -77,11 +77,11 @@ impl Archive {
     pub fn lookup(&self, prefix: &[u8]) -> Lookup<'_> {
         let mut lists = Lists::default();
         let (opened, matches) = self.search(prefix, &mut lists);
-        let pairs = lists.results[..2 * matches].chunks(2);
+        let parts = lists.results[..matches].iter().copied().map(Part::of_match);
         let starts = lists.opened[..opened].iter();
         Lookup {
-            records: pairs
-                .map(|pair| zs_library::bytes(&self.bytes, pair[0], pair[1]))
+            records: parts
+                .map(|part| zs_library::bytes(&self.bytes, part.offset, part.length))
                 .collect(),
             opened: starts
                 .map(|start| block_at(&self.bytes, *start as usize).bytes)
@@ -91,7 +91,7 @@ impl Archive {
 }
 
 /// The question for all records that begin with `prefix`.
-fn prefix_query(prefix: &[u8]) -> Query<'_> {
+pub fn prefix_query(prefix: &[u8]) -> Query<'_> {
     Query {
         start: &[],
         stop: None,
@@ -103,7 +103,7 @@ fn prefix_query(prefix: &[u8]) -> Query<'_> {
 pub struct Lists {
     /// The blocks opened.
     pub opened: Vec<u64>,
-    /// Offset and length of each match.
+    /// The matches, a number for each.
     pub results: Vec<u64>,
 }
 

@@ -6,7 +6,7 @@ use std::mem::transmute_copy;
 use std::os::raw::{c_char, c_int};
 use std::path::Path;
 
-use zs_library::{Checked, Counts, Found, Written};
+use zs_library::{Checked, Counts, Found, Part, Query, ReadAnswer, Written};
 
 use crate::archive::Lists;
 
@@ -19,6 +19,19 @@ extern "C" {
 const NOW: c_int = 2;
 
 type Check = unsafe extern "C" fn(*const u8, usize, *mut u64, usize) -> Checked;
+type Read = unsafe extern "C" fn(
+    *const u8,
+    usize,
+    *const u8,
+    usize,
+    bool,
+    *const u8,
+    usize,
+    *const u8,
+    usize,
+    *mut u64,
+    usize,
+) -> ReadAnswer;
 type Search = unsafe extern "C" fn(
     *const u8,
     usize,
@@ -56,6 +69,7 @@ pub struct Library {
     /// The CRC-64 by eight one-bit steps for every byte, however many there are.
     pub crc64_by_bits: Checksum,
     check: Check,
+    read: Read,
     search: Search,
     write: Write,
 }
@@ -95,6 +109,7 @@ impl Library {
                 crc64: Checksum(transmute_copy(&symbol("bench_crc64")?)),
                 crc64_by_bits: Checksum(transmute_copy(&symbol("bench_crc64_by_bits")?)),
                 check: transmute_copy(&symbol("zs_check")?),
+                read: transmute_copy(&symbol("zs_read")?),
                 search: transmute_copy(&symbol("zs_search")?),
                 write: transmute_copy(&symbol("zs_write")?),
             })
@@ -107,21 +122,42 @@ impl Library {
         unsafe { (self.check)(file.as_ptr(), file.len(), work.as_mut_ptr(), work.len()) }
     }
 
-    /// Looks up the records that begin with `prefix`.
-    pub fn search(&self, file: &[u8], prefix: &[u8], lists: &mut Lists) -> Found {
-        let none: &[u8] = &[];
+    /// Reads a file front to back.
+    pub fn read(&self, file: &[u8], query: &Query, results: &mut [u64]) -> ReadAnswer {
+        let stop = query.stop.unwrap_or(&[]);
+        // SAFETY: each pointer comes with the length of the slice it is taken from, and `results` is borrowed alone.
+        unsafe {
+            (self.read)(
+                file.as_ptr(),
+                file.len(),
+                query.start.as_ptr(),
+                query.start.len(),
+                query.stop.is_some(),
+                stop.as_ptr(),
+                stop.len(),
+                query.prefix.as_ptr(),
+                query.prefix.len(),
+                results.as_mut_ptr(),
+                results.len(),
+            )
+        }
+    }
+
+    /// Searches a file through its index.
+    pub fn search(&self, file: &[u8], query: &Query, lists: &mut Lists) -> Found {
+        let stop = query.stop.unwrap_or(&[]);
         // SAFETY: each pointer comes with the length of the slice it is taken from; the lists are two, and borrowed alone.
         unsafe {
             (self.search)(
                 file.as_ptr(),
                 file.len(),
-                none.as_ptr(),
-                0,
-                false,
-                none.as_ptr(),
-                0,
-                prefix.as_ptr(),
-                prefix.len(),
+                query.start.as_ptr(),
+                query.start.len(),
+                query.stop.is_some(),
+                stop.as_ptr(),
+                stop.len(),
+                query.prefix.as_ptr(),
+                query.prefix.len(),
                 lists.opened.as_mut_ptr(),
                 lists.opened.len(),
                 lists.results.as_mut_ptr(),
@@ -152,4 +188,22 @@ impl Library {
             )
         }
     }
+}
+
+/// Where the matches on a result list lie. A match is one number; a build from before that has two for it, offset and length. An offset is
+/// below 2^32, and the number of a match isn't.
+pub fn matches(results: &[u64]) -> Vec<Part> {
+    let is_packed = results.first().map_or(false, |first| first >> 32 != 0);
+    let parts: Vec<Part> = if is_packed {
+        results.iter().copied().map(Part::of_match).collect()
+    } else {
+        let pairs = results.chunks_exact(2);
+        let parts = pairs.map(|pair| Part {
+            offset: pair[0],
+            length: pair[1],
+        });
+        parts.collect()
+    };
+    // No record begins at 0: zeros are what the list has after the matches.
+    parts.into_iter().filter(|part| part.offset > 0).collect()
 }

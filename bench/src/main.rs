@@ -44,7 +44,8 @@ use others::Programs;
 use report::Report;
 use sections::{
     block_sizes, checking, checksums, comparing, crc_lengths, earlier_build, earlier_library,
-    growth, importing, keys, lookups, metadata, profile, sessions, writing, Setting, FULL, QUICK,
+    growth, importing, keys, lookups, metadata, profile, results, sessions, writing, Setting, FULL,
+    QUICK,
 };
 use shapes::Shape;
 
@@ -147,6 +148,7 @@ fn measure(arguments: Arguments, folder: &Path) -> (Report, [Panel; 2]) {
     profile::measure(&setting, &mut archive, &mut report);
     checking::measure(&setting, &mut archive, &file, &mut report);
     lookups::measure(&setting, &archive, &file, &mut report);
+    results::measure(&setting, &archive, &file, &mut report);
     checksums::measure(&setting, &archive.bytes, &mut report);
     drop(archive);
     metadata::measure(&setting, &mut report);

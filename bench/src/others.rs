@@ -1,7 +1,7 @@
 //! Other programs, run as processes.
 
 use std::fmt::{self, Display, Formatter};
-use std::io::{BufRead, BufReader, Write};
+use std::io::{self, BufRead, BufReader, Read, Write};
 use std::path::{Path, PathBuf};
 use std::process::{Child, ChildStdin, ChildStdout, Command, Stdio};
 
@@ -61,6 +61,32 @@ impl Call {
             _ => panic!("{self} failed"),
         }
     }
+
+    /// Runs the program, which writes more than a pipe holds, and gives how many bytes of memory it had in use at most when it began to
+    /// write.
+    pub fn peak_memory(&self) -> usize {
+        let child = self.command().stdout(Stdio::piped()).spawn();
+        let mut child = child.unwrap_or_else(|_| panic!("{self} failed"));
+        let mut output = child.stdout.take().expect("a pipe");
+        // It can't end before the pipe is read, so there is a process to look at.
+        let begun = output.read_exact(&mut [0]);
+        let peak = begun.ok().and_then(|()| peak_memory(child.id()));
+        let read = io::copy(&mut output, &mut io::sink());
+        let status = read.and_then(|_| child.wait());
+        let code = status.ok().and_then(|status| status.code());
+        assert!(code == Some(self.status), "{self} failed");
+        peak.unwrap_or_else(|| panic!("{self}: its memory isn't known"))
+    }
+}
+
+/// How many bytes of memory a process that runs has had in use at most.
+fn peak_memory(process: u32) -> Option<usize> {
+    let status = std::fs::read_to_string(format!("/proc/{process}/status")).ok()?;
+    let line = status
+        .lines()
+        .find_map(|line| line.strip_prefix("VmHWM:"))?;
+    let kibibytes: usize = line.trim().strip_suffix(" kB")?.parse().ok()?;
+    Some(1024 * kibibytes)
 }
 
 impl Display for Call {

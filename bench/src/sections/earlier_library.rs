@@ -2,10 +2,10 @@
 
 use super::writing::{make_usual, COUNTS};
 use super::Setting;
-use crate::archive::{Archive, Lists};
+use crate::archive::{prefix_query, Archive, Lists};
 use crate::clock::{measure_time, median, median_ratio, side, time_in_turn, Side};
 use crate::input::{Input, METADATA};
-use crate::loaded::Library;
+use crate::loaded::{matches, Library};
 use crate::records::{draw, key};
 use crate::report::{ratio, time, Goal, Report, Table};
 use crate::shapes::Shape;
@@ -111,11 +111,12 @@ impl<'a> Reader<'a> {
     /// Looks a record up, once untimed and then timed.
     fn look_up(&mut self, record: &[u8]) {
         let file = &self.archive.bytes;
-        let found = self.library.search(file, key(record), &mut self.lists);
+        let query = prefix_query(key(record));
+        let found = self.library.search(file, &query, &mut self.lists);
         assert_eq!((found.number, found.matches), (0, 1));
-        let place = &self.lists.results[..2];
-        assert!(zs_library::bytes(file, place[0], place[1]) == record);
-        let search = || self.library.search(file, key(record), &mut self.lists);
+        let part = matches(&self.lists.results)[0];
+        assert!(zs_library::bytes(file, part.offset, part.length) == record);
+        let search = || self.library.search(file, &query, &mut self.lists);
         self.seconds.push(measure_time(search));
     }
 }

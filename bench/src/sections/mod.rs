@@ -13,6 +13,7 @@ pub mod keys;
 pub mod lookups;
 pub mod metadata;
 pub mod profile;
+pub mod results;
 pub mod sessions;
 pub mod writing;
 

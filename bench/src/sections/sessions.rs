@@ -125,7 +125,7 @@ fn places(records: &[&[u8]]) -> Vec<Range<usize>> {
     let mut end = 0;
     let places = records.iter().map(|record| {
         let bits = usize::BITS - record.len().leading_zeros();
-        let start = end + bits.div_ceil(7).max(1) as usize;
+        let start = end + ((bits + 6) / 7).max(1) as usize;
         end = start + record.len();
         start..end
     });
