@@ -23,7 +23,7 @@ use Rattle.theorems_search.proofs.WalkGrows.{Grown, matches-grow, opens
 
 module _ (room other : ℕ) where
   -- there is room for these matches
-  abbrev FitsIn : Walked → Type 0
+  abbrev pub FitsIn : Walked → Type 0
   FitsIn s = roomFor (length (s .matches)) ≤ other
 
   fits-before : (s t : Walked) → Grown s t → FitsIn t → FitsIn s

@@ -5,7 +5,7 @@ use mathlib.Core.Bool.{Bool, true, false, cond}
 use mathlib.Core.List.{List, [], _∷_}
 use mathlib.Core.Logic.{_↔_}
 use mathlib.Core.Option.{Option, none}
-use Prim.Native.Nat.{ℕ, zero, suc, _+_, _≤_, _<_}
+use Prim.Native.Nat.{ℕ, zero, suc, _+_, _<_}
 use native.Mathlib.Omega.{arith}
 use lib.Dec.{leb, ltb}
 use lib.ListN.{length, length-append}
@@ -25,12 +25,12 @@ use Rattle.search.specs.declared.opening.Named.{Named}
 use Rattle.search.specs.Search.{Walked, nothing, withOpened, withMatch, nextKey, rootNamed, childNamed, openBlock, addMatches}
 use Rattle.search.specs.Search.{walkOver, walkOf, walkFrom, searchOf, searchAnswer}
 use Rattle.theorems_search.proofs.SearchTheorems.{search-refusal, search-answer}
-use Rattle.theorems_search.proofs.OtherRoom.{opens-other, walk-other, search-other-room}
+use Rattle.theorems_search.proofs.OtherRoom.{FitsIn, opens-other, walk-other, search-other-room}
 
 -- With `room` places there was an answer. With `other` places there is room for what was found before, and not for what is found then.
 module _ (room other : ℕ) where
   abbrev Few : Walked → Type 0
-  Few s = roomFor (length (s .matches)) ≤ other
+  Few = FitsIn room other
 
   abbrev Many : Walked → Type 0
   Many s = other < roomFor (length (s .matches))
