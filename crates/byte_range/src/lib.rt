@@ -1,1 +1,2 @@
 // Bytes from one to another. There is no code; the definitions are in specs/, their laws in proofs/.
+#![tactic(auto)]

@@ -2,6 +2,8 @@
 //
 // A function that reads takes the bytes from a position on, or from the front. Where fewer are there than the width, it reads those that
 // are: it is total, and a caller that wants the whole width tests the length itself.
+#![tactic(auto)]
+
 ghost use Rattle.std.specs.Prelude.{◌≡◌, ◌≤◌, length, take, drop};
 ghost use Rattle.endian.specs.FixedWidth.{little_endian, little_bytes, big_endian, big_bytes};
 

@@ -186,8 +186,11 @@ module _ {A : Type 0} (test : A → Bool) where
 
   pub all_member : (xs : List A) → all test xs ≡ true → (x : A) → Memᴰ x xs → test x ≡ true
   unfolding all
-  all_member xs h x (Memᴰ.head {x = y} {xs = ys} e) = ap test e ∙ (both⁻¹ (test y) (all test ys) h).0
-  all_member xs h x (Memᴰ.tail {x = y} {xs = ys} m) = all_member ys (both⁻¹ (test y) (all test ys) h).1 x m
+  all_member xs h x m = go x xs m h
+    where
+      go : (x : A) (xs : List A) → Memᴰ x xs → all test xs ≡ true → test x ≡ true
+      go x xs (Memᴰ.head {x = y} {xs = ys} e) h = ap test e ∙ (both⁻¹ (test y) (all test ys) h).0
+      go x xs (Memᴰ.tail {x = y} {xs = ys} m) h = go x ys m (both⁻¹ (test y) (all test ys) h).1
 
   pub member_all : (xs : List A) → ((x : A) → Memᴰ x xs → test x ≡ true) → all test xs ≡ true
   unfolding all
@@ -231,8 +234,11 @@ module _ {A : Type 0} (test : A → Bool) where
 
   pub member_any : (xs : List A) (x : A) → Memᴰ x xs → test x ≡ true → any test xs ≡ true
   unfolding any
-  member_any xs x (Memᴰ.head {x = y} {xs = ys} e) h = ap (λ (b : Bool). b || any test ys) (sym (ap test e) ∙ h)
-  member_any xs x (Memᴰ.tail {x = y} {xs = ys} m) h = ap (λ (b : Bool). test y || b) (member_any ys x m h) ∙ or-true (test y)
+  member_any xs x m h = go x xs m h
+    where
+      go : (x : A) (xs : List A) → Memᴰ x xs → test x ≡ true → any test xs ≡ true
+      go x xs (Memᴰ.head {x = y} {xs = ys} e) h = ap (λ (b : Bool). b || any test ys) (sym (ap test e) ∙ h)
+      go x xs (Memᴰ.tail {x = y} {xs = ys} m) h = ap (λ (b : Bool). test y || b) (go x ys m h) ∙ or-true (test y)
 
   pub any_false : (xs : List A) → ((x : A) → Memᴰ x xs → test x ≡ false) → any test xs ≡ false
   unfolding any
@@ -261,13 +267,16 @@ module _ {A : Type 0} (test : A → Bool) where
 
   pub member_keep : (xs : List A) (x : A) → Memᴰ x xs → test x ≡ true → Memᴰ x (keep test xs)
   unfolding keep
-  member_keep xs x (Memᴰ.head {x = y} {xs = ys} e) h =
-      subst (λ (b : Bool). Memᴰ x (cond b (y ∷ keep test ys) (keep test ys))) (sym (sym (ap test e) ∙ h)) (Memᴰ.head e)
-  member_keep xs x (Memᴰ.tail {x = y} {xs = ys} m) h = go (test y) (member_keep ys x m h)
+  member_keep xs x m h = go x xs m h
     where
-      go : (b : Bool) → Memᴰ x (keep test ys) → Memᴰ x (cond b (y ∷ keep test ys) (keep test ys))
-      go true i = Memᴰ.tail i
-      go false i = i
+      later : (x y : A) (ys : List A) (b : Bool) → Memᴰ x (keep test ys) → Memᴰ x (cond b (y ∷ keep test ys) (keep test ys))
+      later x y ys true i = Memᴰ.tail i
+      later x y ys false i = i
+
+      go : (x : A) (xs : List A) → Memᴰ x xs → test x ≡ true → Memᴰ x (keep test xs)
+      go x xs (Memᴰ.head {x = y} {xs = ys} e) h =
+          subst (λ (b : Bool). Memᴰ x (cond b (y ∷ keep test ys) (keep test ys))) (sym (sym (ap test e) ∙ h)) (Memᴰ.head e)
+      go x xs (Memᴰ.tail {x = y} {xs = ys} m) h = later x y ys (test y) (go x ys m h)
 
   pub keep_first : (x : A) (xs : List A) → test x ≡ true → keep test (x ∷ xs) ≡ x ∷ keep test xs
   unfolding keep

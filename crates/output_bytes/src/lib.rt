@@ -1,4 +1,6 @@
 // Lent outputs of bytes: clearing, and storing byte strings at an offset, where they fit.
+#![tactic(auto)]
+
 ghost use Rattle.std.specs.Prelude.{◌≡◌, length};
 ghost use Rattle.output_list.specs.OutputList.{zeros};
 ghost use Rattle.output_bytes.specs.OutputBytes.{bytes_fit, stored, copies, copied};

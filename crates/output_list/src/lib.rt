@@ -1,4 +1,6 @@
 // Lent lists of answers: the numbers put stand at the front, and zeros after them.
+#![tactic(auto)]
+
 ghost use Rattle.std.specs.Prelude.{◌≡◌, length};
 ghost use Rattle.output_list.specs.OutputList.{zeros, has_place, with_number};
 

@@ -1,6 +1,8 @@
 // A part of a byte string.
 
 // Where the part begins, and how long it is.
+#![tactic(auto)]
+
 #[repr(C)]
 #[derive(Drop)]
 pub struct Part {

@@ -1,4 +1,6 @@
 // What a function that fills a lent output answers.
+#![tactic(auto)]
+
 ghost use Rattle.std.specs.Prelude.{◌≡◌};
 ghost use Rattle.outcome.specs.Outcome.{refused};
 ghost use Rattle.written.specs.Written.{written_answer};

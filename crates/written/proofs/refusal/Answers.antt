@@ -2,12 +2,8 @@
 use mathlib.Core.Path.{refl}
 use Rattle.outcome.specs.Outcome.{number_of, place_of, count_of}
 use Rattle.written.specs.Written.{written_answer}
-use Rattle.written.proofs.refusal.Statement.{statement}
-use Rattle.written.proofs.refusal.Tie as tie
+use Rattle.written.proofs.refusal.Goals as goal
 
-returns : tie.Need-returns
+pub returns : goal.returns
 unfolding written_answer number_of place_of count_of
 returns c = refl
-
-pub refusal-spec : {M : Type 1} → statement M
-refusal-spec = tie.close (tie.spec returns)
