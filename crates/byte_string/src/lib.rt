@@ -1,6 +1,8 @@
 // The order of byte strings: unsigned bytes, a proper beginning first.
 //
 // `compare` is the one comparison: it answers the sign and how many leading bytes agree, and every yes or no is taken of that answer.
+#![tactic(auto)]
+
 ghost use Rattle.std.specs.Prelude.{◌+◌, ◌≤◌, ◌≡◌, length, drop};
 ghost use Rattle.byte_string.specs.Order.{agreeing, comparison, says_less, says_at_most, says_equal, says_begins};
 

@@ -144,7 +144,7 @@ pub fn is_metadata(bytes: &[u8]) -> bool
     if !utf8::is_utf8(bytes) {
         return false;
     }
-    json::is_object(bytes)
+    json_text::is_object(bytes)
 }
 
 // The header, or the first of the refusals 7 to 9.

@@ -39,8 +39,11 @@ one_of⇒member (c ∷ cs) b e = by_or (eqb b c) _ e (λ e. Memᴰ.head (eqb-tru
 
 pub member⇒one_of : (cs : List ℕ) (b : ℕ) → Memᴰ b cs → one_of cs b ≡ true
 unfolding one_of
-member⇒one_of cs b (Memᴰ.head {x} {xs} e) = or_left (eqb b x) (one_of xs b) (eq-eqb b x e)
-member⇒one_of cs b (Memᴰ.tail {x} {xs} m) = or_right (eqb b x) (one_of xs b) (member⇒one_of xs b m)
+member⇒one_of cs b m = go b cs m
+  where
+    go : (b : ℕ) (cs : List ℕ) → Memᴰ b cs → one_of cs b ≡ true
+    go b cs (Memᴰ.head {x} {xs} e) = or_left (eqb b x) (one_of xs b) (eq-eqb b x e)
+    go b cs (Memᴰ.tail {x} {xs} m) = or_right (eqb b x) (one_of xs b) (go b xs m)
 
 -- ---- hex digits
 

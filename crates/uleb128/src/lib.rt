@@ -1,4 +1,6 @@
 // Numbers of the format (uleb128): reading one at the front of a part of a slice, and how long its shortest form is.
+#![tactic(auto)]
+
 ghost use Rattle.std.specs.Prelude.{◌≡◌, length};
 ghost use Rattle.uleb128.specs.Number.{reading, reading_said};
 ghost use Rattle.uleb128.specs.Encoding.{encoding};

@@ -1,0 +1,13 @@
+-- `within` meets its contract: each way through the test is the definition's. Assumes nothing.
+use borrow.Author.Tests.{le-leb, lt-leb}
+use Rattle.json_text.proofs.byte.within.Statement.{statement}
+use Rattle.json_text.proofs.byte.within.Tie as tie
+
+returns : tie.Need-returns
+returns c = rw (le-leb _ _ c.if1.true)
+
+returns-2 : tie.Need-returns-2
+returns-2 c = rw (lt-leb _ _ c.if1.false)
+
+pub within-spec : {M : Type 1} → statement M
+within-spec = tie.close (tie.spec returns returns-2)
