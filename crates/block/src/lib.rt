@@ -2,7 +2,7 @@
 pub mod pass;
 
 // What the pass over all blocks reports: how many ordinary blocks and records there are, and whether the header's root is an index block.
-#[derive(Drop)]
+#[derive(Clone, Copy)]
 pub struct Survey {
     pub blocks: usize,
     pub records: usize,

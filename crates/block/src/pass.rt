@@ -8,7 +8,7 @@ use crate::Survey;
 use framing::{Frame, FrameOutcome, sound_frame_at};
 use payload::{PayloadOutcome, entries_at, records_at};
 
-#[derive(Drop)]
+#[derive(Clone, Copy)]
 pub enum BlockOutcome {
     // A sound block, and how many records it has.
     Answer { frame: Frame, records: usize },
@@ -87,7 +87,7 @@ fn found_root(found: bool, f: Frame, root: u64, rootsize: u64) -> bool
     f.level <= Frame::LARGEST_LEVEL
 }
 
-#[derive(Drop)]
+#[derive(Clone, Copy)]
 pub enum SurveyOutcome {
     Answer(Survey),
     Refused { number: u64, place: usize },

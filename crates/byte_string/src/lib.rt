@@ -7,7 +7,7 @@ ghost use Rattle.std.specs.Prelude.{◌+◌, ◌≤◌, ◌≡◌, length, drop}
 ghost use Rattle.byte_string.specs.Order.{agreeing, comparison, says_less, says_at_most, says_equal, says_begins};
 
 // A byte string x compared with another, y.
-#[derive(Drop)]
+#[derive(Clone, Copy)]
 pub struct Comparison {
     // Minus one where x comes before y, zero where they are equal, plus one where x comes after y.
     pub sign: i8,

@@ -5,7 +5,7 @@ ghost use Rattle.check_walk.specs.Ascent.{ascent_said, ascent_of, leaf_of};
 use crate::lookup::payload_at;
 use payload::{EntryOutcome, entry_at};
 
-#[derive(Drop)]
+#[derive(Clone, Copy)]
 pub enum AscentOutcome {
     // The least offset that the next data block may have.
     Answer(usize),

@@ -9,7 +9,7 @@ use part::Part;
 use payload::{EntryOutcome, TextOutcome, compare_parts, entry_at, text_at};
 
 // The first and the last of some records; no record begins at 0, which stands for none.
-#[derive(Drop)]
+#[derive(Clone, Copy)]
 pub struct Span {
     pub first: Part,
     pub last: Part,
@@ -17,7 +17,7 @@ pub struct Span {
 
 // What the walk hands on: the records of the block that it leaves, or the last one before the block that it enters; the first data
 // block out of order (23) and the first index block with a key that does not fit (24), 0 for none.
-#[derive(Drop)]
+#[derive(Clone, Copy)]
 pub struct Keys {
     pub span: Span,
     pub unordered: usize,

@@ -17,7 +17,7 @@ use output_list::clear;
 
 // Number and place of a refusal, both 0 without one, and how many ordinary blocks and records the file has, both 0 after one.
 #[repr(C)]
-#[derive(Drop)]
+#[derive(Clone, Copy)]
 pub struct Checked {
     pub number: u64,
     pub place: u64,

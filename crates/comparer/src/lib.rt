@@ -20,7 +20,7 @@ use output_list::clear;
 // Number and place of a refusal, both 0 without one; the file that is refused, 1 or 2, or 0; how many differences there are; and the copies in
 // the second file less those in the first, added up over them.
 #[repr(C)]
-#[derive(Drop)]
+#[derive(Clone, Copy)]
 pub struct Compared {
     pub number: u64,
     pub place: u64,

@@ -14,7 +14,7 @@ use output_list::put;
 use part::Part;
 use shown::shown;
 
-#[derive(Drop)]
+#[derive(Clone, Copy)]
 pub enum NextOutcome {
     // A record of the first file (1) or of the second (2).
     Record { which: u64, text: Part },
@@ -82,7 +82,7 @@ fn is_copy(file: &[u8], text: Part, x: &[u8]) -> bool
 }
 
 // How many copies of a record follow a cursor, one after the other, and the cursor behind them.
-#[derive(Drop)]
+#[derive(Clone, Copy)]
 pub struct Copies {
     pub count: usize,
     pub after: Cursor,

@@ -1,4 +1,6 @@
 // The register of CRC-64: what it is and how bytes go into it, by one-bit steps.
+#![tactic(auto)]
+
 ghost use Rattle.std.specs.Prelude.{◌≡◌};
 ghost use Rattle.crc64_register.specs.Crc64.{byte_step};
 ghost use Rattle.crc64_register.specs.Crc64 as crc;

@@ -11,14 +11,14 @@ use part::Part;
 use payload::{TextOutcome, text_at};
 
 // Where reading goes on: at `at` in a payload that ends at `end`, and after it with the block at `block`.
-#[derive(Drop)]
+#[derive(Clone, Copy)]
 pub struct Cursor {
     pub at: usize,
     pub end: usize,
     pub block: usize,
 }
 
-#[derive(Drop)]
+#[derive(Clone, Copy)]
 pub enum RecordOutcome {
     // A record, the cursor just in front of it, and the cursor behind it.
     Answer {

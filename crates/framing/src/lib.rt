@@ -10,7 +10,7 @@ ghost use Rattle.framing.specs.Answers as answers;
 use uleb128::Number;
 
 // Where a block lies. The L bytes of the block, level byte and payload, go from `body` to `end`.
-#[derive(Drop)]
+#[derive(Clone, Copy)]
 pub struct Frame {
     pub start: usize,
     // The full size: number, L bytes and CRC.
@@ -25,7 +25,7 @@ impl Frame {
     pub const LARGEST_LEVEL: u8 = 63;
 }
 
-#[derive(Drop)]
+#[derive(Clone, Copy)]
 pub enum NumberOutcome {
     // The value, and where the number ends.
     Answer { value: u64, next: usize },
@@ -51,7 +51,7 @@ pub fn number_at(s: &[u8], at: usize, cut: u64) -> NumberOutcome
     }
 }
 
-#[derive(Drop)]
+#[derive(Clone, Copy)]
 pub enum FrameOutcome {
     Answer(Frame),
     Refused(u64),

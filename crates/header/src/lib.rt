@@ -8,7 +8,7 @@ ghost use Rattle.header.specs.MetadataPart.{metadata_part};
 use part::Part;
 
 // The numbers of a header. The hash, the codec and the metadata are read at their offsets.
-#[derive(Drop)]
+#[derive(Clone, Copy)]
 pub struct Header {
     // Where the blocks begin: 24 + H.
     pub blocks: usize,
@@ -20,7 +20,7 @@ pub struct Header {
     pub metadata: u64,
 }
 
-#[derive(Drop)]
+#[derive(Clone, Copy)]
 pub enum HeaderOutcome {
     Answer(Header),
     // The number of a refusal; its place is 0.

@@ -10,13 +10,13 @@ use payload::{TextOutcome, compare_parts, text_at};
 
 // Where a run goes on: the offset of the next block, and the record before it, an empty part where there is none. Only a data block's key is
 // made by that record.
-#[derive(Drop)]
+#[derive(Clone, Copy)]
 pub struct Position {
     pub offset: usize,
     pub before: Part,
 }
 
-#[derive(Drop)]
+#[derive(Clone, Copy)]
 pub enum ChildOutcome {
     // The key of the entry, the block's last record (of an index block, which needs none, its key), and its full size.
     Answer { key: Part, last: Part, size: usize },

@@ -10,7 +10,7 @@ use crate::child::{ChildOutcome, Position, child_at};
 use part::Part;
 
 // A group of blocks that stand side by side: how many, where the run goes on, and how many bytes their entries take.
-#[derive(Drop)]
+#[derive(Clone, Copy)]
 pub struct Group {
     pub count: u64,
     pub next: Position,

@@ -10,7 +10,7 @@ use crate::child::Position;
 use crate::entries::{Group, measure, put_entries};
 use part::Part;
 
-#[derive(Drop)]
+#[derive(Clone, Copy)]
 pub enum LevelOutcome {
     // Where the level ends, and how many blocks it has.
     Answer { end: usize, blocks: usize },

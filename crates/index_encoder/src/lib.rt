@@ -11,14 +11,14 @@ use crate::level::{LevelOutcome, put_level};
 use header::Header;
 
 // Offset and full size of the root, and where the index ends.
-#[derive(Drop)]
+#[derive(Clone, Copy)]
 pub struct Raised {
     pub root: usize,
     pub rootsize: usize,
     pub end: usize,
 }
 
-#[derive(Drop)]
+#[derive(Clone, Copy)]
 pub enum RaiseOutcome {
     Answer(Raised),
     Refused(u64),

@@ -9,7 +9,7 @@ use crate::space::{skip, structural};
 use crate::string::string;
 
 // What comes next in an object or an array.
-#[derive(Drop)]
+#[derive(Clone, Copy)]
 pub enum Next {
     // An item begins here.
     Item(usize),

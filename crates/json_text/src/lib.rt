@@ -14,7 +14,7 @@ mod string;
 mod value;
 
 // Where a text ends.
-#[derive(Drop)]
+#[derive(Clone, Copy)]
 enum End {
     At(usize),
     // No such text stands there.

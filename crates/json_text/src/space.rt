@@ -7,7 +7,7 @@ use crate::End;
 use crate::byte::{is_digit, is_space};
 
 // Bytes that are passed over.
-#[derive(Drop)]
+#[derive(Clone, Copy)]
 enum Kind {
     Space,
     Digit,

@@ -7,7 +7,7 @@ use crate::End;
 use crate::byte::{byte_at, is_hex};
 
 // What a byte of a string does.
-#[derive(Drop)]
+#[derive(Clone, Copy)]
 enum Step {
     // It ends the string.
     Closed,

@@ -3,7 +3,7 @@
 // A refusal's number and place; without one both are 0.
 #![tactic(auto)]
 
-#[derive(Drop)]
+#[derive(Clone, Copy)]
 pub struct Refusal {
     pub number: u64,
     pub place: u64,

@@ -10,7 +10,7 @@ use byte_string::Comparison;
 use framing::{NumberOutcome, number_at};
 use part::Part;
 
-#[derive(Drop)]
+#[derive(Clone, Copy)]
 pub enum TextOutcome {
     // A byte string. The next item follows it.
     Answer(Part),
@@ -55,7 +55,7 @@ fn text_by_number(s: &[u8], at: usize) -> TextOutcome
     }
 }
 
-#[derive(Drop)]
+#[derive(Clone, Copy)]
 pub enum EntryOutcome {
     // An entry: its key, the offset and full size of the block that it names, and where the next entry begins.
     Answer {
@@ -104,7 +104,7 @@ fn sized(s: &[u8], key: Part, offset: u64, at: usize) -> EntryOutcome
     }
 }
 
-#[derive(Drop)]
+#[derive(Clone, Copy)]
 pub enum PayloadOutcome {
     // How many items there are.
     Answer(usize),

@@ -14,7 +14,7 @@ use matching::has_room;
 
 // Number and place of a refusal, both 0 without one, and how many records match.
 #[repr(C)]
-#[derive(Drop)]
+#[derive(Clone, Copy)]
 pub struct ReadAnswer {
     pub number: u64,
     pub place: u64,

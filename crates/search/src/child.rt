@@ -13,21 +13,21 @@ use part::Part;
 use payload::{EntryOutcome, TextOutcome, entry_at, text_at};
 
 // An upper bound: a key, where it is given.
-#[derive(Drop)]
+#[derive(Clone, Copy)]
 pub struct Bound {
     pub given: bool,
     pub key: Part,
 }
 
 // The block of an entry: the entry's key, which is the lower bound, the upper bound, and what names the block.
-#[derive(Drop)]
+#[derive(Clone, Copy)]
 pub struct Child {
     pub key: Part,
     pub upper: Bound,
     pub named: Named,
 }
 
-#[derive(Drop)]
+#[derive(Clone, Copy)]
 pub enum ChildOutcome {
     // The block of an entry, and where the next entry begins.
     Answer { child: Child, next: usize },

@@ -18,7 +18,7 @@ use outcome::Refusal;
 
 // Number and place of a refusal, both 0 without one, how many records match, and how many blocks were opened.
 #[repr(C)]
-#[derive(Drop)]
+#[derive(Clone, Copy)]
 pub struct Found {
     pub number: u64,
     pub place: u64,

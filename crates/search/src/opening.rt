@@ -10,7 +10,7 @@ use outcome::Refusal;
 
 // A block as the header or an entry names it: its offset and full size, the least and the largest level that it may have, and the
 // refusal for a wrong offset, size or level.
-#[derive(Drop)]
+#[derive(Clone, Copy)]
 pub struct Named {
     pub offset: u64,
     pub size: u64,
@@ -53,7 +53,7 @@ pub fn child_named(place: usize, level: u8, offset: u64, size: u64) -> Named
     }
 }
 
-#[derive(Drop)]
+#[derive(Clone, Copy)]
 pub enum OpenOutcome {
     // The frame of a block that passed every test.
     Answer(Frame),

@@ -10,13 +10,13 @@ use matching::{collect_records, has_room};
 use outcome::Refusal;
 
 // How many blocks were opened and how many matches were found.
-#[derive(Drop)]
+#[derive(Clone, Copy)]
 pub struct Progress {
     pub used: usize,
     pub found: usize,
 }
 
-#[derive(Drop)]
+#[derive(Clone, Copy)]
 pub enum WalkOutcome {
     Answer(Progress),
     Refused(Refusal),

@@ -21,7 +21,7 @@ pub const CRC: u64 = 8;
 
 // A session: the record count, the last record's offset and the next block's offset, and what the next step needs.
 #[repr(C)]
-#[derive(Drop)]
+#[derive(Clone, Copy)]
 pub struct Session {
     pub records: u64,
     pub last: u64,
@@ -41,7 +41,7 @@ pub struct Session {
 
 // Number and place of a refusal, both 0 without one, and the session after the step.
 #[repr(C)]
-#[derive(Drop)]
+#[derive(Clone, Copy)]
 pub struct Stepped {
     pub number: u64,
     pub place: u64,

@@ -10,7 +10,7 @@ ghost use Rattle.sha256.specs.State.{begun, absorbed, finished};
 use sha256_block::Words;
 
 // `partial` holds the last `count % 64` bytes at its front.
-#[derive(Drop)]
+#[derive(Clone, Copy)]
 pub struct State {
     pub hash: Words,
     pub partial: [u8; 64],
@@ -18,7 +18,7 @@ pub struct State {
 }
 
 // A byte string of at most 72 bytes: the first `len` of `bytes`.
-#[derive(Drop)]
+#[derive(Clone, Copy)]
 struct Tail {
     bytes: [u8; 72],
     len: usize,

@@ -8,7 +8,7 @@ mod block;
 mod word;
 
 // The eight words of a hash value, and the eight working variables.
-#[derive(Drop)]
+#[derive(Clone, Copy)]
 pub struct Words {
     pub a: u32,
     pub b: u32,

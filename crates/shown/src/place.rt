@@ -6,7 +6,7 @@ use record::is_within;
 
 // A part of the first file where `which` is 1, of the second where it is 2.
 #[repr(C)]
-#[derive(Drop)]
+#[derive(Clone, Copy)]
 pub struct Shown {
     pub which: u64,
     pub offset: usize,

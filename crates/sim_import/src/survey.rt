@@ -5,7 +5,7 @@ ghost use Rattle.sim_import.specs.Survey.{survey_of};
 ghost use Rattle.sim_import.specs.Steps.{Whole};
 
 // The number of a refusal, or 0; how many records aren't free, and how many bytes ours of them take. After a refusal both are 0.
-#[derive(Drop)]
+#[derive(Clone, Copy)]
 pub struct Survey {
     pub number: u64,
     pub count: usize,

@@ -7,7 +7,7 @@ use endian::le64_at;
 use part::Part;
 use record::record;
 
-#[derive(Drop)]
+#[derive(Clone, Copy)]
 pub struct Case {
     pub name: Part,
     pub call: u8,
@@ -23,7 +23,7 @@ pub struct Case {
     pub next: usize,
 }
 
-#[derive(Drop)]
+#[derive(Clone, Copy)]
 pub enum CaseOutcome {
     Answer(Case),
     // The stored bytes end within the case.

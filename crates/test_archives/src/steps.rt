@@ -5,7 +5,7 @@ ghost use Rattle.test_archives.specs.Onward.{StepOnward};
 use endian::le64_at;
 use part::Part;
 
-#[derive(Drop)]
+#[derive(Clone, Copy)]
 pub struct Step {
     pub kind: u8,
     // Metadata or record.
@@ -16,7 +16,7 @@ pub struct Step {
     pub next: usize,
 }
 
-#[derive(Drop)]
+#[derive(Clone, Copy)]
 pub enum StepOutcome {
     Answer(Step),
     // The stored bytes end within the step.

@@ -6,7 +6,7 @@ ghost use Rattle.uleb128.specs.Number.{reading, reading_said};
 ghost use Rattle.uleb128.specs.Encoding.{encoding};
 
 // What stands at the front of the part.
-#[derive(Drop)]
+#[derive(Clone, Copy)]
 pub enum Number {
     // A number: its value, and how many bytes it takes.
     Value { value: u64, used: usize },

@@ -3,7 +3,7 @@ ghost use Rattle.std.specs.Prelude.{◌≡◌};
 ghost use Rattle.utf8.specs.Utf8.{due, due_after, is_utf8};
 
 // What is due: so many bytes of the character, the first of them from `low` to `high`, the others from 80 to bf.
-#[derive(Drop)]
+#[derive(Clone, Copy)]
 struct Due {
     count: u8,
     low: u8,

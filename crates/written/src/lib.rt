@@ -7,7 +7,7 @@ ghost use Rattle.written.specs.Written.{written_answer};
 
 // Number and place of a refusal, both 0 without one, and how many bytes were written.
 #[repr(C)]
-#[derive(Drop)]
+#[derive(Clone, Copy)]
 pub struct Written {
     pub number: u64,
     pub place: u64,
