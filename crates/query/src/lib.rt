@@ -1,6 +1,8 @@
 // Queries: whether a record matches, and whether a block between two bounds may hold a match.
 //
 // A stop or an upper bound that isn't given is passed as `false` and any slice; the bytes of that slice have no influence.
+#![tactic(auto)]
+
 ghost use Rattle.std.specs.Prelude.{◌≡◌};
 ghost use Rattle.query.specs.Query.{query_of, given, before, matches};
 ghost use Rattle.query.specs.Opening.{may_match, up_to, admits_prefix};

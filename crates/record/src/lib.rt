@@ -1,4 +1,6 @@
 // A record as a part of the file.
+#![tactic(auto)]
+
 ghost use Rattle.std.specs.Prelude.{◌≡◌, ◌+◌};
 ghost use Rattle.record.specs.Record.{is_within, part_start, part_of, record_of};
 

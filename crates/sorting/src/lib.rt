@@ -1,1 +1,2 @@
 // Sorting: definitions and laws; no code.
+#![tactic(auto)]
