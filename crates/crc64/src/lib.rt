@@ -6,6 +6,8 @@
 // The bytes of a long piece go in by a table of 256 numbers, in eight lanes side by side. A constant array is written to the stack wherever
 // it is used, and lanes have to be joined, which would take longer than a short piece itself; so short pieces take eight one-bit steps for
 // each byte.
+#![tactic(auto)]
+
 ghost use Rattle.std.specs.Prelude.{◌≡◌};
 ghost use Rattle.crc64.specs.Crc64.{register_start, crc_of, crc64};
 ghost use Rattle.crc64.specs.Crc64 as crc;

@@ -1,5 +1,7 @@
 // The register after a long piece, in eight lanes: the piece is cut into eight equal parts, each goes into a register of its own, and the
 // eight registers are joined. A step of one lane doesn't wait for the steps of the others.
+#![tactic(auto)]
+
 ghost use Rattle.std.specs.Prelude.{◌≡◌, true, ℕ, ◌+◌, ◌*◌, ◌^◌, ◌≤◌, ◌<◌, length, get_or};
 ghost use Rattle.std.specs.Int.Bits.{bit_xor};
 ghost use Rattle.part.specs.Part.{part};

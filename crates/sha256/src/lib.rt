@@ -3,6 +3,8 @@
 // The state goes in and comes back by value: the hash value so far, the bytes that do not fill a block yet, and how many
 // bytes there were. Whole blocks are taken straight from the caller's slice. Every function is total, on any state; the
 // law `Holds⇒sha256` says that a state made by `begin` and `absorb` gives the hash of the pieces joined.
+#![tactic(auto)]
+
 ghost use Rattle.std.specs.Prelude.{◌≡◌, ◌+◌, ◌-◌, ◌≤◌, ◌∷◌, ◌++◌, length, take, replicate};
 ghost use Rattle.sha256.specs.Sha256 as sha;
 ghost use Rattle.sha256.specs.State.{begun, absorbed, finished};

@@ -1,6 +1,8 @@
 // The blocks of SHA-256 (FIPS 180-4): each block of 64 bytes is taken into the hash value.
 //
 // Initial hash value, padding and digest are in crate sha256, which takes a byte string in pieces.
+#![tactic(auto)]
+
 ghost use Rattle.std.specs.Prelude.{◌≡◌};
 ghost use Rattle.sha256_block.specs.Compression as sha;
 

@@ -1,0 +1,8 @@
+-- The definition, call by call.
+use Rattle.sha256_block.specs.Compression.{Σ₀}
+use Rattle.sha256_block.proofs.word.big_sigma0.Goals as goal
+
+pub returns : goal.returns
+unfolding Σ₀
+returns c =
+    rw (c.rotr.ensures, c.rotr-2.ensures, c.rotr-3.ensures)
