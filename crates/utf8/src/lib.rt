@@ -1,4 +1,6 @@
 // UTF-8, as RFC 3629 (section 4) has it: no overlong forms, no surrogates, nothing above 10FFFF.
+#![tactic(auto)]
+
 ghost use Rattle.std.specs.Prelude.{◌≡◌};
 ghost use Rattle.utf8.specs.Utf8.{due, due_after, is_utf8};
 
