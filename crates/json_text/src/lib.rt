@@ -2,6 +2,8 @@
 //
 // An inner function takes the bytes and a position, and answers where the text ends that it is named after, if one stands there. Past the
 // end of the bytes nothing stands.
+#![tactic(auto)]
+
 ghost use Rattle.std.specs.Prelude.{◌≡◌};
 ghost use Rattle.json_grammar.specs.Recogniser.{is_object};
 
