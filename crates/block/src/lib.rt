@@ -1,4 +1,6 @@
 // Blocks: a whole block at an offset, and the pass over all blocks of a file.
+#![tactic(auto)]
+
 pub mod pass;
 
 // What the pass over all blocks reports: how many ordinary blocks and records there are, and whether the header's root is an index block.

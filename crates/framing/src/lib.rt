@@ -3,6 +3,8 @@
 // Every function is total: it reads at any offset of any bytes and answers what is there, or the number of the refusal. A refusal's
 // place is the start of the block at fault, which the caller knows: the contract of
 // `number_at` holds for whatever place that is.
+#![tactic(auto)]
+
 ghost use Rattle.std.specs.Prelude.{ℕ, ◌+◌, ◌≤◌, ◌≡◌, length};
 ghost use Rattle.framing.specs.Frame as frames;
 ghost use Rattle.framing.specs.Answers as answers;

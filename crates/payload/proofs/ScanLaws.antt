@@ -49,10 +49,13 @@ rising_snoc xs y = rising_from_nil (xs ++ (y ∷ [])) ∙ rising_from_snoc [] xs
 -- the first is at most every one after it
 pub rising_from-each : (x : List ℕ) (xs : List (List ℕ)) → rising_from x xs ≡ true → (y : List ℕ) → Memᴰ y xs → at_most x y ≡ true
 unfolding rising_from
-rising_from-each x xs h y (Memᴰ.head {x = z} {xs = zs} e) = ap (at_most x) e ∙ (both⁻¹ (at_most x z) (rising_from z zs) h).0
-rising_from-each x xs h y (Memᴰ.tail {x = z} {xs = zs} m) =
-    let r = both⁻¹ (at_most x z) (rising_from z zs) h in
-    at_most_trans x z y r.0 (rising_from-each z zs r.1 y m)
+rising_from-each x xs h y m = go y xs m x h
+  where
+    go : (y : List ℕ) (xs : List (List ℕ)) → Memᴰ y xs → (x : List ℕ) → rising_from x xs ≡ true → at_most x y ≡ true
+    go y xs (Memᴰ.head {x = z} {xs = zs} e) x h = ap (at_most x) e ∙ (both⁻¹ (at_most x z) (rising_from z zs) h).0
+    go y xs (Memᴰ.tail {x = z} {xs = zs} m) x h =
+        let r = both⁻¹ (at_most x z) (rising_from z zs) h in
+        at_most_trans x z y r.0 (go y zs m z r.1)
 
 -- ---- the pass
 

@@ -1,5 +1,7 @@
 // The records or entries of a payload. A payload is lent as a part `s` of the file that ends where the payload ends, so that offsets
 // are those of the file.
+#![tactic(auto)]
+
 ghost use Rattle.std.specs.Prelude.{ℕ, ◌+◌, ◌≤◌, ◌≡◌, ◌&&◌, length};
 ghost use Rattle.byte_string.specs.Order.{at_most, comparison};
 ghost use Rattle.part.specs.Part.{part};

@@ -38,12 +38,16 @@ neighbours-before a (b ∷ bs) h rest = kept (all_at_most a b) 23 b.frame.start 
 pub neighbours_chain : (a : Block) (bs : List Block) → neighbours_of a bs ≡ answer tt → ((b : Block) → Memᴰ b bs → (q : Text) × Memᴰ q b.records)
     → (b : Block) → Memᴰ b bs → (r s : Text) → Memᴰ r a.records → Memᴰ s b.records → at_most r.bytes s.bytes ≡ true
 unfolding neighbours_of
-neighbours_chain a bs h some b (Memᴰ.head {x = c} {xs = cs} e) r s m n =
-    all_at_most⁻¹ a c (kept⁻¹ (all_at_most a c) 23 c.frame.start (neighbours_of c cs) tt h).0 r s m (subst (λ (d : Block). Memᴰ s d.records) e n)
-neighbours_chain a bs h some b (Memᴰ.tail {x = c} {xs = cs} i) r s m n =
-    let first = kept⁻¹ (all_at_most a c) 23 c.frame.start (neighbours_of c cs) tt h in
-    let between = some c (Memᴰ.head refl) in
-    let q = between.0 in
-    at_most_trans r.bytes q.bytes s.bytes
-    (all_at_most⁻¹ a c first.0 r q m between.1)
-    (neighbours_chain c cs first.1 (λ d j. some d (Memᴰ.tail j)) b i q s between.1 n)
+neighbours_chain a bs h some b i r s m n = go b bs i a r h some m n
+  where
+    go : (b : Block) (bs : List Block) → Memᴰ b bs → (a : Block) (r : Text) → neighbours_of a bs ≡ answer tt → ((b : Block) → Memᴰ b bs → (q : Text) × Memᴰ q b.records)
+        → Memᴰ r a.records → Memᴰ s b.records → at_most r.bytes s.bytes ≡ true
+    go b bs (Memᴰ.head {x = c} {xs = cs} e) a r h some m n =
+        all_at_most⁻¹ a c (kept⁻¹ (all_at_most a c) 23 c.frame.start (neighbours_of c cs) tt h).0 r s m (subst (λ (d : Block). Memᴰ s d.records) e n)
+    go b bs (Memᴰ.tail {x = c} {xs = cs} i) a r h some m n =
+        let first = kept⁻¹ (all_at_most a c) 23 c.frame.start (neighbours_of c cs) tt h in
+        let between = some c (Memᴰ.head refl) in
+        let q = between.0 in
+        at_most_trans r.bytes q.bytes s.bytes
+        (all_at_most⁻¹ a c first.0 r q m between.1)
+        (go b cs i c q first.1 (λ d j. some d (Memᴰ.tail j)) between.1 n)

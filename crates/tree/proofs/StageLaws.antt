@@ -29,8 +29,11 @@ use Rattle.tree.specs.Stages.{each, entries_fit, named_rightly, ascending, neigh
 module _ (rule : Block → Bool) (number : ℕ) where
   pub each_member : (bs : List Block) → each rule number bs ≡ answer tt → (b : Block) → Memᴰ b bs → rule b ≡ true
   unfolding each
-  each_member bs h b (Memᴰ.head {x = c} {xs = cs} e) = ap rule e ∙ (kept⁻¹ (rule c) number c.frame.start (each rule number cs) tt h).0
-  each_member bs h b (Memᴰ.tail {x = c} {xs = cs} m) = each_member cs (kept⁻¹ (rule c) number c.frame.start (each rule number cs) tt h).1 b m
+  each_member bs h b m = go b bs m h
+    where
+      go : (b : Block) (bs : List Block) → Memᴰ b bs → each rule number bs ≡ answer tt → rule b ≡ true
+      go b bs (Memᴰ.head {x = c} {xs = cs} e) h = ap rule e ∙ (kept⁻¹ (rule c) number c.frame.start (each rule number cs) tt h).0
+      go b bs (Memᴰ.tail {x = c} {xs = cs} m) h = go b cs m (kept⁻¹ (rule c) number c.frame.start (each rule number cs) tt h).1
 
   pub member_each : (bs : List Block) → ((b : Block) → Memᴰ b bs → rule b ≡ true) → each rule number bs ≡ answer tt
   unfolding each

@@ -1,0 +1,13 @@
+-- `entries_at` meets its contract. The loop's invariant is `Scanned`: the entries seen, their count, whether they rise, and
+-- the last one. Assumes nothing.
+use Prim.Native.Nat.{◌-◌}
+use lib.ListN.{length}
+use Rattle.payload.specs.Payload.{entry_at}
+use Rattle.payload.proofs.ScanLaws.{Scanned}
+use Rattle.payload.proofs.entries_at.Given as goal
+
+abbrev pub invariant-loop-at : goal.invariant-loop-at
+invariant-loop-at l = Scanned (λ p. entry_at p l.s) (λ e. e.key) l.s l.from l.at l.count l.rising l.last.offset l.last.length
+
+abbrev pub decreases-loop-at : goal.decreases-loop-at
+decreases-loop-at l = length l.s - l.at

@@ -1,0 +1,26 @@
+-- `sized` meets its contract: one more number ends the entry. Assumes nothing.
+use mathlib.Core.Path.{sym, ap, ◌∙◌}
+use Rattle.outcome.proofs.OutcomeLaws.{bind_answer, bind_refused}
+use Rattle.framing.specs.Frame.{number_at}
+use Rattle.payload.specs.Payload.{entry_sized}
+use Rattle.framing.specs.Answers.{numberSaid}
+use Rattle.payload.specs.Answers.{entrySaid, KeyWithin}
+use Rattle.payload.proofs.sized.Goals as goal
+
+pub returns-in-Refused : goal.returns-in-Refused
+unfolding numberSaid entrySaid entry_sized KeyWithin
+returns-in-Refused c =
+    record {
+      by_index = λ place. sym (bind_refused (number_at 15 place c.args.s.now c.args.at) _ _ place (sym (c.number_at-number.ensures place) ∙ ap (numberSaid place)
+          c.in-Refused.is));
+      key_within = tt;
+    }
+
+pub returns-in-Answer : goal.returns-in-Answer
+unfolding numberSaid entrySaid entry_sized KeyWithin
+returns-in-Answer c =
+    record {
+      by_index = λ place. sym (bind_answer (number_at 15 place c.args.s.now c.args.at) _ _ (sym (c.number_at-number.ensures place) ∙ ap (numberSaid place)
+          c.in-Answer.is));
+      key_within = c.requires;
+    }
