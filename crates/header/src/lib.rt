@@ -1,4 +1,6 @@
 // The header of a file: its numbers, its layout and its rules (refusals 1 to 9).
+#![tactic(auto)]
+
 ghost use Rattle.std.specs.Prelude.{◌≡◌, true};
 ghost use Rattle.byte_string.specs.Order.{begins};
 ghost use Rattle.header.specs.Header as header;
