@@ -1,1 +1,2 @@
 // What differs between two lists of records: definitions and laws only.
+#![tactic(auto)]

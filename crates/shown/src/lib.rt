@@ -1,4 +1,6 @@
 // A record as a part of one of two files.
+#![tactic(auto)]
+
 ghost use Rattle.std.specs.Prelude.{cond, ◌≡◌, ◌+◌, eqb};
 ghost use Rattle.shown.specs.Shown.{part_shown, shown_bytes};
 

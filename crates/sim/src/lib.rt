@@ -1,4 +1,6 @@
 // Records of a SIM phonebook: the name in its field, and the order of the records that are made of two of them.
+#![tactic(auto)]
+
 ghost use Rattle.std.specs.Prelude.{◌≡◌, ◌+◌, ◌<◌, ◌&&◌, eqb, take, drop};
 ghost use Rattle.lists.specs.Groups.{first_or};
 ghost use Rattle.part.specs.Part.{part};

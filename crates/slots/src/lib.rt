@@ -1,4 +1,6 @@
 // Slots of 8 bytes in a lent byte slice, each with a number. Every function is total: behind the last slot 0 is read, and nothing stored.
+#![tactic(auto)]
+
 ghost use Rattle.std.specs.Prelude.{◌≡◌, get_or, set};
 ghost use Rattle.slots.specs.Slots.{slots};
 

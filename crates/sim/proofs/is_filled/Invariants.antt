@@ -1,0 +1,12 @@
+-- `is_filled` meets its contract. The loop's invariant: what is left decides. The measure is what is left. Assumes nothing.
+use mathlib.Core.Path.{◌≡◌}
+use Prim.Native.Nat.{◌-◌}
+use lib.ListN.{length, drop}
+use Rattle.sim.specs.Adn.{is_filled}
+use Rattle.sim.proofs.is_filled.Given as goal
+
+abbrev pub invariant-loop-i : goal.invariant-loop-i
+invariant-loop-i l = is_filled (drop l.i l.s) ≡ is_filled l.s
+
+abbrev pub decreases-loop-i : goal.decreases-loop-i
+decreases-loop-i l = length l.s - l.i
