@@ -1,5 +1,7 @@
 // Heapsort, in place and with no memory of its own: the offsets in the slots of a lent byte slice are sorted by the records that are made of the
 // SIM records at those offsets of a dump.
+#![tactic(auto)]
+
 ghost use Rattle.std.specs.Prelude.{◌≡◌, ◌+◌, ◌*◌, ◌≤◌, ◌<◌, length};
 ghost use Rattle.byte_string.specs.Order.{at_most};
 ghost use Rattle.sorting.specs.Sorting.{Sorted};
