@@ -1,4 +1,6 @@
 // What reading front to back and the search share: the room of a result list, and putting the matching records of a payload on it.
+#![tactic(auto)]
+
 ghost use Rattle.std.specs.Prelude.{ℕ, ◌+◌, ◌-◌, ◌^◌, ◌<◌, leb, length, ◌≡◌};
 ghost use Rattle.query.specs.Query.{query_of};
 ghost use Rattle.matching.specs.Matching.{matching, records_from};
