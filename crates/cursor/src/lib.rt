@@ -1,5 +1,7 @@
 // The records of a file one after the other, over the ends of its blocks. The file's blocks have been tested before; on any other bytes
 // these are the records that can be read.
+#![tactic(auto)]
+
 ghost use Rattle.std.specs.Prelude.{cond, List, ◌≡◌, ℕ, ◌≤◌, length, take};
 ghost use Rattle.block.specs.Block.{is_data};
 ghost use Rattle.block.specs.Laid.{laid_from};

@@ -1,4 +1,6 @@
 // Reading a file front to back under a query.
+#![tactic(auto)]
+
 ghost use Rattle.std.specs.Prelude.{◌≡◌, ◌^◌, ◌≤◌, length};
 ghost use Rattle.output_list.specs.OutputList.{zeros};
 ghost use Rattle.header.specs.Header.{blocks_from};
