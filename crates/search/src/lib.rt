@@ -1,4 +1,6 @@
 // The index search: the walk down from the root, on any bytes.
+#![tactic(auto)]
+
 ghost use Rattle.std.specs.Prelude.{◌≡◌, length};
 ghost use Rattle.output_list.specs.OutputList.{zeros};
 ghost use Rattle.header.specs.Header.{blocks_from};

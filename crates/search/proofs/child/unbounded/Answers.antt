@@ -3,12 +3,8 @@
 use Rattle.query.specs.Query.{given}
 use Rattle.search.specs.Steps.{PartWithin, bound_of}
 use borrow.Author.Rules.{rules}
-use Rattle.search.proofs.child.unbounded.Statement.{statement}
-use Rattle.search.proofs.child.unbounded.Tie as tie
+use Rattle.search.proofs.child.unbounded.Goals as goal
 
-returns : tie.Need-returns
+pub returns : goal.returns
 unfolding PartWithin bound_of given
 returns c = search rules
-
-pub unbounded-spec : {M : Type 1} → statement M
-unbounded-spec = tie.close (tie.spec returns)
