@@ -121,12 +121,12 @@ index_some b = let long = length_block b.level (flat_map entry_bytes b.entries) 
 pub placed_datas_lem : (at : ℕ) (blocks : List (List (List ℕ))) → placed_datas at blocks ≡ placed_by data_bytes placed_data at blocks
 unfolding placed_datas placed_by
 placed_datas_lem at [] = refl
-placed_datas_lem at (rs ∷ more) = ap (λ (l : List Block). placed_data at rs ∷ l) (placed_datas_lem _ more)
+placed_datas_lem at (rs ∷ more) = ap (λ (l : List Block). placed_data at rs ∷ l) (placed_datas_lem (at + length (data_bytes rs)) more)
 
 pub placed_indexes : (at : ℕ) (bs : List IndexBlock) → SideBySide at bs → map placed_index bs ≡ placed_by index_bytes index_at at bs
 unfolding placed_by index_at SideBySide
 placed_indexes at [] h = refl
-placed_indexes at (b ∷ bs) h = ap₂ (λ (n : ℕ) (l : List Block). index_at n b ∷ l) h.0 (placed_indexes _ bs h.1)
+placed_indexes at (b ∷ bs) h = ap₂ (λ (n : ℕ) (l : List Block). index_at n b ∷ l) h.0 (placed_indexes (at + length (index_bytes b)) bs h.1)
 
 -- data blocks and then index blocks, up to the end of the file
 pub blocks_back : (file : List ℕ) (from : ℕ) (blocks : List (List (List ℕ))) (index : List IndexBlock)

@@ -29,7 +29,7 @@ use Rattle.layout.proofs.LaidBytesLaws.{flat_map_bytes, member_bytes, first_reco
 pub length-data_entries : (before : Option (List ℕ)) (at : ℕ) (blocks : List (List (List ℕ))) → length (data_entries before at blocks) ≡ length blocks
 unfolding data_entries
 length-data_entries before at [] = refl
-length-data_entries before at (rs ∷ more) = ap suc (length-data_entries _ _ more)
+length-data_entries before at (rs ∷ more) = ap suc (length-data_entries (some (last_or {A = List ℕ} [] rs)) _ more)
 
 -- a block takes at least a byte
 few_blocks : (blocks : List (List (List ℕ))) → length blocks ≤ length (flat_map data_bytes blocks)

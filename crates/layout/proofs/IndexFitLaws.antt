@@ -32,14 +32,14 @@ groups_joined n h xs =
 pub length_level : (level at : ℕ) (gs : List (List IndexEntry)) → length (level_from level at gs) ≡ length gs
 unfolding level_from
 length_level level at [] = refl
-length_level level at (g ∷ gs) = ap suc (length_level level _ gs)
+length_level level at (g ∷ gs) = ap suc (length_level level (at + length (index_bytes record { level = level; offset = at; entries = g })) gs)
 
 -- a block of a level has that level, and a group of the entries
 pub level_member : (level at : ℕ) (gs : List (List IndexEntry)) (b : IndexBlock) → Memᴰ b (level_from level at gs)
     → (b.level ≡ level) × Memᴰ b.entries gs
 unfolding level_from
 level_member level at [] b m = absurd (Memᴰ.not-nil m)
-level_member level at (g ∷ gs) b m = go (Memᴰ.cases_cons m) (level_member level _ gs b)
+level_member level at (g ∷ gs) b m = go (Memᴰ.cases_cons m) (level_member level (at + length (index_bytes record { level = level; offset = at; entries = g })) gs b)
   where
     first : IndexBlock
     first = record { level = level; offset = at; entries = g }
@@ -59,7 +59,7 @@ level_some per_index h level at es b m = (groups_member per_index h es b.entries
 pub level_keys : (level at : ℕ) (gs : List (List IndexEntry)) → keys (map entry_for (level_from level at gs)) ≡ map (first_or []) (map keys gs)
 unfolding level_from entry_for first_or first_key
 level_keys level at [] = refl
-level_keys level at (g ∷ gs) = ap₂ (λ (x : List ℕ) (l : List (List ℕ)). x ∷ l) (first g) (level_keys level _ gs)
+level_keys level at (g ∷ gs) = ap₂ (λ (x : List ℕ) (l : List (List ℕ)). x ∷ l) (first g) (level_keys level (at + length (index_bytes record { level = level; offset = at; entries = g })) gs)
   where
     first : (g : List IndexEntry) → first_key g ≡ first_or [] (keys g)
     first [] = refl

@@ -63,13 +63,13 @@ key_length_lem es e m =
 pub placed_records_lem : (at : ℕ) (rs : List (List ℕ)) → placed_records at rs ≡ placed_by text_bytes placed_text at rs
 unfolding placed_records placed_by
 placed_records_lem at [] = refl
-placed_records_lem at (r ∷ rs) = ap (λ (l : List Text). placed_text at r ∷ l) (placed_records_lem _ rs)
+placed_records_lem at (r ∷ rs) = ap (λ (l : List Text). placed_text at r ∷ l) (placed_records_lem (at + length (text_bytes r)) rs)
 
 -- their bytes
 pub placed_records_bytes : (at : ℕ) (rs : List (List ℕ)) → map (λ (t : Text). t.bytes) (placed_records at rs) ≡ rs
 unfolding placed_records placed_text
 placed_records_bytes at [] = refl
-placed_records_bytes at (r ∷ rs) = ap (λ (l : List (List ℕ)). r ∷ l) (placed_records_bytes _ rs)
+placed_records_bytes at (r ∷ rs) = ap (λ (l : List (List ℕ)). r ∷ l) (placed_records_bytes (at + length (text_bytes r)) rs)
 
 pub records_items_back : (place : ℕ) (s : List ℕ) (at : ℕ) (rs : List (List ℕ)) → length (records_bytes rs) < 2 ^ 63 → Lies s at (records_bytes rs)
     → at + length (records_bytes rs) ≡ length s → (fuel : ℕ) → length s - at ≤ fuel
@@ -88,12 +88,12 @@ placed_entry at e = record { key = placed_text at e.key; offset = e.offset; size
 pub placed_entries_lem : (at : ℕ) (es : List IndexEntry) → placed_entries at es ≡ placed_by entry_bytes placed_entry at es
 unfolding placed_entries placed_by placed_entry
 placed_entries_lem at [] = refl
-placed_entries_lem at (e ∷ es) = ap (λ (l : List Entry). placed_entry at e ∷ l) (placed_entries_lem _ es)
+placed_entries_lem at (e ∷ es) = ap (λ (l : List Entry). placed_entry at e ∷ l) (placed_entries_lem (at + length (entry_bytes e)) es)
 
 pub placed_entries_keys : (at : ℕ) (es : List IndexEntry) → map (λ (x : Entry). x.key.bytes) (placed_entries at es) ≡ map (λ (e : IndexEntry). e.key) es
 unfolding placed_entries placed_text
 placed_entries_keys at [] = refl
-placed_entries_keys at (e ∷ es) = ap (λ (l : List (List ℕ)). e.key ∷ l) (placed_entries_keys _ es)
+placed_entries_keys at (e ∷ es) = ap (λ (l : List (List ℕ)). e.key ∷ l) (placed_entries_keys (at + length (entry_bytes e)) es)
 
 -- their numbers can be written
 abbrev pub SmallNumbers : List IndexEntry → Type 0

@@ -29,7 +29,7 @@ pub side_by_side_within : (at : ℕ) (bs : List IndexBlock) → SideBySide at bs
     → (at ≤ b.offset) × (b.offset + length (index_bytes b) ≤ at + length (flat_map index_bytes bs))
 unfolding SideBySide flat_map
 side_by_side_within at [] h b m = absurd (Memᴰ.not-nil m)
-side_by_side_within at (c ∷ bs) h b m = go (Memᴰ.cases_cons m) (side_by_side_within _ bs h.1 b)
+side_by_side_within at (c ∷ bs) h b m = go (Memᴰ.cases_cons m) (side_by_side_within (at + length (index_bytes c)) bs h.1 b)
   where
     sum : length (index_bytes c ++ flat_map index_bytes bs) ≡ length (index_bytes c) + length (flat_map index_bytes bs)
     sum = length-append (index_bytes c) (flat_map index_bytes bs)
@@ -50,7 +50,7 @@ side_by_side_within at (c ∷ bs) h b m = go (Memᴰ.cases_cons m) (side_by_side
 pub level_side_by_side : (level at : ℕ) (gs : List (List IndexEntry)) → SideBySide at (level_from level at gs)
 unfolding SideBySide level_from
 level_side_by_side level at [] = tt
-level_side_by_side level at (es ∷ more) = (refl, level_side_by_side level _ more)
+level_side_by_side level at (es ∷ more) = (refl, level_side_by_side level (at + length (index_bytes record { level = level; offset = at; entries = es })) more)
 
 -- all levels
 pub levels_side_by_side : (fuel per_index level at : ℕ) (es : List IndexEntry) → SideBySide at (levels_from fuel per_index level at es)
