@@ -6,9 +6,9 @@ use mathlib.Core.List.{List, [], ◌∷◌, ◌++◌, append_assoc}
 use Prim.Native.Nat.{ℕ, zero, suc, ◌+◌, ◌-◌, ◌/◌, ◌%◌, ◌^◌, ◌≤◌, ◌<◌}
 use native.Mathlib.Omega.{arith}
 use native.Mathlib.Nat.{pow-zero, pow-succ', add-zero, add_comm}
-use lib.Dec.{leb, ltb}
-use borrow.Author.Tests.{le-leb, lt-leb, leb-true, leb-false, ltb-true, ltb-false}
-use lib.ListN.{length, take, drop, get_or, set, length-drop, length-append}
+use lib.Dec.{leb}
+use borrow.Author.Tests.{le-leb, lt-leb, leb-true, leb-false}
+use lib.ListN.{length, drop, get_or, set, length-drop, length-append}
 use lib.Seq.{get_or-drop, drop-drop}
 use Rattle.endian.specs.FixedWidth.{little_bytes}
 use Rattle.endian.proofs.FixedWidthLaws.{little_bytes-length}
@@ -17,7 +17,7 @@ use Rattle.layout.specs.Blocks.{block_bytes, block_size}
 use Rattle.layout.proofs.ReadBackLaws.{length_block}
 use Rattle.uleb128.specs.Encoding.{encoding, encoding_with}
 use Rattle.uleb128.proofs.EncodingLaws.{encoding_with_low, encoding_with_high, encoding_with_some, digits}
-use Rattle.output_bytes.specs.OutputBytes.{bytes_fit, stored, stored_length}
+use Rattle.output_bytes.specs.OutputBytes.{stored, stored_length}
 use Rattle.output_bytes.proofs.OutputBytesLaws.{Storing, storing_none, storing_more, storing_all, fits_some, fits_none, stored_none, stored-append}
 
 -- ---- a number, byte by byte

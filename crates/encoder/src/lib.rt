@@ -1,6 +1,8 @@
 // Numbers and framed blocks, put into a lent output.
 //
 // Every function is total: it stores what it encodes where that fits, and nothing otherwise, and answers how many bytes it stored.
+#![tactic(auto)]
+
 ghost use Rattle.std.specs.Prelude.{◌+◌, ◌≡◌, ◌∷◌, cond, leb};
 ghost use Rattle.uleb128.specs.Encoding.{encoding};
 ghost use Rattle.crc64.specs.Crc64.{crc64};
