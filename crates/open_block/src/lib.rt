@@ -1,4 +1,6 @@
 // The open data block of a file that is being written: it stands framed, and one record more goes in.
+#![tactic(auto)]
+
 ghost use Rattle.std.specs.Prelude.{ℕ, ◌+◌, ◌≤◌, ◌≡◌, List, ◌∷◌, ◌++◌, length};
 ghost use Rattle.uleb128.specs.Encoding.{encoding};
 ghost use Rattle.crc64.specs.Crc64.{register_start};
