@@ -1,4 +1,6 @@
 // The header of a file, put at the front of an output in two steps: what is known before the blocks, and what is known after them.
+#![tactic(auto)]
+
 ghost use Rattle.std.specs.Prelude.{ℕ, ◌≡◌, List, ◌++◌, length};
 ghost use Rattle.output_bytes.specs.OutputBytes.{bytes_fit, stored};
 ghost use Rattle.layout.specs.File.{header_data, header_bytes, unfinished_header};
