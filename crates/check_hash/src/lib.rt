@@ -1,4 +1,6 @@
 // 25: the header's hash is that of the payloads of the data blocks, joined in file order.
+#![tactic(auto)]
+
 ghost use Rattle.std.specs.Prelude.{◌+◌, ◌-◌, ◌≤◌, ◌<◌, ◌^◌, ◌≡◌, cond, length, drop};
 ghost use Rattle.byte_string.specs.Order.{begins};
 ghost use Rattle.sha256.specs.Sha256 as sha;

@@ -1,0 +1,11 @@
+-- `hashed` meets its contract. The loop's invariant is `Passed`: the state holds the payloads of the blocks seen. Assumes nothing.
+use Prim.Native.Nat.{◌-◌}
+use lib.ListN.{length}
+use Rattle.check_hash.proofs.HashLaws.{Passed}
+use Rattle.check_hash.proofs.hashed.Given as goal
+
+abbrev pub invariant-loop-at : goal.invariant-loop-at
+invariant-loop-at l = Passed l.file l.from l.at l.state
+
+abbrev pub decreases-loop-at : goal.decreases-loop-at
+decreases-loop-at l = length l.file - l.at
