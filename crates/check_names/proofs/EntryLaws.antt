@@ -13,7 +13,6 @@ use Rattle.payload.specs.Payload.{Entry}
 use Rattle.block.specs.Block.{Block}
 use Rattle.block.specs.Survey.{ordinary}
 use Rattle.block.specs.Laid.{laid_from}
-use Rattle.tree.specs.Tree.{names}
 use Rattle.tree.proofs.StageLaws.{names_true, names_false}
 use Rattle.check_names.specs.Starts.{starts_of, StartsRise, Located}
 use Rattle.check_names.specs.Names.{WordsKept, Named}

@@ -3,6 +3,8 @@
 //
 // The work list holds a word for each ordinary block, in file order: its start, and 2^30 times how many entries name it (0, 1, or 2 for
 // more).
+#![tactic(auto)]
+
 ghost use Rattle.std.specs.Prelude.{◌≡◌, length};
 ghost use Rattle.output_list.specs.OutputList.{zeros};
 ghost use Rattle.outcome.specs.Refusal.{refusal_of};
