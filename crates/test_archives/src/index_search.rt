@@ -1,10 +1,19 @@
 // Call 3: the index search.
 use crate::cases::{Case, string};
-use crate::lists::{RUBBISH, room};
+use crate::lent::{RUBBISH, room};
 use crate::print;
+use std::io;
+use std::io::Write;
 
 // Searches the file under the query of a case, with all of both lists lent, and prints the answer.
-fn answer(file: &[u8], stored: &[u8], case: Case, opened: &mut [u64], results: &mut [u64]) {
+fn answer(
+    out: &mut impl Write,
+    file: &[u8],
+    stored: &[u8],
+    case: Case,
+    opened: &mut [u64],
+    results: &mut [u64],
+) -> io::Result<()> {
     let start_part = case.start;
     let stop_part = case.stop;
     let prefix_part = case.prefix;
@@ -13,26 +22,27 @@ fn answer(file: &[u8], stored: &[u8], case: Case, opened: &mut [u64], results: &
     let prefix = string(stored, prefix_part);
     let stop_given = case.stop_given;
     let answer = search::search(file, start, stop_given, stop, prefix, opened, results);
-    print::query(start, stop_given, stop, prefix);
-    print::number(b": number ", answer.number);
-    print::number(b" place ", answer.place);
-    print::number(b" matches ", answer.matches);
-    print::number(b" opened ", answer.opened);
-    print::list(b" openedlist", opened);
-    print::list(b" results", results);
+    print::query(out, start, stop_given, stop, prefix)?;
+    print::number(out, ": number ", answer.number)?;
+    print::number(out, " place ", answer.place)?;
+    print::number(out, " matches ", answer.matches)?;
+    print::number(out, " opened ", answer.opened)?;
+    print::list(out, " openedlist", opened)?;
+    print::list(out, " results", results)
 }
 
-pub fn run(file: &[u8], stored: &[u8], case: Case) {
+pub fn run(out: &mut impl Write, file: &[u8], stored: &[u8], case: Case) -> io::Result<()> {
     let mut opened = [RUBBISH; 128];
     let mut results = [RUBBISH; 128];
     let opened_places = room(case.other_places, &opened);
     let result_places = room(case.result_places, &results);
-    print::text(b" search");
+    write!(out, " search")?;
     answer(
+        out,
         file,
         stored,
         case,
         &mut opened[..opened_places],
         &mut results[..result_places],
-    );
+    )
 }

@@ -1,13 +1,13 @@
 // Runs the stored cases: for each case of the files `cases`, `more-cases`, `write-cases`, `import-cases`, `session-cases` and `compare-cases` a
 // call on the file or the two files that it names, and a line with the answer; for a session a line with the answer of each step.
-ghost use Rattle.io.specs.Counts.{IsPrefixLen};
+#![tactic(auto)]
 
 mod cases;
 mod check;
 mod compare_pair;
 mod import_sim;
 mod index_search;
-mod lists;
+mod lent;
 mod print;
 mod read;
 mod record_part;
@@ -18,113 +18,145 @@ mod store_part;
 mod write;
 
 use cases::{Case, CaseOutcome, case_at, string};
+use std::fs::File;
+use std::io;
+use std::io::{BufWriter, Read, Write};
+use std::rt::Files;
 
-// Reads a file and closes it; answers how many bytes of `space` it fills. A longer file would be cut, and the corpus has none.
-fn fill(fd: i32, space: &mut [u8]) -> usize
-    ensures { IsPrefixLen result space.new }
-{
-    let n = io::read_full(fd, space);
-    libc::close(fd);
-    n
+// Opens a file and reads all of it, or says why it can't be opened.
+fn contents<R: Files + Alloc + Eprint>(rt: &R, path: &[u8]) -> io::Result<Option<Vec<u8, R::A>>> {
+    let name = String::from_utf8_lossy(rt.alloc(), path)?;
+    match File::open(rt, name.as_str()) {
+        Ok(file) => {
+            let mut open = file;
+            let mut bytes = Vec::new(rt.alloc());
+            open.read_to_end(&mut bytes)?;
+            Ok(Some(bytes))
+        },
+        Err(error) => {
+            eprintln!(rt; "{name}: {error}")?;
+            Ok(None)
+        },
+    }
 }
 
 // Opens the second file of a case, or says why it can't, and makes the call on the bytes of both.
-fn answer_pair(first: &[u8], stored: &[u8], case: Case) {
+fn answer_pair(
+    rt: &(impl Files + Alloc + Eprint),
+    out: &mut impl Write,
+    first: &[u8],
+    stored: &[u8],
+    case: Case,
+) -> io::Result<()> {
     let name_part = case.start;
     let name = string(stored, name_part);
-    let fd = os::open_read(name);
-    if fd < 0 {
-        os::fail(name);
-        return;
-    }
-    let mut space = io::large_buffer();
-    let n = fill(fd, &mut space);
+    let Some(second) = contents(rt, name)? else {
+        return Ok(());
+    };
     if case.call == 8 {
-        compare_pair::run(first, &space[..n], name, case);
+        compare_pair::run(out, first, &second, name, case)
     } else {
-        shown_part::run(first, &space[..n], name, case);
+        shown_part::run(out, first, &second, name, case)
     }
 }
 
 // Makes the call of a case on the bytes of its file, and prints the line.
-fn answer(file: &[u8], stored: &[u8], case: Case) {
+fn answer(
+    rt: &(impl Files + Alloc + Eprint),
+    out: &mut impl Write,
+    file: &[u8],
+    stored: &[u8],
+    case: Case,
+) -> io::Result<()> {
     let name = case.name;
-    print::text(string(stored, name));
+    out.write_all(string(stored, name))?;
     let call = case.call;
     match call {
-        1 => read::run(file, stored, case),
-        2 => check::run(file, case),
-        3 => index_search::run(file, stored, case),
-        4 => record_part::run(file, case),
-        5 => write::run(file, stored, case),
-        6 => import_sim::run(file, case),
-        7 => store_part::run(file, case),
-        8 | 9 => answer_pair(file, stored, case),
-        _ => print::number(b" unknown call ", call as u64),
+        1 => read::run(out, file, stored, case)?,
+        2 => check::run(out, file, case)?,
+        3 => index_search::run(out, file, stored, case)?,
+        4 => record_part::run(out, file, case)?,
+        5 => write::run(out, file, stored, case)?,
+        6 => import_sim::run(out, file, case)?,
+        7 => store_part::run(out, file, case)?,
+        8 | 9 => answer_pair(rt, out, file, stored, case)?,
+        _ => print::number(out, " unknown call ", call as u64)?,
     }
-    print::text(b"\n");
+    writeln!(out)
 }
 
 // Makes the call of a case on the bytes of its file. A session prints its own lines.
-fn answer_any(file: &[u8], stored: &[u8], case: Case) {
+fn answer_any(
+    rt: &(impl Files + Alloc + Eprint),
+    out: &mut impl Write,
+    file: &[u8],
+    stored: &[u8],
+    case: Case,
+) -> io::Result<()> {
     if case.call == 10 {
         let name = case.name;
-        session_steps::run(file, string(stored, name));
+        session_steps::run(out, file, string(stored, name))
     } else {
-        answer(file, stored, case);
+        answer(rt, out, file, stored, case)
     }
 }
 
 // Opens the file of a case, or says why it can't, and makes the call on its bytes.
-fn run_case(stored: &[u8], case: Case) {
+fn run_case(
+    rt: &(impl Files + Alloc + Eprint),
+    out: &mut impl Write,
+    stored: &[u8],
+    case: Case,
+) -> io::Result<()> {
     let name = case.name;
-    let path = string(stored, name);
-    let fd = os::open_read(path);
-    if fd < 0 {
-        os::fail(path);
-        return;
+    match contents(rt, string(stored, name))? {
+        Some(file) => answer_any(rt, out, &file, stored, case),
+        None => Ok(()),
     }
-    let mut space = io::large_buffer();
-    let n = fill(fd, &mut space);
-    answer_any(&space[..n], stored, case);
 }
 
 // Runs the cases one after the other.
-fn run_all(stored: &[u8]) {
+fn run_all(
+    rt: &(impl Files + Alloc + Eprint),
+    out: &mut impl Write,
+    stored: &[u8],
+) -> io::Result<()> {
     let mut at = 0;
     while at < stored.len() {
         let parsed = case_at(stored, at);
         match parsed {
             CaseOutcome::Cut => {
-                print::number(b"cut case at ", at as u64);
-                print::text(b"\n");
-                return;
+                print::number(out, "cut case at ", at as u64)?;
+                return writeln!(out);
             },
             CaseOutcome::Answer(case) => {
-                run_case(stored, case);
+                run_case(rt, out, stored, case)?;
                 at = case.next;
             },
         }
     }
+    Ok(())
 }
 
 // Runs the cases of a file, or says why it can't be opened.
-fn run_file(path: &[u8]) {
-    let fd = os::open_read(path);
-    if fd < 0 {
-        os::fail(path);
-        return;
+fn run_file(
+    rt: &(impl Files + Alloc + Eprint),
+    out: &mut impl Write,
+    path: &str,
+) -> io::Result<()> {
+    match contents(rt, path.as_bytes())? {
+        Some(stored) => run_all(rt, out, &stored),
+        None => Ok(()),
     }
-    let mut space = io::large_buffer();
-    let n = fill(fd, &mut space);
-    run_all(&space[..n]);
 }
 
-fn main() {
-    run_file(b"cases");
-    run_file(b"more-cases");
-    run_file(b"write-cases");
-    run_file(b"import-cases");
-    run_file(b"session-cases");
-    run_file(b"compare-cases");
+fn main(rt: HostRuntime) -> io::Result<()> {
+    let mut out = BufWriter::new(rt.alloc(), io::writer(&rt))?;
+    run_file(&rt, &mut out, "cases")?;
+    run_file(&rt, &mut out, "more-cases")?;
+    run_file(&rt, &mut out, "write-cases")?;
+    run_file(&rt, &mut out, "import-cases")?;
+    run_file(&rt, &mut out, "session-cases")?;
+    run_file(&rt, &mut out, "compare-cases")?;
+    out.flush()
 }

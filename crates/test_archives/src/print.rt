@@ -1,71 +1,66 @@
-// Printing to standard output.
+// Printing: to standard output, through the writer over it that `main` makes.
 ghost use Rattle.std.specs.Prelude.{◌≡◌, nat_abs};
 
-use libc::STDOUT_FILENO;
-
-pub fn text(bytes: &[u8]) {
-    io::write_all(STDOUT_FILENO, bytes);
-}
+use std::io;
+use std::io::Write;
 
 // A number after a label.
-pub fn number(label: &[u8], n: u64) {
-    text(label);
-    io::print_decimal(STDOUT_FILENO, n);
+pub fn number(out: &mut impl Write, label: &str, n: u64) -> io::Result<()> {
+    write!(out, "{label}{n}")
 }
 
-// How far a number is from 0. That of the least doesn't fit its type with another sign, so of a number below 0 one is added after the cast.
+// How far a number is from 0.
 fn magnitude(n: i64) -> u64
     ensures { result ≡ nat_abs n }
 {
-    if n < 0 { (-1 - n) as u64 + 1 } else { n as u64 }
+    n.unsigned_abs()
 }
 
 // A number that may be below 0 after a label.
-pub fn signed(label: &[u8], n: i64) {
-    text(label);
+pub fn signed(out: &mut impl Write, label: &str, n: i64) -> io::Result<()> {
+    write!(out, "{label}")?;
     if n < 0 {
-        text(b"-");
+        write!(out, "-")?;
     }
-    io::print_decimal(STDOUT_FILENO, magnitude(n));
+    write!(out, "{}", magnitude(n))
 }
 
 // The numbers of a list after a label, a space in front of each.
-pub fn list(label: &[u8], numbers: &[u64]) {
-    text(label);
-    let mut i = 0;
-    while i < numbers.len() {
-        number(b" ", numbers[i]);
-        i += 1;
+pub fn list(out: &mut impl Write, label: &str, numbers: &[u64]) -> io::Result<()> {
+    write!(out, "{label}")?;
+    for n in numbers {
+        number(out, " ", *n)?;
     }
-}
-
-fn byte(b: u8) {
-    io::print_hex(STDOUT_FILENO, b as u64, 2);
+    Ok(())
 }
 
 // Bytes in hex after a label, `-` for none.
-pub fn hex(label: &[u8], bytes: &[u8]) {
-    text(label);
+pub fn hex(out: &mut impl Write, label: &str, bytes: &[u8]) -> io::Result<()> {
+    write!(out, "{label}")?;
     if bytes.len() == 0 {
-        text(b"-");
-        return;
+        return write!(out, "-");
     }
-    let mut i = 0;
-    while i < bytes.len() {
-        byte(bytes[i]);
-        i += 1;
+    for b in bytes {
+        write!(out, "{b:02x}")?;
     }
+    Ok(())
 }
 
 // Start, stop and prefix of a query, each after a space: `-` for a stop that isn't given, `empty` for an empty one.
-pub fn query(start: &[u8], stop_given: bool, stop: &[u8], prefix: &[u8]) {
-    hex(b" ", start);
+pub fn query(
+    out: &mut impl Write,
+    start: &[u8],
+    stop_given: bool,
+    stop: &[u8],
+    prefix: &[u8],
+) -> io::Result<()> {
+    hex(out, " ", start)?;
     if !stop_given {
-        text(b" -");
+        write!(out, " -")?;
     } else if stop.len() == 0 {
-        text(b" empty");
+        write!(out, " empty")?;
     } else {
-        hex(b" ", stop);
+        hex(out, " ", stop)?;
     }
-    hex(b" ", prefix);
+    hex(out, " ", prefix)
 }

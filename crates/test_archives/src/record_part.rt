@@ -2,18 +2,20 @@
 use crate::cases::Case;
 use crate::print;
 use record::{is_within, record};
+use std::io;
+use std::io::Write;
 
-pub fn run(file: &[u8], case: Case) {
+pub fn run(out: &mut impl Write, file: &[u8], case: Case) -> io::Result<()> {
     let offset = case.offset;
     let length = case.length;
-    print::number(b" record ", offset);
-    print::number(b" ", length);
+    print::number(out, " record ", offset)?;
+    print::number(out, " ", length)?;
     if is_within(file, offset, length) {
-        print::number(b": within yes part ", offset);
+        print::number(out, ": within yes part ", offset)?;
     } else {
-        print::text(b": within no part 0");
+        write!(out, ": within no part 0")?;
     }
     let found = record(file, offset, length);
-    print::number(b" ", found.len() as u64);
-    print::hex(b" bytes ", found);
+    print::number(out, " ", found.len() as u64)?;
+    print::hex(out, " bytes ", found)
 }

@@ -1,10 +1,12 @@
 // Call 10: the steps of a session. The file of the case holds them.
 use crate::cases::string;
-use crate::lists::output_room;
+use crate::lent::output_room;
 use crate::print;
 use crate::steps::{Step, StepOutcome, step_at};
 use crate::write::RUBBISH;
 use session_value::{Session, Stepped, afresh, answered};
+use std::io;
+use std::io::Write;
 
 const AFRESH: u8 = 1;
 
@@ -47,53 +49,55 @@ fn take(stored: &[u8], step: Step, session: Session, output: &mut [u8]) -> Stepp
     }
 }
 
-fn print_word(kind: u8) {
+fn print_word(out: &mut impl Write, kind: u8) -> io::Result<()> {
     match kind {
-        1 => print::text(b" afresh"),
-        2 => print::text(b" begin"),
-        3 => print::text(b" add"),
-        4 => print::text(b" close"),
-        5 => print::text(b" finish"),
-        _ => print::text(b" unknown step"),
+        1 => write!(out, " afresh"),
+        2 => write!(out, " begin"),
+        3 => write!(out, " add"),
+        4 => write!(out, " close"),
+        5 => write!(out, " finish"),
+        _ => write!(out, " unknown step"),
     }
 }
 
 // Prints the answer of a step, and the hash of the whole output.
-fn print_answer(answer: Stepped, output: &[u8]) {
-    print::number(b" ", output.len() as u64);
-    print::number(b": number ", answer.number);
-    print::number(b" place ", answer.place);
+fn print_answer(out: &mut impl Write, answer: Stepped, output: &[u8]) -> io::Result<()> {
+    print::number(out, " ", output.len() as u64)?;
+    print::number(out, ": number ", answer.number)?;
+    print::number(out, " place ", answer.place)?;
     let session = answer.session;
-    print::number(b" records ", session.records);
-    print::number(b" last ", session.last);
-    print::number(b" next ", session.next);
+    print::number(out, " records ", session.records)?;
+    print::number(out, " last ", session.last)?;
+    print::number(out, " next ", session.next)?;
     let digest = sha256::finish(sha256::absorb(sha256::begin(), output));
-    print::hex(b" output ", &digest);
-    print::text(b"\n");
+    print::hex(out, " output ", &digest)?;
+    writeln!(out)
 }
 
 // Takes the step at a position with all of `output` lent, prints its line unless the output only grows, and answers the session after it.
 fn run_step(
+    out: &mut impl Write,
     stored: &[u8],
     name: &[u8],
     at: usize,
     step: Step,
     session: Session,
     output: &mut [u8],
-) -> Session {
+) -> io::Result<Session> {
     let answer = take(stored, step, session, output);
     let kind = step.kind;
     if kind != GROW {
-        print::text(name);
-        print::number(b" session ", at as u64);
-        print_word(kind);
-        print_answer(answer, output);
+        out.write_all(name)?;
+        print::number(out, " session ", at as u64)?;
+        print_word(out, kind)?;
+        print_answer(out, answer, output)?;
     }
-    answer.session
+    Ok(answer.session)
 }
 
 // Lends the step so much of the output as it asks for, or as the step before was lent. Bytes by which the output gets longer are zeros.
 fn lend_step(
+    out: &mut impl Write,
     stored: &[u8],
     name: &[u8],
     at: usize,
@@ -101,17 +105,17 @@ fn lend_step(
     session: Session,
     room: u64,
     output: &mut [u8],
-) -> Session {
+) -> io::Result<Session> {
     let more = room_from(step, room);
     let from = output_room(room, output);
     let to = output_room(more, output);
     clear_more(output, from, to);
     let lent = output_room(more, output);
-    run_step(stored, name, at, step, session, &mut output[..lent])
+    run_step(out, stored, name, at, step, session, &mut output[..lent])
 }
 
 // Takes the steps one after the other.
-fn run_all(stored: &[u8], name: &[u8], output: &mut [u8]) {
+fn run_all(out: &mut impl Write, stored: &[u8], name: &[u8], output: &mut [u8]) -> io::Result<()> {
     let mut session = afresh();
     let mut room = 0;
     let mut at = 0;
@@ -119,20 +123,20 @@ fn run_all(stored: &[u8], name: &[u8], output: &mut [u8]) {
         let parsed = step_at(stored, at);
         match parsed {
             StepOutcome::Cut => {
-                print::number(b"cut step at ", at as u64);
-                print::text(b"\n");
-                return;
+                print::number(out, "cut step at ", at as u64)?;
+                return writeln!(out);
             },
             StepOutcome::Answer(step) => {
-                session = lend_step(stored, name, at, step, session, room, output);
+                session = lend_step(out, stored, name, at, step, session, room, output)?;
                 room = room_from(step, room);
                 at = step.next;
             },
         }
     }
+    Ok(())
 }
 
-pub fn run(stored: &[u8], name: &[u8]) {
+pub fn run(out: &mut impl Write, stored: &[u8], name: &[u8]) -> io::Result<()> {
     let mut output = [RUBBISH; 65536];
-    run_all(stored, name, &mut output);
+    run_all(out, stored, name, &mut output)
 }

@@ -1,11 +1,13 @@
 // Call 7: where a store of the file goes.
 use crate::cases::Case;
 use crate::print;
+use std::io;
+use std::io::Write;
 
-pub fn run(file: &[u8], case: Case) {
+pub fn run(out: &mut impl Write, file: &[u8], case: Case) -> io::Result<()> {
     let i = case.offset;
-    print::number(b" store ", i);
+    print::number(out, " store ", i)?;
     let found = stores::store(file, i);
-    print::number(b": offset ", found.offset as u64);
-    print::number(b" length ", found.length as u64);
+    print::number(out, ": offset ", found.offset as u64)?;
+    print::number(out, " length ", found.length as u64)
 }

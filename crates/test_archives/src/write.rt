@@ -1,37 +1,45 @@
 // Call 5: the writer. The file of the case holds the records.
 use crate::cases::{Case, string};
-use crate::lists::output_room;
+use crate::lent::output_room;
 use crate::print;
+use std::io;
+use std::io::Write;
 use written::Written;
 
 // What stands in each byte of the output before the call, so that a byte that isn't written shows.
 pub const RUBBISH: u8 = 0x5a;
 
 // Prints the answer, and the hash of the whole output.
-pub fn print_answer(answer: Written, output: &[u8]) {
-    print::number(b": number ", answer.number);
-    print::number(b" place ", answer.place);
-    print::number(b" length ", answer.length);
+pub fn print_answer(out: &mut impl Write, answer: Written, output: &[u8]) -> io::Result<()> {
+    print::number(out, ": number ", answer.number)?;
+    print::number(out, " place ", answer.place)?;
+    print::number(out, " length ", answer.length)?;
     let digest = sha256::finish(sha256::absorb(sha256::begin(), output));
-    print::hex(b" output ", &digest);
+    print::hex(out, " output ", &digest)
 }
 
 // Writes the records with the metadata and counts of a case and all of `output` lent, and prints the answer.
-fn answer(records: &[u8], stored: &[u8], case: Case, output: &mut [u8]) {
+fn answer(
+    out: &mut impl Write,
+    records: &[u8],
+    stored: &[u8],
+    case: Case,
+    output: &mut [u8],
+) -> io::Result<()> {
     let metadata_part = case.start;
     let metadata = string(stored, metadata_part);
     let per_block = case.offset;
     let per_index = case.length;
-    print::hex(b" write ", metadata);
-    print::number(b" ", per_block);
-    print::number(b" ", per_index);
-    print::number(b" ", output.len() as u64);
+    print::hex(out, " write ", metadata)?;
+    print::number(out, " ", per_block)?;
+    print::number(out, " ", per_index)?;
+    print::number(out, " ", output.len() as u64)?;
     let answer = writer::write(metadata, records, per_block, per_index, output);
-    print_answer(answer, output);
+    print_answer(out, answer, output)
 }
 
-pub fn run(records: &[u8], stored: &[u8], case: Case) {
+pub fn run(out: &mut impl Write, records: &[u8], stored: &[u8], case: Case) -> io::Result<()> {
     let mut output = [RUBBISH; 65536];
     let length = output_room(case.result_places, &output);
-    answer(records, stored, case, &mut output[..length]);
+    answer(out, records, stored, case, &mut output[..length])
 }

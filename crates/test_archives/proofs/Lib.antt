@@ -1,2 +1,0 @@
--- Laws of numbers below 0, for the sums that are printed.
-mod SignedLaws
