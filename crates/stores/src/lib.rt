@@ -1,4 +1,6 @@
 // The stores of a finished file, by which it is written so that a power cut leaves no wrong one.
+#![tactic(auto)]
+
 ghost use Rattle.std.specs.Prelude.{true, ◌&&◌, ◌≡◌};
 ghost use Rattle.stores.specs.FileStores.{has_stores, store_part};
 
