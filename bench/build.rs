@@ -1,4 +1,4 @@
-//! Links the checksums that `rt staticlib bench_exports` writes to target/staticlib (or those in the folder that
+//! Links the checksums that `scripts/staticlib.sh bench_exports` writes to target/staticlib (or those in the folder that
 //! BENCH_EXPORTS_LIBRARY_DIR names), and the libraries of others that they are compared with.
 fn main() {
     let usual = concat!(env!("CARGO_MANIFEST_DIR"), "/../target/staticlib");

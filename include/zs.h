@@ -1,6 +1,6 @@
 /* The proved library, for C (from C99 on) and C++ (from C++11 on).
  *
- * Link target/staticlib/libzs.a, which `rt staticlib zs` makes for x86-64 Linux (System V ABI). It calls nothing but C's memory functions
+ * Link target/staticlib/libzs.a, which `scripts/staticlib.sh zs` makes for x86-64 Linux (System V ABI). It calls nothing but C's memory functions
  * (memset, memcpy).
  *
  * Every function takes any bytes and any lists, and always returns.

@@ -33,18 +33,10 @@ PATH="$PATH:${CARGO_HOME:-$HOME/.cargo}/bin"
 
 scripts/setup.sh --bench
 
-# library NAME: proves a library and builds it for C; says what went wrong, if anything did.
-library() {
-    local log
-    if ! log=$(rt staticlib "$1" 2>&1); then
-        echo "$log" >&2
-        exit 1
-    fi
-}
 if [ -z "${ZS_LIBRARY_DIR:-}" ]; then
-    library zs
+    scripts/staticlib.sh zs
 fi
-library bench_exports
+scripts/staticlib.sh bench_exports
 
 build() {
     cargo build --offline --release --quiet "$@"

@@ -8,10 +8,7 @@ trap 'rm -rf "$made"' EXIT
 
 scripts/setup.sh
 echo "Proving the library, and building it for Rust and C. The first time this takes some minutes."
-if ! rt staticlib zs 2>&1 | tee "$made/proofs" | grep '^rt: '; then
-    cat "$made/proofs"
-    exit 1
-fi
+scripts/staticlib.sh zs
 echo "Building the command zs over it."
 (cd cli && cargo build --offline --release --quiet --bin zs)
 

@@ -7,6 +7,6 @@ cd "$(dirname "$0")/.."
 PATH="$PATH:${CARGO_HOME:-$HOME/.cargo}/bin"
 
 scripts/setup.sh
-rt staticlib zs >/dev/null
+scripts/staticlib.sh zs
 (cd cli && cargo build --offline --quiet --release --bin fuzz)
 exec cli/target/release/fuzz "$@"

@@ -1,4 +1,4 @@
-//! Links the proved library that `rt staticlib zs` writes to target/staticlib, or the one in the folder that ZS_LIBRARY_DIR names.
+//! Links the proved library that `scripts/staticlib.sh zs` writes to target/staticlib, or the one in the folder that ZS_LIBRARY_DIR names.
 fn main() {
     let usual = concat!(env!("CARGO_MANIFEST_DIR"), "/../../target/staticlib");
     let folder = std::env::var("ZS_LIBRARY_DIR").unwrap_or_else(|_| usual.to_string());
