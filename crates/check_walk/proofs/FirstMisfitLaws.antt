@@ -10,7 +10,6 @@ use native.Mathlib.Omega.{arith}
 use lib.Dec.{ltb, eqb}
 use borrow.Author.Tests.{eqb-true, eqb-false, ltb-true, ltb-false}
 use Rattle.outcome.specs.Outcome.{answer, ◌>>◌, must}
-use Rattle.lists.specs.Lists.{all}
 use Rattle.outcome.proofs.OutcomeLaws.{kept, broken}
 use Rattle.lists.proofs.ListsLaws.{Ascending, below_member, flat_map_member, member_flat_map, not_all, false_all}
 use Rattle.lists.proofs.RisingLaws.{member_split, split_member, ascending_keep}

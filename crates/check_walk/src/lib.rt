@@ -1,5 +1,7 @@
 // 22 to 24: walks down the tree from the root. They read blocks without their tests and are total; where a file has passed the tests of its
 // blocks, 17, 19 and 20, they find what the rules say (`walked_rules` in proofs/).
+#![tactic(auto)]
+
 ghost use Rattle.std.specs.Prelude.{◌≡◌};
 ghost use Rattle.outcome.specs.Refusal.{refusal_of};
 ghost use Rattle.check_walk.specs.Keys.{no_keys, keys_of};

@@ -2,12 +2,8 @@
 use mathlib.Core.Path.{refl}
 use Rattle.check_walk.specs.Lookup.{no_part}
 use Rattle.check_walk.specs.Keys.{keys_entering}
-use Rattle.check_walk.proofs.keys.entering.Statement.{statement}
-use Rattle.check_walk.proofs.keys.entering.Tie as tie
+use Rattle.check_walk.proofs.keys.entering.Goals as goal
 
-returns : tie.Need-returns
+pub returns : goal.returns
 unfolding no_part keys_entering
 returns c = refl
-
-pub entering-spec : {M : Type 1} → statement M
-entering-spec = tie.close (tie.spec returns)
