@@ -1,5 +1,7 @@
 // The check: refusals 1 to 25 in the checking order. The header, the block stage and 17 here, 18 to 20 (crate `check_names`), 22 to 24
 // (crate `check_walk`) and 25 (crate `check_hash`). The work list is cleared at the end.
+#![tactic(auto)]
+
 ghost use Rattle.std.specs.Prelude.{◌≡◌, length};
 ghost use Rattle.output_list.specs.OutputList.{zeros};
 ghost use Rattle.outcome.specs.Outcome.{answer};
