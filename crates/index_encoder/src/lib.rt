@@ -1,4 +1,6 @@
 // The index over a run of blocks that stand side by side in an output: one level after the other, up to the first that has a single block.
+#![tactic(auto)]
+
 ghost use Rattle.std.specs.Prelude.{ℕ, ◌^◌, ◌≤◌, ◌≡◌, leb, length};
 ghost use Rattle.layout.specs.File.{file_fits};
 ghost use Rattle.index_encoder.specs.Raise.{raise_of, raised_of, raise_said, with_index, IndexPut, index_for, LevelsPut};
