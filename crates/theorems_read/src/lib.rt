@@ -1,1 +1,2 @@
 // What reading front to back gives. There is no code.
+#![tactic(auto)]
