@@ -1,4 +1,6 @@
 // Beginning a file in an output, and finishing it over the data blocks that stand there.
+#![tactic(auto)]
+
 ghost use Rattle.std.specs.Prelude.{ℕ, ◌≤◌, ◌≡◌, length};
 ghost use mathlib.Core.List.{List, flat_map};
 ghost use Rattle.sha256.specs.Sha256 as sha;
