@@ -2,10 +2,10 @@
 -- Assumes nothing.
 use mathlib.Core.Path.{◌≡◌, sym, ap, ◌∙◌, subst}
 use mathlib.Core.Bool.{true}
-use mathlib.Core.List.{List, [], ◌∷◌, flat_map, map}
+use mathlib.Core.List.{List, [], flat_map, map}
 use Prim.Native.Nat.{ℕ, ◌+◌, ◌^◌, ◌≤◌, ◌<◌}
 use native.Mathlib.Omega.{arith}
-use lib.ListN.{length, length-append}
+use lib.ListN.{length}
 use Rattle.byte_string.specs.Order.{AreBytes}
 use Rattle.outcome.specs.Outcome.{answer}
 use Rattle.lists.specs.Groups.{groups}
@@ -17,10 +17,9 @@ use Rattle.sha256.specs.declared.State.{State}
 use Rattle.sha256.specs.Sha256.{sha256}
 use Rattle.sha256.specs.State.{begun, absorbed, finished, none, more}
 use Rattle.sha256.proofs.StateLaws.{Holds⇒sha256}
-use Rattle.layout.specs.Blocks.{block_size, records_bytes, data_bytes}
+use Rattle.layout.specs.Blocks.{records_bytes, data_bytes}
 use Rattle.layout.specs.File.{blocks_start, file_of, file_fits}
 use Rattle.layout.proofs.FileBackLaws.{length_file}
-use Rattle.layout.proofs.ReadBackLaws.{length_block}
 use Rattle.layout.proofs.KeyLaws.{Filled}
 use Rattle.file_encoder.specs.Begun.{blocks_begin, with_header, Begun, FilePut}
 use Rattle.file_encoder.proofs.FitLaws.{fits⁻¹, end_some, end_none, file_long, put-nothing, put_room}

@@ -1,4 +1,6 @@
 // The writer: a file from metadata and records.
+#![tactic(auto)]
+
 ghost use Rattle.std.specs.Prelude.{ℕ, ◌≡◌, List, length};
 ghost use Rattle.lists.specs.Groups.{groups};
 ghost use Rattle.output_list.specs.OutputList.{zeros};
