@@ -17,7 +17,7 @@ use Rattle.payload.specs.Payload.{Text, Entry, text_at, entry_at, payload_at, re
 use Rattle.payload.proofs.ReadLaws.{payload⁻¹}
 use Rattle.block.specs.Block.{Block, block_in, block_at, block_step, blocks_at}
 use Rattle.block.specs.Laid.{laid_items, laid_records, laid_entries, laid_in, laid_at, laid_from}
-use Rattle.block.proofs.BlockLaws.{data_level, not_data_level, ordinary_level, block⇒BlockRead, BlockRead, reserved_level}
+use Rattle.block.proofs.BlockLaws.{data_level, not_data_level, ordinary_level, block⇒BlockRead, reserved_level}
 use Rattle.block.proofs.BlockLaws.{inside_data, inside_index, inside_reserved, LevelOf, is_data_lem, is_index, is_reserved, level_of_lem}
 
 -- ---- the block at an offset

@@ -14,7 +14,6 @@ use Rattle.payload.specs.Payload.{Text}
 use Rattle.sorting.specs.Sorting.{sorted}
 use Rattle.sorting.proofs.PermutationLaws.{permutation_member, permutation_back}
 use Rattle.sorting.proofs.SortedLaws.{sorted_permutation, rising-sorted}
-use Rattle.byte_string.specs.Order.{same}
 use Rattle.differences.specs.Differences.{strings, copies, once, differing}
 use Rattle.byte_string.specs.Rising.{Strict}
 use Rattle.differences.proofs.CopyLaws.{copies_member, copies-strings}

@@ -12,7 +12,6 @@ use Rattle.outcome.proofs.OutcomeLaws.{answer_injective, refused_not_answer}
 use Rattle.items.specs.Items.{Step, items_from}
 use Rattle.items.proofs.ItemsLaws.{Row, row_end, row_more, items⇒row, row⇒items}
 use Rattle.part.specs.declared.Part.{Part}
-use Rattle.part.specs.Part.{part}
 use Rattle.part.proofs.PartLaws.{part-take, lent_part}
 use Rattle.framing.specs.declared.Frame.{Frame}
 use Rattle.payload.specs.Payload.{Text, Entry, text_at, entry_at, entries_at}

@@ -1,18 +1,18 @@
 -- Laws of the shortest form: what is written is read back, and it is the only form that is read so.
 -- Assumes nothing.
-use mathlib.Core.Path.{◌≡◌, refl, sym, ap, ◌∙◌, subst}
+use mathlib.Core.Path.{◌≡◌, refl, sym, ◌∙◌, subst}
 use mathlib.Core.Bool.{Bool, true, false, ◌&&◌, cond, false≢true}
 use mathlib.Core.List.{List, [], ◌∷◌, ◌++◌}
 use Prim.Native.Nat.{ℕ, zero, suc, ◌+◌, ◌-◌, ◌*◌, ◌/◌, ◌%◌, ◌^◌, ◌≤◌, ◌<◌}
-use native.Mathlib.Nat.{pow-zero, pow-succ', pow-le-pow_right}
+use native.Mathlib.Nat.{pow-zero, pow-succ'}
 use native.Mathlib.Numerals.{add-one}
 use native.Mathlib.Omega.{arith}
-use lib.Dec.{leb, ltb, eqb}
-use lib.ListN.{length, take, drop, get_or, length-append}
+use lib.Dec.{ltb, eqb}
+use lib.ListN.{length, take, get_or, length-append}
 use lib.Seq.{take-append_seam}
 use borrow.Author.Tests.{lt-ltb, le-ltb, ltb-true, ltb-false}
 use Rattle.byte_string.specs.Order.{AreBytes}
-use Rattle.uleb128.specs.Number.{Reading, number, reading, continuing, sevens}
+use Rattle.uleb128.specs.Number.{number, reading, continuing, sevens}
 use Rattle.uleb128.specs.Encoding.{encoding_with, encoding}
 use Rattle.uleb128.proofs.NumberLaws.{continuing_low, continuing_high, reading_number, shortest_one, shortest_last, IsNumber, reading⇒IsNumber}
 

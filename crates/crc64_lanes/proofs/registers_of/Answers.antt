@@ -1,7 +1,6 @@
 use Prim.Native.Nat.{ℕ, ◌-◌, ◌*◌}
 use native.Mathlib.Omega.{arith}
 use Rattle.part.proofs.BytesLaws.{bytes_of_below}
-use Rattle.crc64_register.specs.Crc64 as crc
 use Rattle.crc64_lanes.proofs.LaneLaws.{lanes_none, lanes_more, lanes_all}
 use Rattle.crc64_lanes.proofs.registers_of.Goals as goal
 

@@ -3,13 +3,6 @@ use native.Mathlib.Omega.{arith}
 use borrow.Fn.PlainCycle.{is}
 use Rattle.search.proofs.OnwardLaws.{onward_start, onward_index, onward_end}
 use Rattle.search.proofs.StepLaws.{told_within, onward_passed, onward_unopened, child_place, child_asks, onward_stopped, onward_more}
-use Rattle.search.proofs.walk.walk.Reads as walk
-use Rattle.search.proofs.walk.walk.Kinds as walk-kinds
-use Rattle.search.proofs.walk.+walk.Lts-walk as walk-lts
-use Rattle.search.proofs.child.admits.Reads as admits-reads
-use Rattle.search.proofs.child.child_at.Reads as child-at-reads
-use Rattle.search.proofs.opening.open_block.Reads as open-block-reads
-use Rattle.search.proofs.walk.find.Reads as find-reads
 use Rattle.search.proofs.walk.+walk.Goals as goal
 
 pub find-requires : goal.find-requires

@@ -3,13 +3,6 @@
 use Prim.Native.Nat.{◌-◌}
 use Rattle.query.specs.Query.{query_of}
 use Rattle.search.proofs.OnwardLaws.{Onward}
-use Rattle.search.proofs.walk.walk.Reads as walk
-use Rattle.search.proofs.walk.walk.Kinds as walk-kinds
-use Rattle.search.proofs.walk.+walk.Lts-walk as walk-lts
-use Rattle.search.proofs.child.admits.Reads as admits-reads
-use Rattle.search.proofs.child.child_at.Reads as child-at-reads
-use Rattle.search.proofs.opening.open_block.Reads as open-block-reads
-use Rattle.search.proofs.walk.find.Reads as find-reads
 use Rattle.search.proofs.walk.+walk.Given as goal
 
 abbrev pub decreases-walk : goal.decreases-walk
