@@ -1,4 +1,6 @@
 // A writing session as a value: its numbers, what a step answers, and one session made of another.
+#![tactic(auto)]
+
 ghost use Rattle.std.specs.Prelude.{◌+◌, ◌≤◌, ◌^◌, ◌≡◌};
 ghost use Rattle.layout.specs.Blocks.{block_size};
 ghost use Rattle.session_value.specs.Held.{session_of};
