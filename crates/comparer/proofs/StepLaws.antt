@@ -196,6 +196,6 @@ module _ (before : List ℕ) (whole : List Difference) (few count : ℕ) (list :
           holds =
               is ∙ ap₂ (λ (l : List ℕ) (k : ℕ). with_numbers l k (which ∷ r.at ∷ length r.bytes ∷ m ∷ n ∷ [])) p.holds (sym long)
               ∙ sym (with_numbers-append before 0 (numbers_of p.done) (which ∷ r.at ∷ length r.bytes ∷ m ∷ n ∷ []))
-              ∙ ap (with_numbers before 0) (sym (flat_map_append _ p.done (d ∷ [])));
+              ∙ ap (with_numbers before 0) (sym (flat_map_append (λ (x : Difference). x.which ∷ x.offset ∷ length x.bytes ∷ x.first ∷ x.second ∷ []) p.done (d ∷ [])));
           bound = omega arith;
         }

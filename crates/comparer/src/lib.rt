@@ -2,6 +2,8 @@
 //
 // Both are checked. Their records then rise, so that one pass over both, in the order of byte strings, finds the copies of each record side
 // by side (`merge`).
+#![tactic(auto)]
+
 ghost use Rattle.std.specs.Prelude.{◌≡◌, length, pos, ◌-ℤ◌, ◌^◌, ◌≤◌};
 ghost use Rattle.output_list.specs.OutputList.{zeros};
 ghost use Rattle.outcome.specs.Outcome.{answer};
