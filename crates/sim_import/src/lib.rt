@@ -2,6 +2,8 @@
 //
 // A first pass finds refusals, and how many bytes the records take. The last 8 bytes of those for each record then hold the records' offsets in
 // the dump, which are sorted there; and the records are put from the front on, over offsets that have been read. A record takes at least 15 bytes.
+#![tactic(auto)]
+
 ghost use Rattle.std.specs.Prelude.{◌≡◌, length};
 ghost use Rattle.written.specs.Written.{written_answer, written_output};
 ghost use Rattle.sim_import.specs.Import.{import_of};
