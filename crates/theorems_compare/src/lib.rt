@@ -1,1 +1,2 @@
 // Theorems of comparing two files; no code.
+#![tactic(auto)]
