@@ -1,1 +1,2 @@
 // What writing gives; no code.
+#![tactic(auto)]

@@ -8,11 +8,9 @@ use Rattle.cursor.proofs.CursorLaws.{within_told}
 use Rattle.comparer.proofs.StepLaws.{passed_none, passed_end, passed_other, passed_more}
 use Rattle.comparer.proofs.merge.pass_copies.Goals as goal
 
--- src/merge.rt:92:5
 pub loop-here-init : goal.loop-here-init
 loop-here-init c = passed_none _ _
 
--- src/merge.rt:95:41
 pub returns-in-End : goal.returns-in-End
 unfolding record_said here_of
 returns-in-End c = (
@@ -22,12 +20,10 @@ returns-in-End c = (
       c.record_at-next.ensures.result_value_2 ∙ c.loop-here.invariant.left,
 )
 
--- src/merge.rt:97:21
 pub is_copy-requires : goal.is_copy-requires
 is_copy-requires c =
     within_told c.args.file.now _ _ _ _ c.in-Answer.is c.record_at-next.ensures.record_within
 
--- src/merge.rt:98:21
 pub returns-then-not-is_copy : goal.returns-then-not-is_copy
 unfolding record_said here_of textIn
 returns-then-not-is_copy c = (
@@ -37,20 +33,17 @@ returns-then-not-is_copy c = (
       o)) c.in-Answer.is) ∙ c.record_at-next.ensures.result_value_2 ∙ c.loop-here.invariant.left,
 )
 
--- src/merge.rt:100:17
 pub overflow_add-count : goal.overflow_add-count
 unfolding record_said
 overflow_add-count c =
     let long = c.loop-here.invariant.long in let some = ap length (sym (ap (record_said c.args.file.now) c.in-Answer.is) ∙ c.record_at-next.ensures.result_value)
     in let pre = c.requires in omega arith
 
--- src/merge.rt:92:5
 pub loop-here-smaller : goal.loop-here-smaller
 unfolding record_said
 loop-here-smaller c =
     let some = ap length (sym (ap (record_said c.args.file.now) c.in-Answer.is) ∙ c.record_at-next.ensures.result_value) in omega arith
 
--- src/merge.rt:92:5
 pub loop-here-preserved : goal.loop-here-preserved
 unfolding record_said textIn
 loop-here-preserved c =
