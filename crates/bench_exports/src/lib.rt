@@ -1,4 +1,6 @@
 // Parts of what the check and the search do, exported for C: bench/ holds their times against the times of these.
+#![tactic(auto)]
+
 ghost use Rattle.std.specs.Prelude.{◌≡◌};
 ghost use Rattle.outcome.specs.Outcome.{number_of};
 ghost use Rattle.crc64.specs.Crc64.{crc64};
