@@ -1,25 +1,22 @@
 -- Laws of beginning a file in a session.
 -- Assumes nothing.
-use mathlib.Core.Path.{◌≡◌, refl, sym, ap, ◌∙◌, subst}
+use mathlib.Core.Path.{◌≡◌, sym, ap, ◌∙◌, subst}
 use mathlib.Core.Bool.{true, false}
 use mathlib.Core.List.{List, []}
 use Prim.Native.Nat.{ℕ}
 use lib.ListN.{length}
 use Rattle.byte_string.specs.Order.{AreBytes}
-use Rattle.output_list.specs.OutputList.{zeros}
 use Rattle.outcome.specs.Outcome.{Outcome}
 use Rattle.outcome.proofs.OutcomeLaws.{kept, broken}
-use Rattle.crc64.specs.Crc64.{register_start, register}
 use Rattle.header.specs.Metadata.{is_metadata}
-use Rattle.layout.specs.Blocks.{records_bytes}
 use Rattle.layout.specs.File.{blocks_start, counts_fit, file_fits}
-use Rattle.file_encoder.specs.Begun.{blocks_begin, with_header, begun_file, Begun}
+use Rattle.file_encoder.specs.Begun.{blocks_begin, with_header, begun_file}
 use Rattle.file_encoder.proofs.BeginLaws.{begun_not, begun_yes, begun_none, header_long}
 use Rattle.session_value.specs.declared.Session.{Session}
 use Rattle.session_value.specs.declared.Stepped.{Stepped}
-use Rattle.session_value.specs.Stage.{Stage, afresh, begun, open_block, draft_blocks, draft_records, data_end, output_of}
+use Rattle.session_value.specs.Stage.{Stage, afresh, begun, open_block, draft_blocks, output_of}
 use Rattle.session_value.specs.Steps.{is_afresh, begin_of}
-use Rattle.session_value.specs.Held.{Held, last_offset, session_of, StepTaken}
+use Rattle.session_value.specs.Held.{Held, session_of, StepTaken}
 use Rattle.session_value.specs.Values.{begun_session}
 use Rattle.session_value.proofs.DraftLaws.{begin_keeps}
 use Rattle.session_value.proofs.SessionLaws.{is_afresh_lem, not_afresh, begun_session_lem}

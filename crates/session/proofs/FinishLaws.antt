@@ -2,8 +2,8 @@
 -- Assumes nothing.
 use mathlib.Core.Path.{◌≡◌, refl, sym, ap, ◌∙◌, subst}
 use mathlib.Core.Bool.{Bool, true, false, cond}
-use mathlib.Core.List.{List, [], ◌∷◌, ◌++◌, flat_map}
-use Prim.Native.Nat.{ℕ, zero, suc, ◌+◌, ◌^◌, ◌≤◌, ◌<◌}
+use mathlib.Core.List.{List, ◌++◌, flat_map}
+use Prim.Native.Nat.{ℕ, ◌+◌, ◌^◌, ◌≤◌, ◌<◌}
 use native.Mathlib.Omega.{arith}
 use lib.Dec.{leb}
 use lib.ListN.{length, take}
@@ -11,7 +11,7 @@ use borrow.Author.Tests.{le-leb, lt-leb}
 use Rattle.outcome.specs.Outcome.{Outcome, answer}
 use Rattle.outcome.proofs.OutcomeLaws.{kept, broken, bind_answer, bind_refused}
 use Rattle.output_list.specs.OutputList.{padded}
-use Rattle.output_list.proofs.OutputListLaws.{length-padded, take-padded}
+use Rattle.output_list.proofs.OutputListLaws.{take-padded}
 use Rattle.payload.specs.Payload.{rising}
 use Rattle.sha256.specs.declared.State.{State}
 use Rattle.sha256.specs.Sha256.{sha256}
@@ -24,7 +24,7 @@ use Rattle.layout.specs.File.{blocks_start, unfinished_header, file_of, file_fit
 use Rattle.layout.proofs.FileFitLaws.{datas_fit}
 use Rattle.layout.proofs.LaidBackLaws.{unfinished_payloads_laid}
 use Rattle.layout.proofs.PayloadBackLaws.{payloads_shorter}
-use Rattle.file_encoder.specs.Begun.{begun_file, Begun, end_if_fits, FilePut}
+use Rattle.file_encoder.specs.Begun.{Begun, end_if_fits, FilePut}
 use Rattle.file_encoder.proofs.BeginLaws.{begun_long, begun_stands}
 use Rattle.file_encoder.proofs.CountsLaws.{counts⁻¹}
 use Rattle.file_encoder.proofs.FitLaws.{fits⁻¹, file_long, end_some}
@@ -32,7 +32,7 @@ use Rattle.session_value.specs.declared.Session.{Session}
 use Rattle.session_value.specs.declared.Stepped.{Stepped}
 use Rattle.session_value.specs.Stage.{Draft, Stage, begun, finished, draft_blocks, draft_records, data_end, draft_file, output_of}
 use Rattle.session_value.specs.Steps.{draft_of, finish_of}
-use Rattle.session_value.specs.Held.{SoundDraft, Sound, Held, session_of, StepTaken}
+use Rattle.session_value.specs.Held.{Sound, Held, session_of, StepTaken}
 use Rattle.session_value.specs.Values.{is_begun, finished_session}
 use Rattle.session_value.proofs.DraftLaws.{blocks_joined, blocks_filled}
 use Rattle.session_value.proofs.SessionLaws.{finished_session_lem}

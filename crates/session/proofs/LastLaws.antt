@@ -7,7 +7,7 @@ use mathlib.Core.List.{List, [], ◌∷◌, ◌++◌, flat_map, append_assoc, ap
 use Prim.Native.Nat.{ℕ, zero, suc, ◌+◌, ◌-◌, ◌≤◌, ◌<◌}
 use native.Mathlib.Omega.{arith}
 use lib.ListN.{length, length-append}
-use borrow.Author.Tests.{le-leb, ne_eqb, eq-eqb}
+use borrow.Author.Tests.{le-leb, ne_eqb}
 use Rattle.lists.specs.Groups.{last_or}
 use Rattle.endian.specs.FixedWidth.{little_bytes}
 use Rattle.endian.proofs.FixedWidthLaws.{little_bytes-length}
@@ -16,10 +16,9 @@ use Rattle.byte_string.specs.declared.Comparison.{Comparison}
 use Rattle.byte_string.specs.Order.{at_most, comparison, says_at_most}
 use Rattle.byte_string.proofs.ComparisonLaws.{compared_at_most}
 use Rattle.byte_string.proofs.OrderLaws.{nil_at_most}
-use Rattle.part.specs.Part.{part}
 use Rattle.record.specs.Record.{is_within, record_of}
 use Rattle.record.proofs.RecordLaws.{record_within}
-use Rattle.output_list.specs.OutputList.{padded, zeros}
+use Rattle.output_list.specs.OutputList.{zeros}
 use Rattle.output_list.proofs.OutputListLaws.{padded-append}
 use Rattle.uleb128.specs.Encoding.{encoding}
 use Rattle.layout.specs.Blocks.{text_bytes, block_bytes, records_bytes, data_bytes}

@@ -1,6 +1,6 @@
 -- The open block in an output: where its level byte and payload stand, and the output with a longer one in its place.
 -- Assumes nothing.
-use mathlib.Core.Path.{◌≡◌, refl, sym, ap, ◌∙◌, subst}
+use mathlib.Core.Path.{◌≡◌, sym, ap, ◌∙◌}
 use mathlib.Core.List.{List, [], ◌∷◌, ◌++◌, flat_map, append_assoc, append-nil}
 use Prim.Native.Nat.{ℕ, zero, suc, ◌+◌, ◌-◌, ◌≤◌, ◌<◌}
 use native.Mathlib.Omega.{arith}
@@ -9,18 +9,17 @@ use lib.Seq.{take-append_seam, drop-append-add}
 use Rattle.lists.proofs.ListsLaws.{flat_map_append}
 use Rattle.part.specs.Part.{part}
 use Rattle.output_list.specs.OutputList.{padded, zeros}
-use Rattle.output_list.proofs.OutputListLaws.{zeros-replicate, length-zeros, padded-append, length-padded, take-padded}
+use Rattle.output_list.proofs.OutputListLaws.{zeros-replicate, padded-append, length-padded}
 use Rattle.output_bytes.specs.OutputBytes.{stored}
 use Rattle.output_bytes.proofs.OutputBytesLaws.{stored_some, drop-zeros}
 use Rattle.uleb128.specs.Encoding.{encoding, encoding_with}
 use Rattle.uleb128.proofs.EncodingLaws.{encoding_grows}
 use Rattle.layout.specs.Blocks.{text_bytes, block_bytes, block_size, records_bytes, data_bytes}
-use Rattle.layout.specs.File.{unfinished_header, blocks_start}
+use Rattle.layout.specs.File.{unfinished_header}
 use Rattle.layout.proofs.HeaderBackLaws.{length_unfinished}
-use Rattle.layout.proofs.LiesLaws.{Lies, lies, lies_part, lies_front}
+use Rattle.layout.proofs.LiesLaws.{lies, lies_part, lies_front}
 use Rattle.layout.proofs.ReadBackLaws.{length_block, body_lies}
 use Rattle.file_encoder.specs.Begun.{begun_file}
-use Rattle.session_value.specs.declared.Session.{Session}
 use Rattle.session_value.specs.Stage.{Draft, begun, open_block, draft_blocks}
 use Rattle.session_value.specs.Steps.{add_open}
 use Rattle.session_value.specs.Held.{session_of}

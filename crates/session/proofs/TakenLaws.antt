@@ -2,14 +2,14 @@
 -- Assumes nothing.
 use mathlib.Core.Path.{◌≡◌, refl, sym, ap, ◌∙◌, subst}
 use mathlib.Core.Bool.{true, false}
-use mathlib.Core.List.{List, ◌∷◌, []}
+use mathlib.Core.List.{List}
 use Prim.Native.Nat.{ℕ, zero, suc, ◌≤◌}
 use native.Mathlib.Omega.{arith}
 use lib.Dec.{leb, eqb}
 use lib.ListN.{length}
 use borrow.Author.Tests.{le-leb, lt-leb}
 use Rattle.lists.specs.Lists.{any}
-use Rattle.outcome.specs.Outcome.{Outcome, answer, refused, ◌>>=◌, number_of, place_of}
+use Rattle.outcome.specs.Outcome.{Outcome, answer, refused, number_of, place_of}
 use Rattle.outcome.proofs.OutcomeLaws.{kept, broken, bind_answer, bind_refused}
 use Rattle.layout.specs.File.{file_fits}
 use Rattle.file_encoder.specs.Begun.{begun_file}

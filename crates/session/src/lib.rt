@@ -1,6 +1,8 @@
 // A writing session: a file made one record at a time in a lent output. The session is a value: each step is lent the output and hands the
 // next session back. Every step takes any session and any output safely; what it does is promised for a session and an output as last handed
 // back.
+#![tactic(auto)]
+
 ghost use Rattle.std.specs.Prelude.{ℕ, [], ◌∷◌, ◌≡◌, length};
 ghost use Rattle.output_list.specs.OutputList.{zeros};
 ghost use Rattle.session_value.specs.Stage.{Draft, Stage, begun, output_of};
