@@ -1,1 +1,2 @@
 // What stores give; no code.
+#![tactic(auto)]
