@@ -1,1 +1,2 @@
 // What importing gives; no code.
+#![tactic(auto)]
