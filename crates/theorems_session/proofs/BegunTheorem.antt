@@ -109,7 +109,7 @@ module _ (s metadata : List ℕ) (l : Lies s 0 (unfinished_header metadata)) whe
 placed_hold : (at : ℕ) (blocks : List (List (List ℕ))) → map (λ b. map (λ r. r.bytes) b.records) (placed_datas at blocks) ≡ blocks
 unfolding placed_datas
 placed_hold at [] = refl
-placed_hold at (rs ∷ more) = ap₂ (λ (b : List (List ℕ)) (bs : List (List (List ℕ))). b ∷ bs) (data_block at rs).bytes_are (placed_hold _ more)
+placed_hold at (rs ∷ more) = ap₂ (λ (b : List (List ℕ)) (bs : List (List (List ℕ))). b ∷ bs) (data_block at rs).bytes_are (placed_hold (at + length (data_bytes rs)) more)
 
 -- the same bytes, end and start
 same_fill : {s t : List ℕ} {m n a b : ℕ} (bs : List Block) → s ≡ t → m ≡ n → a ≡ b → Fill (Stands s) m a bs → Fill (Stands t) n b bs

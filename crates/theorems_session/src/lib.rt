@@ -1,1 +1,2 @@
 // What a writing session gives; no code.
+#![tactic(auto)]
