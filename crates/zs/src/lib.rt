@@ -3,6 +3,8 @@
 // leaves a wrong file. include/zs.h documents the interface for callers.
 //
 // C can't receive a slice as a result, so zs_record, zs_metadata, zs_store and zs_show hand back where the part lies.
+#![tactic(auto)]
+
 ghost use Rattle.std.specs.Prelude.{true, [], ◌∷◌, ◌↔◌, ◌≡◌, length};
 ghost use Rattle.output_list.specs.OutputList.{zeros};
 ghost use Rattle.header.specs.Metadata.{Metadata, is_metadata};
