@@ -16,4 +16,5 @@ collect_records-requires c =
 
 pub returns : goal.returns
 returns c =
-    c.collect_records.ensures 0 ∙ matches_short (query_of c.args.start.now c.args.stop_given c.args.stop.now c.args.prefix.now) c.args.bytes.now (omega arith) _
+    c.collect_records.ensures 0 ∙ matches_short (query_of c.args.start.now c.args.stop_given c.args.stop.now c.args.prefix.now) c.args.bytes.now
+    (omega arith) _

@@ -15,5 +15,8 @@ returns-then-more-lt8 c =
     agreed_parted _ _ c.loop-n.n (c.loop-n.n + 8 - c.loop-n.n) _ c.agreement_of_eight-more.ensures (omega arith) c.loop-n.invariant.1
 
 pub loop-n-preserved : goal.loop-n-preserved
-loop-n-preserved c =
-    (omega arith, agreed_front _ _ c.loop-n.n (c.loop-n.n + 8 - c.loop-n.n) _ c.agreement_of_eight-more.ensures (omega arith) c.loop-n.invariant.1 _ (omega arith))
+loop-n-preserved c = (
+  omega arith,
+  agreed_front _ _ c.loop-n.n (c.loop-n.n + 8 - c.loop-n.n) _ c.agreement_of_eight-more.ensures
+      (omega arith) c.loop-n.invariant.1 _ (omega arith),
+)

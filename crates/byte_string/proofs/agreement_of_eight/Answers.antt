@@ -19,7 +19,8 @@ whole x v e l = e ∙ ap little_endian (take_all 8 x (omega arith))
 
 -- eight bytes have 64 bits
 eight : (x y : List ℕ) (v w : ℕ) → v ≡ little_endian x → w ≡ little_endian y → length x ≡ 8
-    → agreeing x y ≡ count_trailing_zeros (length x * 8) (bit_xor (little_endian x) (little_endian y)) / 8 → agreeing x y ≡ count_trailing_zeros 64 (bit_xor v w) / 8
+    → agreeing x y ≡ count_trailing_zeros (length x * 8) (bit_xor (little_endian x)
+    (little_endian y)) / 8 → agreeing x y ≡ count_trailing_zeros 64 (bit_xor v w) / 8
 eight x y v w e f l h = rw (e, f) (rw l at h)
 
 pub overflow_cast-result : goal.overflow_cast-result

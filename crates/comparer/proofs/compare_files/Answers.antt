@@ -27,7 +27,14 @@ pub returns-then-two-ne0 : goal.returns-then-two-ne0
 returns-then-two-ne0 c =
     let j = checks c.args.first.now (length c.args.work.now) _ c.check-one.ensures.value c.if-one-ne0.false in let told = compare_refused_second
     c.args.first.now c.args.second.now (length c.args.work.now) (length c.args.list.now) j.blocks j.checked _ _
-    (refused_check c.args.second.now (length c.args.work.now) _ (c.check-two.ensures.value ∙ ap (λ (n : ℕ). check_answer (check_of c.args.second.now n)) c.check-one.auto.work) c.if-two-ne0.true) in record { value = c.refusal-then-two-ne0.ensures ∙ told.0; list_after = c.clear.ensures ∙ told.1; work_after = c.check-two.ensures.work_after ∙ ap zeros c.check-one.auto.work }
+    (refused_check c.args.second.now (length c.args.work.now) _
+    (c.check-two.ensures.value ∙ ap (λ (n : ℕ). check_answer (check_of c.args.second.now n)) c.check-one.auto.work) c.if-two-ne0.true) in
+    record {
+      value = c.refusal-then-two-ne0.ensures ∙ told.0;
+      list_after = c.clear.ensures ∙ told.1;
+      work_after = c.check-two.ensures.work_after
+          ∙ ap zeros c.check-one.auto.work;
+    }
 
 -- Where the merge begins, both files have been checked, and a cursor stands in front of the records of each.
 one : (c : After-merge-arg-1) → Checks c.args.first.now (length c.args.work.now) c.check-one.result
@@ -46,13 +53,22 @@ two-follows : (c : After-merge-arg-1) → following c.args.second.now c.cursor_a
 two-follows c = follows _ _ _ (two c) _ c.blocks_of-2.ensures _ c.cursor_at-2.ensures
 
 pub merge-found-requires : goal.merge-found-requires
-merge-found-requires c = compare_few _ _ _ (length c.args.list.now) _ _ (one ((goal.at.merge-found-requires c).After-merge-arg-1)) (two ((goal.at.merge-found-requires c).After-merge-arg-1)) _ _ (one_follows ((goal.at.merge-found-requires c).After-merge-arg-1)) (two-follows ((goal.at.merge-found-requires c).After-merge-arg-1))
+merge-found-requires c = compare_few _ _ _ (length c.args.list.now) _ _ (one ((goal.at.merge-found-requires c).After-merge-arg-1))
+    (two ((goal.at.merge-found-requires c).After-merge-arg-1)) _ _ (one_follows ((goal.at.merge-found-requires c).After-merge-arg-1))
+    (two-follows ((goal.at.merge-found-requires c).After-merge-arg-1))
 
 pub returns-then-list-found : goal.returns-then-list-found
 returns-then-list-found c =
     let short = c.if-list-found.true in
-    let told = merged_short _ _ _ (length c.args.list.now) _ _ (one ((goal.at.returns-then-list-found c).After-merge-arg-1)) (two ((goal.at.returns-then-list-found c).After-merge-arg-1)) _ _ (one_follows ((goal.at.returns-then-list-found c).After-merge-arg-1)) (two-follows ((goal.at.returns-then-list-found c).After-merge-arg-1)) _ c.merge-found.ensures.value (omega arith) in
-    record { value = c.refusal-then-list-found.ensures ∙ told.0; list_after = c.clear-then-list-found.ensures ∙ ap zeros (c.merge-found.auto.list ∙ c.clear.auto.list) ∙ told.1; work_after = c.check-two.ensures.work_after ∙ ap zeros c.check-one.auto.work }
+    let told = merged_short _ _ _ (length c.args.list.now) _ _ (one ((goal.at.returns-then-list-found c).After-merge-arg-1))
+    (two ((goal.at.returns-then-list-found c).After-merge-arg-1)) _ _ (one_follows ((goal.at.returns-then-list-found c).After-merge-arg-1))
+    (two-follows ((goal.at.returns-then-list-found c).After-merge-arg-1)) _ c.merge-found.ensures.value (omega arith) in
+    record {
+      value = c.refusal-then-list-found.ensures ∙ told.0;
+      list_after = c.clear-then-list-found.ensures ∙ ap zeros
+          (c.merge-found.auto.list ∙ c.clear.auto.list) ∙ told.1;
+      work_after = c.check-two.ensures.work_after ∙ ap zeros c.check-one.auto.work;
+    }
 
 pub minus-requires : goal.minus-requires
 minus-requires c =
@@ -72,6 +88,9 @@ returns c =
     let counted₂ = (two ((goal.at.returns c).After-merge-arg-1)).counted in
     let few₂ = (two ((goal.at.returns c).After-merge-arg-1)).few in
     let told =
-    merged-listed _ _ _ (length c.args.list.now) _ _ (one ((goal.at.returns c).After-merge-arg-1)) (two ((goal.at.returns c).After-merge-arg-1)) _ _ (one_follows ((goal.at.returns c).After-merge-arg-1)) (two-follows ((goal.at.returns c).After-merge-arg-1)) _ c.merge-found.ensures.value (omega arith) _ _ c.clear.ensures
-    c.merge-found.ensures.list_after _ (difference_kept c.check-two.result.records c.check-one.result.records (omega arith) (omega arith) _ c.minus.ensures) in
+    merged-listed _ _ _ (length c.args.list.now) _ _ (one ((goal.at.returns c).After-merge-arg-1))
+    (two ((goal.at.returns c).After-merge-arg-1)) _ _ (one_follows ((goal.at.returns c).After-merge-arg-1))
+    (two-follows ((goal.at.returns c).After-merge-arg-1)) _ c.merge-found.ensures.value (omega arith) _ _ c.clear.ensures
+    c.merge-found.ensures.list_after _ (difference_kept c.check-two.result.records c.check-one.result.records (omega arith)
+    (omega arith) _ c.minus.ensures) in
     record { value = told.0; list_after = told.1; work_after = c.check-two.ensures.work_after ∙ ap zeros c.check-one.auto.work }

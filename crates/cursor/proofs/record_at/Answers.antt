@@ -20,22 +20,27 @@ slice_bounds-text_at-end c =
 pub overflow_add-result : goal.overflow_add-result
 unfolding textSaid
 overflow_add-result c =
-    let text = follow_text c.args.file.now c.loop-text.at c.loop-text.end c.loop-text.block _ _ (sym (c.text_at-found.ensures 0) ∙ ap (textSaid 0 (take
+    let text = follow_text c.args.file.now c.loop-text.at c.loop-text.end c.loop-text.block _ _
+    (sym (c.text_at-found.ensures 0) ∙ ap (textSaid 0 (take
     c.loop-text.end c.args.file.now)) c.in-Answer.is) in let before = text.0 in omega
     (arith, c.well_formed)
 
 pub returns-in-Answer : goal.returns-in-Answer
 unfolding textSaid record_said RecordWithin here_of
 returns-in-Answer c =
-    let text = follow_text c.args.file.now c.loop-text.at c.loop-text.end c.loop-text.block _ _ (sym (c.text_at-found.ensures 0) ∙ ap (textSaid 0 (take
+    let text = follow_text c.args.file.now c.loop-text.at c.loop-text.end c.loop-text.block _ _
+    (sym (c.text_at-found.ensures 0) ∙ ap (textSaid 0 (take
     c.loop-text.end c.args.file.now)) c.in-Answer.is) in let before = text.0 in
-    let same = c.loop-text.invariant.1 ∙ follow_cut c.args.file.now c.args.c.at c.args.c.end c.end_within-end.result c.args.c.block c.end_within-end.ensures.1 in record { result_value = sym text.1 ∙ same; record_within = omega arith; result_value_2 = same }
+    let same = c.loop-text.invariant.1 ∙ follow_cut c.args.file.now c.args.c.at c.args.c.end c.end_within-end.result c.args.c.block
+    c.end_within-end.ensures.1 in record { result_value = sym text.1 ∙ same; record_within = omega arith; result_value_2 = same }
 
 pub returns-in-Refused-frame : goal.returns-in-Refused-frame
 unfolding textSaid frameSaid record_said RecordWithin here_of
 returns-in-Refused-frame c =
-    let same = c.loop-text.invariant.1 ∙ follow_cut c.args.file.now c.args.c.at c.args.c.end c.end_within-end.result c.args.c.block c.end_within-end.ensures.1 in record {
-      result_value = sym (follow_none c.args.file.now c.loop-text.at c.loop-text.end c.loop-text.block _ _ (sym (c.text_at-found.ensures 0) ∙ ap (textSaid 0 (take
+    let same = c.loop-text.invariant.1 ∙ follow_cut c.args.file.now c.args.c.at c.args.c.end c.end_within-end.result c.args.c.block
+    c.end_within-end.ensures.1 in record {
+      result_value = sym (follow_none c.args.file.now c.loop-text.at c.loop-text.end c.loop-text.block _ _
+          (sym (c.text_at-found.ensures 0) ∙ ap (textSaid 0 (take
           c.loop-text.end c.args.file.now)) c.in-Refused.is) _ _ (sym c.frame_at-frame.ensures ∙ ap (frameSaid c.loop-text.block)
           c.in-Refused-frame.is)) ∙ same;
       record_within = tt;

@@ -32,5 +32,6 @@ overflow_add-end-2 c =
 pub returns : goal.returns
 returns c =
     let fits = size_within c.args.output.now c.args.at c.args.payload.now _ c.block_size-size.ensures c.if-size-eq0.false in let number =
-    block_number c.args.output.now c.args.at c.args.payload.now fits.1 c.put_number.ensures.0 in block_stored c.args.output.now c.args.at _ c.args.payload.now fits.1 fits.0 number.0 (c.le64_bytes-crc.ensures ∙ ap (little_bytes 8)
+    block_number c.args.output.now c.args.at c.args.payload.now fits.1 c.put_number.ensures.0 in
+    block_stored c.args.output.now c.args.at _ c.args.payload.now fits.1 fits.0 number.0 (c.le64_bytes-crc.ensures ∙ ap (little_bytes 8)
     c.block_crc.ensures) c.put_number.ensures.1 c.put.ensures.1 c.put-2.ensures.1 c.put-3.ensures.1

@@ -17,7 +17,8 @@ right c = sym c.crc_right.ensures ∙ c.if-not-crc_right.false
 
 pub returns-then-not-holds_metadata : goal.returns-then-not-holds_metadata
 unfolding header_said
-returns-then-not-holds_metadata c = sym (data_room _ (right ((goal.at.returns-then-not-holds_metadata c).Else-not-crc_right)) (sym c.holds_metadata.ensures ∙ c.if-not-holds_metadata.true))
+returns-then-not-holds_metadata c = sym (data_room _ (right ((goal.at.returns-then-not-holds_metadata c).Else-not-crc_right))
+    (sym c.holds_metadata.ensures ∙ c.if-not-holds_metadata.true))
 
 -- the header data hold the fields and the metadata
 room : (c : Else-not-holds_metadata) → holds_metadata c.args.file.now ≡ true

@@ -36,12 +36,14 @@ unfolding header_said
 returns-then-not-begins c = sym (fields_codec _ (sym (codec ((goal.at.returns-then-not-begins c).After-begins)) ∙ c.if-not-begins.true))
 
 -- the codec is `none`
-codec-none : (c : Else-not-begins) → c.begins.result ≡ begins codec_none (drop 72 c.args.file.now) → begins codec_none (drop 72 c.args.file.now) ≡ true
+codec-none : (c : Else-not-begins) → c.begins.result ≡ begins codec_none (drop 72 c.args.file.now) → begins codec_none
+    (drop 72 c.args.file.now) ≡ true
 codec-none c tested = sym tested ∙ c.if-not-begins.false
 
 pub returns-then-le64_at-file : goal.returns-then-le64_at-file
 unfolding header_said field_at part
-returns-then-le64_at-file c = sym (fields_total _ (codec-none ((goal.at.returns-then-le64_at-file c).Else-not-begins) (codec ((goal.at.returns-then-le64_at-file c).After-begins))) (λ same. c.if-le64_at-file.true (c.le64_at.ensures ∙ same)))
+returns-then-le64_at-file c = sym (fields_total _ (codec-none ((goal.at.returns-then-le64_at-file c).Else-not-begins)
+    (codec ((goal.at.returns-then-le64_at-file c).After-begins))) (λ same. c.if-le64_at-file.true (c.le64_at.ensures ∙ same)))
 
 pub overflow_add-end : goal.overflow_add-end
 unfolding H M field_at part
@@ -71,7 +73,9 @@ metadata c =
 pub returns-then-not-is_metadata : goal.returns-then-not-is_metadata
 unfolding header_said
 returns-then-not-is_metadata c =
-    sym (fields_metadata _ (codec-none ((goal.at.returns-then-not-is_metadata c).Else-not-begins) (codec ((goal.at.returns-then-not-is_metadata c).After-begins))) (total ((goal.at.returns-then-not-is_metadata c).Else-le64_at-file)) (sym (metadata ((goal.at.returns-then-not-is_metadata c).After-is_metadata)) ∙ c.if-not-is_metadata.true))
+    sym (fields_metadata _ (codec-none ((goal.at.returns-then-not-is_metadata c).Else-not-begins)
+    (codec ((goal.at.returns-then-not-is_metadata c).After-begins))) (total ((goal.at.returns-then-not-is_metadata c).Else-le64_at-file))
+    (sym (metadata ((goal.at.returns-then-not-is_metadata c).After-is_metadata)) ∙ c.if-not-is_metadata.true))
 
 pub overflow_add-blocks : goal.overflow_add-blocks
 unfolding H field_at part
@@ -83,5 +87,6 @@ pub returns : goal.returns
 unfolding header_said H M field_at part header_numbers
 returns c =
     rw (c.le64_at-4.ensures, c.le64_at-3.ensures, c.le64_at-2.ensures, c.le64_at-metadata.ensures) (sym
-    (fields_good _ (codec-none ((goal.at.returns c).Else-not-begins) (codec ((goal.at.returns c).After-begins))) (total ((goal.at.returns c).Else-le64_at-file)) (sym
+    (fields_good _ (codec-none ((goal.at.returns c).Else-not-begins) (codec ((goal.at.returns c).After-begins)))
+    (total ((goal.at.returns c).Else-le64_at-file)) (sym
     (metadata ((goal.at.returns c).After-is_metadata)) ∙ c.if-not-is_metadata.false)))

@@ -13,11 +13,13 @@ put_level-put-requires c =
 
 pub returns-in_default : goal.returns-in_default
 returns-in_default c =
-    raising_refused _ _ _ _ c.requires.0 c.requires.2 _ _ _ _ c.loop-end.invariant _ (subst (LevelPut _ _ _ _) c.in_default.is c.put_level-put.ensures)
+    raising_refused _ _ _ _ c.requires.0 c.requires.2 _ _ _ _ c.loop-end.invariant _
+    (subst (LevelPut _ _ _ _) c.in_default.is c.put_level-put.ensures)
 
 pub returns-then-blocks-eq0 : goal.returns-then-blocks-eq0
 returns-then-blocks-eq0 c =
-    raising_nothing _ _ _ _ c.requires.0 c.requires.2 _ _ _ _ c.loop-end.invariant _ _ _ (subst (LevelPut _ _ _ _) c.in-Answer.is c.put_level-put.ensures)
+    raising_nothing _ _ _ _ c.requires.0 c.requires.2 _ _ _ _ c.loop-end.invariant _ _ _
+    (subst (LevelPut _ _ _ _) c.in-Answer.is c.put_level-put.ensures)
     (omega arith)
 
 pub overflow_sub-result : goal.overflow_sub-result
@@ -27,7 +29,8 @@ overflow_sub-result c =
 
 pub returns-then-blocks-eq1 : goal.returns-then-blocks-eq1
 returns-then-blocks-eq1 c =
-    raising_root _ _ _ _ c.requires.0 c.requires.2 _ _ _ _ c.loop-end.invariant _ _ _ (subst (LevelPut _ _ _ _) c.in-Answer.is c.put_level-put.ensures) (omega
+    raising_root _ _ _ _ c.requires.0 c.requires.2 _ _ _ _ c.loop-end.invariant _ _ _
+    (subst (LevelPut _ _ _ _) c.in-Answer.is c.put_level-put.ensures) (omega
     arith)
 
 pub overflow_add-level : goal.overflow_add-level
@@ -40,5 +43,6 @@ loop-end-smaller c =
 
 pub loop-end-preserved : goal.loop-end-preserved
 loop-end-preserved c =
-    raising_more _ _ _ _ c.requires.0 c.requires.2 _ _ _ _ c.loop-end.invariant _ _ _ (subst (LevelPut _ _ _ _) c.in-Answer.is c.put_level-put.ensures) (omega
+    raising_more _ _ _ _ c.requires.0 c.requires.2 _ _ _ _ c.loop-end.invariant _ _ _
+    (subst (LevelPut _ _ _ _) c.in-Answer.is c.put_level-put.ensures) (omega
     arith)

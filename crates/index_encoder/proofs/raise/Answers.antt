@@ -6,10 +6,12 @@ use Rattle.index_encoder.proofs.RaiseLaws.{raise_few, raise_late, raise_put}
 use Rattle.index_encoder.proofs.raise.Goals as goal
 
 pub returns-then-per_index-lt2 : goal.returns-then-per_index-lt2
-returns-then-per_index-lt2 c = let both = (raise_few c.args.output.now _ c.args.from c.args.to (omega arith)) in record { result_value = both.0; index_put = both.1 }
+returns-then-per_index-lt2 c = let both = (raise_few c.args.output.now _ c.args.from c.args.to (omega arith)) in
+    record { result_value = both.0; index_put = both.1 }
 
 pub returns-then-room-to : goal.returns-then-room-to
-returns-then-room-to c = let both = (raise_late c.args.output.now _ c.args.from c.args.to (omega arith) _ c.file_room-room.ensures.2 (omega arith)) in record { result_value = both.0; index_put = both.1 }
+returns-then-room-to c = let both = (raise_late c.args.output.now _ c.args.from c.args.to (omega arith) _ c.file_room-room.ensures.2
+    (omega arith)) in record { result_value = both.0; index_put = both.1 }
 
 pub slice_bounds-put_levels-end-2 : goal.slice_bounds-put_levels-end-2
 slice_bounds-put_levels-end-2 c =
@@ -25,5 +27,6 @@ put_levels-requires c =
     )
 
 pub returns : goal.returns
-returns c = let both = (raise_put c.args.output.now _ c.args.from c.args.to (omega arith) _ c.file_room-room.ensures.2 c.file_room-room.ensures.0 (omega arith) _
+returns c = let both = (raise_put c.args.output.now _ c.args.from c.args.to (omega arith) _ c.file_room-room.ensures.2 c.file_room-room.ensures.0
+    (omega arith) _
     c.put_levels.auto.output _ c.put_levels.ensures) in record { result_value = both.0; index_put = both.1 }

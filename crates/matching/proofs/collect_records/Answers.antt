@@ -46,7 +46,9 @@ loop-at-smaller-then-matches c =
 pub loop-at-preserved-then-matches : goal.loop-at-preserved-then-matches
 unfolding textSaid
 loop-at-preserved-then-matches c =
-    records_kept _ _ _ _ _ _ c.loop-at.invariant c.loop-at-test.true _ _ (λ place. (sym (c.text_at-step.ensures place) ∙ ap (textSaid place c.args.s.now) c.in-Answer.is)) (sym c.matches.ensures ∙ c.if-matches.true) _ c.put_match.ensures
+    records_kept _ _ _ _ _ _ c.loop-at.invariant c.loop-at-test.true _ _
+    (λ place. (sym (c.text_at-step.ensures place) ∙ ap (textSaid place c.args.s.now) c.in-Answer.is))
+    (sym c.matches.ensures ∙ c.if-matches.true) _ c.put_match.ensures
 
 pub loop-at-smaller : goal.loop-at-smaller
 unfolding textSaid
@@ -57,7 +59,8 @@ loop-at-smaller c =
 pub loop-at-preserved : goal.loop-at-preserved
 unfolding textSaid
 loop-at-preserved c =
-    records_passed _ _ _ _ _ _ c.loop-at.invariant c.loop-at-test.true _ _ (λ place. (sym (c.text_at-step.ensures place) ∙ ap (textSaid place c.args.s.now) c.in-Answer.is)) (sym c.matches.ensures ∙ c.if-matches.false)
+    records_passed _ _ _ _ _ _ c.loop-at.invariant c.loop-at-test.true _ _
+    (λ place. (sym (c.text_at-step.ensures place) ∙ ap (textSaid place c.args.s.now) c.in-Answer.is)) (sym c.matches.ensures ∙ c.if-matches.false)
 
 pub returns : goal.returns
 returns c place = records_end _ _ _ _ _ _ c.loop-at.invariant c.loop-at-test.false place

@@ -7,7 +7,8 @@ use Rattle.matching.proofs.RecordsLaws.{RecordsCollected}
 use Rattle.matching.proofs.collect_records.Given as goal
 
 abbrev pub invariant-loop-at : goal.invariant-loop-at
-invariant-loop-at l = RecordsCollected l.s l.from (query_of l.start l.stop_given l.stop l.prefix) (record { count = l.count; list = l.initial.results }) l.at (record { count = l.found; list = l.results })
+invariant-loop-at l = RecordsCollected l.s l.from (query_of l.start l.stop_given l.stop l.prefix)
+    (record { count = l.count; list = l.initial.results }) l.at (record { count = l.found; list = l.results })
 
 abbrev pub decreases-loop-at : goal.decreases-loop-at
 decreases-loop-at l = length l.s - l.at

@@ -26,7 +26,9 @@ returns-in-Refused c place =
 pub still_rising-rising-requires : goal.still_rising-rising-requires
 unfolding entrySaid
 still_rising-rising-requires c =
-    let e = (sym (c.entry_at-step.ensures.by_index 0) ∙ ap (entrySaid 0 c.args.s.now) c.in-Answer.is) in let t = entry⇒Entered 0 c.args.s.now c.loop-at.at _ e in let forward = t.forward in let within = t.within in let inside : c.in-Answer.key.offset + c.in-Answer.key.length ≤ length c.args.s.now = within_told _ _ _ _ _ _ c.in-Answer.is
+    let e = (sym (c.entry_at-step.ensures.by_index 0) ∙ ap (entrySaid 0 c.args.s.now) c.in-Answer.is) in
+    let t = entry⇒Entered 0 c.args.s.now c.loop-at.at _ e in let forward = t.forward in let within = t.within in
+    let inside : c.in-Answer.key.offset + c.in-Answer.key.length ≤ length c.args.s.now = within_told _ _ _ _ _ _ c.in-Answer.is
     c.entry_at-step.ensures.key_within in omega arith
 
 pub overflow_add-count : goal.overflow_add-count
@@ -46,7 +48,8 @@ loop-at-preserved c =
     let e = (sym (c.entry_at-step.ensures.by_index 0) ∙ ap (entrySaid 0 c.args.s.now) c.in-Answer.is) in let t = entry⇒Entered 0 c.args.s.now
     c.loop-at.at _ e in let forward = t.forward in let within = t.within in let inside : c.in-Answer.key.offset + c.in-Answer.key.length ≤ length
     c.args.s.now = within_told _ _ _ _ _ _ c.in-Answer.is c.entry_at-step.ensures.key_within in scanned_more (λ p. entry_at p c.args.s.now) (λ
-    e. e.key) c.args.s.now c.args.from _ _ _ _ _ c.loop-at.invariant c.loop-at-test.true _ _ _ _ (λ place. sym (c.entry_at-step.ensures.by_index place) ∙ ap
+    e. e.key) c.args.s.now c.args.from _ _ _ _ _ c.loop-at.invariant c.loop-at-test.true _ _ _ _
+    (λ place. sym (c.entry_at-step.ensures.by_index place) ∙ ap
     (entrySaid place c.args.s.now) c.in-Answer.is) refl (omega arith) (omega arith) (omega arith) _ c.still_rising-rising.ensures
 
 pub returns-then-rising : goal.returns-then-rising

@@ -21,18 +21,28 @@ sized-requires c =
 pub returns-in-Refused : goal.returns-in-Refused
 unfolding textSaid entrySaid KeyWithin
 returns-in-Refused c =
-    record { by_index = λ place. sym (entry_keyless place c.args.s.now c.args.at _ place (sym (c.text_by_number-text.ensures place) ∙ ap (textSaid place c.args.s.now) c.in-Refused.is)); key_within = tt }
+    record {
+      by_index = λ place. sym (entry_keyless place c.args.s.now c.args.at _ place
+          (sym (c.text_by_number-text.ensures place) ∙ ap (textSaid place c.args.s.now) c.in-Refused.is));
+      key_within = tt;
+    }
 
 pub returns-in-Refused-first : goal.returns-in-Refused-first
 unfolding textSaid numberSaid entrySaid KeyWithin
 returns-in-Refused-first c =
-    record { by_index = λ place. sym (entry_refused place c.args.s.now c.args.at _ _ place (sym (c.text_by_number-text.ensures place) ∙ ap (textSaid place c.args.s.now) c.in-Answer.is) (sym (c.number_at-first.ensures place) ∙ ap (numberSaid place) c.in-Refused-first.is)); key_within = tt }
+    record {
+      by_index = λ place. sym (entry_refused place c.args.s.now c.args.at _ _ place
+          (sym (c.text_by_number-text.ensures place) ∙ ap (textSaid place c.args.s.now) c.in-Answer.is)
+          (sym (c.number_at-first.ensures place) ∙ ap (numberSaid place) c.in-Refused-first.is));
+      key_within = tt;
+    }
 
 pub returns-in-Answer-first : goal.returns-in-Answer-first
 unfolding textSaid numberSaid entrySaid
 returns-in-Answer-first c =
     record {
-      by_index = λ place. c.sized.ensures.by_index place ∙ sym (entry_read place c.args.s.now c.args.at _ _ (sym (c.text_by_number-text.ensures place) ∙ ap
+      by_index = λ place. c.sized.ensures.by_index place ∙ sym
+          (entry_read place c.args.s.now c.args.at _ _ (sym (c.text_by_number-text.ensures place) ∙ ap
           (textSaid place c.args.s.now) c.in-Answer.is) (sym (c.number_at-first.ensures place) ∙ ap (numberSaid place) c.in-Answer-first.is));
       key_within = c.sized.ensures.key_within;
     }

@@ -25,7 +25,8 @@ returns-in-Refused c place =
 pub still_rising-rising-requires : goal.still_rising-rising-requires
 unfolding textSaid
 still_rising-rising-requires c =
-    let e = (sym (c.text_at-step.ensures 0) ∙ ap (textSaid 0 c.args.s.now) c.in-Answer.is) in let t = text⇒Placed 0 c.args.s.now c.loop-at.at _ e in let forward = t.forward in let within = t.within in omega
+    let e = (sym (c.text_at-step.ensures 0) ∙ ap (textSaid 0 c.args.s.now) c.in-Answer.is) in
+    let t = text⇒Placed 0 c.args.s.now c.loop-at.at _ e in let forward = t.forward in let within = t.within in omega
     arith
 
 pub overflow_add-at : goal.overflow_add-at
@@ -48,7 +49,9 @@ pub loop-at-preserved : goal.loop-at-preserved
 unfolding textSaid textIn
 loop-at-preserved c =
     let e = (sym (c.text_at-step.ensures 0) ∙ ap (textSaid 0 c.args.s.now) c.in-Answer.is) in let t = text⇒Placed 0 c.args.s.now
-    c.loop-at.at _ e in let forward = t.forward in let within = t.within in scanned_more (λ p. text_at p c.args.s.now) (λ x. x) c.args.s.now c.args.from _ _ _ _ _ c.loop-at.invariant c.loop-at-test.true _ _ _ _ (λ place. sym (c.text_at-step.ensures place) ∙ ap (textSaid place
+    c.loop-at.at _ e in let forward = t.forward in let within = t.within in scanned_more (λ p. text_at p c.args.s.now)
+    (λ x. x) c.args.s.now c.args.from _ _ _ _ _ c.loop-at.invariant c.loop-at-test.true _ _ _ _
+    (λ place. sym (c.text_at-step.ensures place) ∙ ap (textSaid place
     c.args.s.now) c.in-Answer.is) refl (omega arith) (omega arith) (omega arith) _ c.still_rising-rising.ensures
 
 pub returns-then-rising : goal.returns-then-rising

@@ -11,7 +11,8 @@ pub returns-in-Refused : goal.returns-in-Refused
 unfolding numberSaid entrySaid entry_sized KeyWithin
 returns-in-Refused c =
     record {
-      by_index = λ place. sym (bind_refused (number_at 15 place c.args.s.now c.args.at) _ _ place (sym (c.number_at-number.ensures place) ∙ ap (numberSaid place)
+      by_index = λ place. sym (bind_refused (number_at 15 place c.args.s.now c.args.at) _ _ place
+          (sym (c.number_at-number.ensures place) ∙ ap (numberSaid place)
           c.in-Refused.is));
       key_within = tt;
     }
@@ -20,7 +21,8 @@ pub returns-in-Answer : goal.returns-in-Answer
 unfolding numberSaid entrySaid entry_sized KeyWithin
 returns-in-Answer c =
     record {
-      by_index = λ place. sym (bind_answer (number_at 15 place c.args.s.now c.args.at) _ _ (sym (c.number_at-number.ensures place) ∙ ap (numberSaid place)
+      by_index = λ place. sym (bind_answer (number_at 15 place c.args.s.now c.args.at) _ _
+          (sym (c.number_at-number.ensures place) ∙ ap (numberSaid place)
           c.in-Answer.is));
       key_within = c.requires;
     }

@@ -8,4 +8,5 @@ use Rattle.payload.proofs.text_at.Goals as goal
 
 pub returns-then-first-s : goal.returns-then-first-s
 unfolding textSaid
-returns-then-first-s c place = sym (text_found place _ _ _ (number_of_byte 15 place _ _ _ _ (omega arith) (omega arith) refl (omega arith)) (omega arith))
+returns-then-first-s c place = sym (text_found place _ _ _ (number_of_byte 15 place _ _ _ _ (omega arith) (omega arith) refl (omega arith))
+    (omega arith))

@@ -20,7 +20,8 @@ returns-then-not-up_to-2 c = sym (not_may_match_start _ _ _ (not_reaches_past _ 
 
 pub returns-then-not-before_stop-2 : goal.returns-then-not-before_stop-2
 unfolding query_of
-returns-then-not-before_stop-2 c = sym (not_may_match_start _ _ _ (not_reaches_stopped _ _ _ (sym c.before_stop-2.ensures ∙ c.if-not-before_stop-2.true)))
+returns-then-not-before_stop-2 c = sym (not_may_match_start _ _ _
+    (not_reaches_stopped _ _ _ (sym c.before_stop-2.ensures ∙ c.if-not-before_stop-2.true)))
 
 pub returns-then-not-up_to-3 : goal.returns-then-not-up_to-3
 unfolding query_of
@@ -28,7 +29,8 @@ returns-then-not-up_to-3 c = sym (not_may_match_prefix _ _ _ (not_reaches_past _
 
 pub returns-then-not-before_stop-3 : goal.returns-then-not-before_stop-3
 unfolding query_of
-returns-then-not-before_stop-3 c = sym (not_may_match_prefix _ _ _ (not_reaches_stopped _ _ _ (sym c.before_stop-3.ensures ∙ c.if-not-before_stop-3.true)))
+returns-then-not-before_stop-3 c = sym (not_may_match_prefix _ _ _
+    (not_reaches_stopped _ _ _ (sym c.before_stop-3.ensures ∙ c.if-not-before_stop-3.true)))
 
 pub returns-then-not-admits_prefix : goal.returns-then-not-admits_prefix
 unfolding query_of

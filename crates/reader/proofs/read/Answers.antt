@@ -19,9 +19,14 @@ read_blocks-requires c =
 
 pub returns-in-Refused : goal.returns-in-Refused
 unfolding header_said
-returns-in-Refused c = let both = (told_refusal _ _ _ _ (header_refuses c.args.file.now (query_of c.args.start.now c.args.stop_given c.args.stop.now c.args.prefix.now) (length c.args.results.now) _ _ (sym c.read-made.ensures ∙ ap header_said c.in-Refused.is)) _ _ c.refusal.ensures
+returns-in-Refused c = let both = (told_refusal _ _ _ _ (header_refuses c.args.file.now
+    (query_of c.args.start.now c.args.stop_given c.args.stop.now c.args.prefix.now) (length c.args.results.now) _ _
+    (sym c.read-made.ensures ∙ ap header_said c.in-Refused.is)) _ _ c.refusal.ensures
     c.clear.ensures) in record { value = both.0; results_after = both.1 }
 
 pub returns-in-Answer : goal.returns-in-Answer
 unfolding header_said
-returns-in-Answer c = let both = (read_after c.args.results.now _ c.clear.ensures c.args.file.now (query_of c.args.start.now c.args.stop_given c.args.stop.now c.args.prefix.now) _ (sym c.read-made.ensures ∙ ap header_said c.in-Answer.is) _ _ (c.read_blocks.ensures.value, c.read_blocks.ensures.results_after)) in record { value = both.0; results_after = both.1 }
+returns-in-Answer c = let both = (read_after c.args.results.now _ c.clear.ensures c.args.file.now
+    (query_of c.args.start.now c.args.stop_given c.args.stop.now c.args.prefix.now) _
+    (sym c.read-made.ensures ∙ ap header_said c.in-Answer.is) _ _ (c.read_blocks.ensures.value, c.read_blocks.ensures.results_after)) in
+    record { value = both.0; results_after = both.1 }

@@ -15,4 +15,8 @@ slice_bounds-result-end c =
 
 pub returns : goal.returns
 returns c =
-    record { result_value = part_lent c.args.file.now c.args.offset c.args.length _ c.part_of-found.ensures; ref_ptr_value = part_place c.args.file.now c.args.offset c.args.length _ c.part_of-found.ensures c.args.file.ref_ptr }
+    record {
+      result_value = part_lent c.args.file.now c.args.offset c.args.length _ c.part_of-found.ensures;
+      ref_ptr_value = part_place
+          c.args.file.now c.args.offset c.args.length _ c.part_of-found.ensures c.args.file.ref_ptr;
+    }

@@ -20,9 +20,11 @@ search_tree-requires c =
 pub returns-in-Refused : goal.returns-in-Refused
 unfolding header_said
 returns-in-Refused c =
-    header_refuses c.args.file.now (query_of c.args.start.now c.args.stop_given c.args.stop.now c.args.prefix.now) (length c.args.opened.now) (length c.args.results.now) _ _ _ (sym c.read-made.ensures ∙ ap header_said c.in-Refused.is)
+    header_refuses c.args.file.now (query_of c.args.start.now c.args.stop_given c.args.stop.now c.args.prefix.now) (length c.args.opened.now)
+    (length c.args.results.now) _ _ _ (sym c.read-made.ensures ∙ ap header_said c.in-Refused.is)
 
 pub returns-in-Answer : goal.returns-in-Answer
 unfolding header_said
 returns-in-Answer c =
-    header_accepts c.args.file.now (query_of c.args.start.now c.args.stop_given c.args.stop.now c.args.prefix.now) (length c.args.opened.now) (length c.args.results.now) _ _ (sym c.read-made.ensures ∙ ap header_said c.in-Answer.is) _ c.search_tree.ensures
+    header_accepts c.args.file.now (query_of c.args.start.now c.args.stop_given c.args.stop.now c.args.prefix.now) (length c.args.opened.now)
+    (length c.args.results.now) _ _ (sym c.read-made.ensures ∙ ap header_said c.in-Answer.is) _ c.search_tree.ensures

@@ -11,13 +11,18 @@ use Rattle.session.proofs.add.Goals as goal
 pub returns-then-not-is_begun : goal.returns-then-not-is_begun
 unfolding any
 returns-then-not-is_begun c =
-    record { step_taken = λ stage held. add_early stage c.args.session c.args.output.now held c.args.«record».now (sym c.is_begun.ensures ∙ c.if-not-is_begun.true) c.answered.ensures; one_of = one_of (0 ∷ 28 ∷ 29 ∷ 31 ∷ []) 28 refl c.answered.ensures }
+    record {
+      step_taken = λ stage held. add_early stage c.args.session c.args.output.now held c.args.«record».now
+          (sym c.is_begun.ensures ∙ c.if-not-is_begun.true) c.answered.ensures;
+      one_of = one_of (0 ∷ 28 ∷ 29 ∷ 31 ∷ []) 28 refl c.answered.ensures;
+    }
 
 pub returns-then-not-is_next : goal.returns-then-not-is_next
 unfolding any
 returns-then-not-is_next c =
     record {
-      step_taken = λ stage held. add_falling stage c.args.session c.args.output.now held c.args.«record».now (sym c.is_begun.ensures ∙ c.if-not-is_begun.false) _ c.is_next.ensures c.if-not-is_next.true c.answered-then-not-is_next.ensures;
+      step_taken = λ stage held. add_falling stage c.args.session c.args.output.now held c.args.«record».now
+          (sym c.is_begun.ensures ∙ c.if-not-is_begun.false) _ c.is_next.ensures c.if-not-is_next.true c.answered-then-not-is_next.ensures;
       one_of = one_of (0 ∷ 28 ∷ 29 ∷ 31 ∷ []) 29 refl
           c.answered-then-not-is_next.ensures;
     }
@@ -26,7 +31,9 @@ pub returns-then-size-eq0 : goal.returns-then-size-eq0
 unfolding any
 returns-then-size-eq0 c =
     record {
-      step_taken = λ stage held. add_full stage c.args.session c.args.output.now held c.args.«record».now (sym c.is_begun.ensures ∙ c.if-not-is_begun.false) _ c.is_next.ensures c.if-not-is_next.false c.unfull-s.ensures c.framed_size-size.ensures c.if-size-eq0.true
+      step_taken = λ stage held. add_full stage c.args.session c.args.output.now held c.args.«record».now
+          (sym c.is_begun.ensures ∙ c.if-not-is_begun.false) _ c.is_next.ensures c.if-not-is_next.false c.unfull-s.ensures c.framed_size-size.ensures
+          c.if-size-eq0.true
           c.answered-then-size-eq0.ensures;
       one_of = one_of (0 ∷ 28 ∷ 29 ∷ 31 ∷ []) 31 refl c.answered-then-size-eq0.ensures;
     }
@@ -44,7 +51,10 @@ pub returns : goal.returns
 unfolding any
 returns c =
     record {
-      step_taken = λ stage held. add_done stage c.args.session c.args.output.now held c.args.«record».now (sym c.is_begun.ensures ∙ c.if-not-is_begun.false) _ c.is_next.ensures c.if-not-is_next.false c.unfull-s.ensures c.framed_size-size.ensures c.if-size-eq0.false (bytes_of_below c.args.«record».now (λ k l. omega (arith, c.type_inv.record k))) c.put_record-crc.ensures.value c.put_record-crc.ensures.by_index
+      step_taken = λ stage held. add_done stage c.args.session c.args.output.now held c.args.«record».now
+          (sym c.is_begun.ensures ∙ c.if-not-is_begun.false) _ c.is_next.ensures c.if-not-is_next.false c.unfull-s.ensures c.framed_size-size.ensures
+          c.if-size-eq0.false (bytes_of_below c.args.«record».now
+          (λ k l. omega (arith, c.type_inv.record k))) c.put_record-crc.ensures.value c.put_record-crc.ensures.by_index
           c.added.ensures c.answered-2.ensures;
       one_of = one_of (0 ∷ 28 ∷ 29 ∷ 31 ∷ []) 0 refl c.answered-2.ensures;
     }

@@ -11,7 +11,8 @@ use Rattle.session.proofs.begin.Goals as goal
 pub returns-then-session-ne-AFRESH : goal.returns-then-session-ne-AFRESH
 unfolding any
 returns-then-session-ne-AFRESH c = record {
-  step_taken = λ stage held. begin_late stage c.args.session c.args.output.now held c.args.metadata.now _ _ (λ e. omega (arith, c.if-session-ne-AFRESH.true))
+  step_taken = λ stage held. begin_late stage c.args.session c.args.output.now held c.args.metadata.now _ _
+      (λ e. omega (arith, c.if-session-ne-AFRESH.true))
       c.answered.ensures;
   one_of = one_of (0 ∷ 28 ∷ 30 ∷ 9 ∷ 31 ∷ []) 28 refl c.answered.ensures;
 }
@@ -20,7 +21,8 @@ pub returns-then-not-counts_fit : goal.returns-then-not-counts_fit
 unfolding any
 returns-then-not-counts_fit c =
     record {
-      step_taken = λ stage held. begin_counts stage c.args.session c.args.output.now held c.args.metadata.now _ _ (omega (arith, c.if-session-ne-AFRESH.false)) (sym
+      step_taken = λ stage held. begin_counts stage c.args.session c.args.output.now held c.args.metadata.now _ _
+          (omega (arith, c.if-session-ne-AFRESH.false)) (sym
           c.counts_fit.ensures ∙ c.if-not-counts_fit.true) c.answered-then-not-counts_fit.ensures;
       one_of = one_of (0 ∷ 28 ∷ 30 ∷ 9 ∷ 31 ∷ []) 30 refl
           c.answered-then-not-counts_fit.ensures;
@@ -30,7 +32,8 @@ pub returns-then-not-is_metadata : goal.returns-then-not-is_metadata
 unfolding any
 returns-then-not-is_metadata c =
     record {
-      step_taken = λ stage held. begin_metadata stage c.args.session c.args.output.now held c.args.metadata.now _ _ (omega (arith, c.if-session-ne-AFRESH.false)) (sym
+      step_taken = λ stage held. begin_metadata stage c.args.session c.args.output.now held c.args.metadata.now _ _
+          (omega (arith, c.if-session-ne-AFRESH.false)) (sym
           c.counts_fit.ensures ∙ c.if-not-counts_fit.false) (sym c.is_metadata.ensures ∙ c.if-not-is_metadata.true)
           c.answered-then-not-is_metadata.ensures;
       one_of = one_of (0 ∷ 28 ∷ 30 ∷ 9 ∷ 31 ∷ []) 9 refl c.answered-then-not-is_metadata.ensures;
@@ -40,7 +43,8 @@ pub returns-then-blocks-eq0 : goal.returns-then-blocks-eq0
 unfolding any
 returns-then-blocks-eq0 c =
     record {
-      step_taken = λ stage held. begin_full stage c.args.session c.args.output.now held c.args.metadata.now _ _ (omega (arith, c.if-session-ne-AFRESH.false)) (sym
+      step_taken = λ stage held. begin_full stage c.args.session c.args.output.now held c.args.metadata.now _ _
+          (omega (arith, c.if-session-ne-AFRESH.false)) (sym
           c.counts_fit.ensures ∙ c.if-not-counts_fit.false) (sym c.is_metadata.ensures ∙ c.if-not-is_metadata.false) c.begin_file-blocks.ensures.value
           c.begin_file-blocks.ensures.output_after c.if-blocks-eq0.true c.answered-then-blocks-eq0.ensures;
       one_of = one_of (0 ∷ 28 ∷ 30 ∷ 9 ∷ 31 ∷ []) 31 refl
@@ -51,9 +55,11 @@ pub returns : goal.returns
 unfolding any
 returns c =
     record {
-      step_taken = λ stage held. begin_done stage c.args.session c.args.output.now held c.args.metadata.now _ _ (omega (arith, c.if-session-ne-AFRESH.false)) (sym
+      step_taken = λ stage held. begin_done stage c.args.session c.args.output.now held c.args.metadata.now _ _
+          (omega (arith, c.if-session-ne-AFRESH.false)) (sym
           c.counts_fit.ensures ∙ c.if-not-counts_fit.false) (sym c.is_metadata.ensures ∙ c.if-not-is_metadata.false) c.begin_file-blocks.ensures.value
-          c.begin_file-blocks.ensures.output_after c.if-blocks-eq0.false (bytes_of_below c.args.metadata.now (λ k l. omega (arith, c.type_inv.metadata k)))
+          c.begin_file-blocks.ensures.output_after c.if-blocks-eq0.false
+          (bytes_of_below c.args.metadata.now (λ k l. omega (arith, c.type_inv.metadata k)))
           c.begun_at.ensures c.answered-2.ensures;
       one_of = one_of (0 ∷ 28 ∷ 30 ∷ 9 ∷ 31 ∷ []) 0 refl c.answered-2.ensures;
     }

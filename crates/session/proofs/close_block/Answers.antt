@@ -9,7 +9,11 @@ use Rattle.session.proofs.close_block.Goals as goal
 pub returns-then-not-is_begun : goal.returns-then-not-is_begun
 unfolding any
 returns-then-not-is_begun c =
-    record { step_taken = λ stage held. close_early stage c.args.session c.args.output.now held (sym c.is_begun.ensures ∙ c.if-not-is_begun.true) c.answered.ensures; one_of = one_of (0 ∷ 28 ∷ []) 28 refl c.answered.ensures }
+    record {
+      step_taken = λ stage held. close_early stage c.args.session c.args.output.now held
+          (sym c.is_begun.ensures ∙ c.if-not-is_begun.true) c.answered.ensures;
+      one_of = one_of (0 ∷ 28 ∷ []) 28 refl c.answered.ensures;
+    }
 
 pub returns-then-session-eq0 : goal.returns-then-session-eq0
 unfolding any

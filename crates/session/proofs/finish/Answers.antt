@@ -13,7 +13,11 @@ use Rattle.session.proofs.finish.Goals as goal
 pub returns-then-not-is_begun : goal.returns-then-not-is_begun
 unfolding any
 returns-then-not-is_begun c =
-    record { step_taken = λ stage held. finish_early stage c.args.session c.args.output.now held (sym c.is_begun.ensures ∙ c.if-not-is_begun.true) c.answered.ensures; one_of = one_of (0 ∷ 28 ∷ 31 ∷ []) 28 refl c.answered.ensures }
+    record {
+      step_taken = λ stage held. finish_early stage c.args.session c.args.output.now held
+          (sym c.is_begun.ensures ∙ c.if-not-is_begun.true) c.answered.ensures;
+      one_of = one_of (0 ∷ 28 ∷ 31 ∷ []) 28 refl c.answered.ensures;
+    }
 
 pub returns-then-session-eq0 : goal.returns-then-session-eq0
 unfolding any
@@ -38,7 +42,8 @@ unfolding any
 returns-then-total-eq0 c =
     record {
       step_taken = λ stage held. finish_full stage c.args.session c.args.output.now held (sym c.is_begun.ensures ∙ c.if-not-is_begun.false)
-          c.hashed.ensures c.finish-hash.ensures (λ e. omega (arith, c.if-session-eq0.false)) c.finish_file-total.ensures c.if-total-eq0.true c.answered-then-total-eq0.ensures;
+          c.hashed.ensures c.finish-hash.ensures (λ e. omega (arith, c.if-session-eq0.false)) c.finish_file-total.ensures c.if-total-eq0.true
+          c.answered-then-total-eq0.ensures;
       one_of = one_of (0 ∷ 28 ∷
           31 ∷ []) 31 refl c.answered-then-total-eq0.ensures;
     }
@@ -48,7 +53,8 @@ unfolding any
 returns c =
     record {
       step_taken = λ stage held. finish_done stage c.args.session c.args.output.now held (sym c.is_begun.ensures ∙ c.if-not-is_begun.false)
-          c.hashed.ensures c.finish-hash.ensures (λ e. omega (arith, c.if-session-eq0.false)) c.finish_file-total.ensures c.if-total-eq0.false c.finish_file-total.auto.output c.finished.ensures
+          c.hashed.ensures c.finish-hash.ensures (λ e. omega (arith, c.if-session-eq0.false)) c.finish_file-total.ensures c.if-total-eq0.false
+          c.finish_file-total.auto.output c.finished.ensures
           c.answered-2.ensures;
       one_of = one_of (0 ∷ 28 ∷ 31 ∷ []) 0 refl c.answered-2.ensures;
     }

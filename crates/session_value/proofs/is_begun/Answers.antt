@@ -17,8 +17,10 @@ returns-then-session c =
 
 pub returns-then-session-2 : goal.returns-then-session-2
 returns-then-session-2 c =
-    not_records c.args.session c.args.room _ (λ e. c.file_room.ensures.2 e) (omega (arith, c.if-session-ne-BEGUN.false)) (omega arith) (omega arith) (omega arith)
+    not_records c.args.session c.args.room _ (λ e. c.file_room.ensures.2 e) (omega (arith, c.if-session-ne-BEGUN.false)) (omega arith)
+    (omega arith) (omega arith)
 
 pub returns : goal.returns
 returns c =
-    begun_asked c.args.session c.args.room _ (λ e. c.file_room.ensures.2 e) (omega (arith, c.if-session-ne-BEGUN.false)) (omega arith) (omega arith) (omega arith)
+    begun_asked c.args.session c.args.room _ (λ e. c.file_room.ensures.2 e) (omega (arith, c.if-session-ne-BEGUN.false)) (omega arith)
+    (omega arith) (omega arith)

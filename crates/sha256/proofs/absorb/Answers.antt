@@ -27,6 +27,8 @@ returns c =
     let rest = take (length c.args.piece.now - first) (drop first c.args.piece.now) in
     let whole = length rest / 64 * 64 in
     let tail = take (length rest - whole) (drop whole rest) in
-    absorbed_long c.args.state c.args.piece.now c.filled-block.result rest tail c.filled-2.result c.over.result c.over-2.result c.wrapping_add_u64-count.result (full ((goal.at.returns c).Start))
-    (omega (arith, c.if-piece-fill.false)) c.filled-block.ensures (lent_drop c.args.piece.now first) (lent_drop rest whole) c.over.ensures c.over-2.ensures
+    absorbed_long c.args.state c.args.piece.now c.filled-block.result rest tail c.filled-2.result c.over.result c.over-2.result
+    c.wrapping_add_u64-count.result (full ((goal.at.returns c).Start))
+    (omega (arith, c.if-piece-fill.false)) c.filled-block.ensures (lent_drop c.args.piece.now first)
+    (lent_drop rest whole) c.over.ensures c.over-2.ensures
     c.filled-2.ensures c.wrapping_add_u64-count.ensures.value

@@ -13,8 +13,10 @@ loop-i-preserved c =
     let room : length c.args.kept ≡ 64 = search rules in (
       omega arith,
       elim c.if-i-piece.branch [
-        | then-i-piece w ↦ w.out-is ∙ zeroed_byte c.args.kept c.args.fill c.args.piece.now room c.requires c.loop-i.i c.loop-i.out c.loop-i-test.true c.loop-i.invariant.1 w.if-i-piece.true
-        | else-i-piece w ↦ w.out-is ∙ zeroed_zero c.args.kept c.args.fill c.args.piece.now room c.requires c.loop-i.i c.loop-i.out c.loop-i-test.true c.loop-i.invariant.1 w.if-i-piece.false
+        | then-i-piece w ↦ w.out-is ∙ zeroed_byte c.args.kept c.args.fill c.args.piece.now room c.requires c.loop-i.i c.loop-i.out
+            c.loop-i-test.true c.loop-i.invariant.1 w.if-i-piece.true
+        | else-i-piece w ↦ w.out-is ∙ zeroed_zero c.args.kept c.args.fill c.args.piece.now room c.requires c.loop-i.i c.loop-i.out
+            c.loop-i-test.true c.loop-i.invariant.1 w.if-i-piece.false
       ],
     )
 

@@ -9,7 +9,8 @@ loop-i-init c = (omega arith, paste-zero (0x80 ∷ replicate 71 0) (1 + c.args.z
 pub loop-i-preserved : goal.loop-i-preserved
 loop-i-preserved c =
     let eight : length c.args.bits ≡ 8 = search rules in
-    let more = paste_more (0x80 ∷ replicate 71 0) (1 + c.args.zeros) c.args.bits c.loop-i.i (get_or c.args.bits c.loop-i.i 0) c.loop-i.bytes c.loop-i.invariant.1 in
+    let more = paste_more (0x80 ∷ replicate 71 0) (1 + c.args.zeros) c.args.bits c.loop-i.i
+    (get_or c.args.bits c.loop-i.i 0) c.loop-i.bytes c.loop-i.invariant.1 in
     (omega arith, more (omega arith) (omega arith) refl)
 
 pub returns : goal.returns

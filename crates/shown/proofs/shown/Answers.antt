@@ -11,7 +11,8 @@ use Rattle.shown.proofs.shown.Goals as goal
 
 pub overflow_add-end : goal.overflow_add-end
 overflow_add-end c =
-    let below = shown_below c.args.first.now c.args.second.now c.args.which c.args.offset c.args.length _ c.part_shown-found.ensures (2 ^ 64) (omega (arith, c.well_formed)) (omega (arith, c.well_formed)) in
+    let below = shown_below c.args.first.now c.args.second.now c.args.which c.args.offset c.args.length _ c.part_shown-found.ensures (2 ^ 64)
+    (omega (arith, c.well_formed)) (omega (arith, c.well_formed)) in
     omega arith
 
 pub slice_bounds-result-end : goal.slice_bounds-result-end
@@ -22,10 +23,12 @@ slice_bounds-result-end c =
 pub returns-then-found-eq2 : goal.returns-then-found-eq2
 returns-then-found-eq2 c =
     record {
-      result_value = shown_lent c.args.first.now c.args.second.now c.args.which c.args.offset c.args.length _ c.part_shown-found.ensures _ (second_file
+      result_value = shown_lent c.args.first.now c.args.second.now c.args.which c.args.offset c.args.length _ c.part_shown-found.ensures _
+          (second_file
           c.args.first.now c.args.second.now _ c.if-found-eq2.true);
       ref_ptr_value = shown_place c.args.first.now c.args.second.now c.args.which
-          c.args.offset c.args.length _ c.part_shown-found.ensures c.args.first.ref_ptr c.args.second.ref_ptr _ (sym (ap (λ (b : Bool). cond b c.args.second.ref_ptr c.args.first.ref_ptr) (eq-eqb _ 2 c.if-found-eq2.true)));
+          c.args.offset c.args.length _ c.part_shown-found.ensures c.args.first.ref_ptr c.args.second.ref_ptr _
+          (sym (ap (λ (b : Bool). cond b c.args.second.ref_ptr c.args.first.ref_ptr) (eq-eqb _ 2 c.if-found-eq2.true)));
     }
 
 pub slice_bounds-result-end-2 : goal.slice_bounds-result-end-2
@@ -39,5 +42,6 @@ returns c =
       result_value = shown_lent c.args.first.now c.args.second.now c.args.which c.args.offset c.args.length _ c.part_shown-found.ensures _ (first_file
           c.args.first.now c.args.second.now _ c.if-found-eq2.false);
       ref_ptr_value = shown_place c.args.first.now c.args.second.now c.args.which
-          c.args.offset c.args.length _ c.part_shown-found.ensures c.args.first.ref_ptr c.args.second.ref_ptr _ (sym (ap (λ (b : Bool). cond b c.args.second.ref_ptr c.args.first.ref_ptr) (ne_eqb _ 2 c.if-found-eq2.false)));
+          c.args.offset c.args.length _ c.part_shown-found.ensures c.args.first.ref_ptr c.args.second.ref_ptr _
+          (sym (ap (λ (b : Bool). cond b c.args.second.ref_ptr c.args.first.ref_ptr) (ne_eqb _ 2 c.if-found-eq2.false)));
     }

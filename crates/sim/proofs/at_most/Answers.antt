@@ -7,5 +7,6 @@ use Rattle.sim.proofs.at_most.Goals as goal
 pub returns : goal.returns
 returns c =
     c.joined_at_most.ensures ∙ ap₂ at_most (record_parts c.args.x _ _ _ c.name.ensures
-    c.rest.ensures ∙ record_at_lem c.args.x c.args.dump.now _ c.args.a c.adn_at-s.ensures) (record_parts c.args.x _ _ _ c.name-2.ensures c.rest-2.ensures ∙
+    c.rest.ensures ∙ record_at_lem c.args.x c.args.dump.now _ c.args.a c.adn_at-s.ensures)
+    (record_parts c.args.x _ _ _ c.name-2.ensures c.rest-2.ensures ∙
     record_at_lem c.args.x c.args.dump.now _ c.args.b c.adn_at-t.ensures)

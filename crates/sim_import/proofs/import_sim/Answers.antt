@@ -23,7 +23,11 @@ survey_dump-found-requires c = search rules
 pub returns-then-found-ne0 : goal.returns-then-found-ne0
 returns-then-found-ne0 c =
     let told = said_refused c.args.dump.now _ (length c.args.output.now) c.if-name_length-gt-MAX_NAME.false c.if-dump-x-ne0.false _
-    c.survey_dump-found.ensures c.if-found-ne0.true in record { value = c.refusal-then-found-ne0.ensures ∙ told.0; output_after = c.clear.ensures ∙ told.1 }
+    c.survey_dump-found.ensures c.if-found-ne0.true in record {
+      value = c.refusal-then-found-ne0.ensures ∙ told.0;
+      output_after = c.clear.ensures
+          ∙ told.1;
+    }
 
 pub returns-then-output-length : goal.returns-then-output-length
 returns-then-output-length c =
@@ -41,5 +45,6 @@ put_sorted-requires c =
 
 pub returns : goal.returns
 returns c =
-    let told = said_done c.args.dump.now _ (length c.args.output.now) c.if-name_length-gt-MAX_NAME.false c.if-dump-x-ne0.false _ c.survey_dump-found.ensures c.if-found-ne0.false _ _
+    let told = said_done c.args.dump.now _ (length c.args.output.now) c.if-name_length-gt-MAX_NAME.false c.if-dump-x-ne0.false _
+    c.survey_dump-found.ensures c.if-found-ne0.false _ _
     c.clear.ensures c.if-output-length.false c.put_sorted.ensures in record { value = told.0; output_after = told.1 }

@@ -29,7 +29,12 @@ within c held = omega (arith, extent c, (has_stores⁻¹ _ held).1)
 
 pub overflow_add-blocks : goal.overflow_add-blocks
 overflow_add-blocks c =
-    omega (arith, within ((goal.at.overflow_add-blocks c).After-le64_at) (stored ((goal.at.overflow_add-blocks c).Else-not-has_stores)), c.well_formed)
+    omega (
+      arith,
+      within ((goal.at.overflow_add-blocks c).After-le64_at)
+          (stored ((goal.at.overflow_add-blocks c).Else-not-has_stores)),
+      c.well_formed,
+    )
 
 pub overflow_sub-result : goal.overflow_sub-result
 overflow_sub-result c = within ((goal.at.overflow_sub-result c).After-le64_at) (stored ((goal.at.overflow_sub-result c).Else-not-has_stores))
@@ -38,13 +43,16 @@ pub returns-in-0 : goal.returns-in-0
 returns-in-0 c = sym (first_store _ (stored ((goal.at.returns-in-0 c).Else-not-has_stores)) _ c.in-0.is)
 
 pub returns-in-1 : goal.returns-in-1
-returns-in-1 c = sym (blocks_store _ (stored ((goal.at.returns-in-1 c).Else-not-has_stores)) _ _ c.in-1.is (omega (arith, extent ((goal.at.returns-in-1 c).After-le64_at))))
+returns-in-1 c = sym (blocks_store _ (stored ((goal.at.returns-in-1 c).Else-not-has_stores)) _ _ c.in-1.is
+    (omega (arith, extent ((goal.at.returns-in-1 c).After-le64_at))))
 
 pub returns-in-2 : goal.returns-in-2
-returns-in-2 c = sym (header_store _ (stored ((goal.at.returns-in-2 c).Else-not-has_stores)) _ _ c.in-2.is (omega (arith, extent ((goal.at.returns-in-2 c).After-le64_at))))
+returns-in-2 c = sym (header_store _ (stored ((goal.at.returns-in-2 c).Else-not-has_stores)) _ _ c.in-2.is
+    (omega (arith, extent ((goal.at.returns-in-2 c).After-le64_at))))
 
 pub returns-in-3 : goal.returns-in-3
 returns-in-3 c = sym (last_store _ (stored ((goal.at.returns-in-3 c).Else-not-has_stores)) _ c.in-3.is)
 
 pub returns-in_default : goal.returns-in_default
-returns-in_default c = sym (no_more_stores _ (stored ((goal.at.returns-in_default c).Else-not-has_stores)) _ (omega (arith, c.in_default.in_default-own.rest)))
+returns-in_default c = sym (no_more_stores _ (stored ((goal.at.returns-in_default c).Else-not-has_stores)) _
+    (omega (arith, c.in_default.in_default-own.rest)))

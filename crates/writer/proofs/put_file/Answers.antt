@@ -24,6 +24,9 @@ returns-then-to-eq0 c =
 
 pub returns : goal.returns
 returns c =
-    λ rs read. let bytes = bytes_of_below c.args.records.now (λ k l. omega (arith, c.type_inv.records k)) in file_done c.args.metadata.now c.args.records.now _ _ c.args.output.now rs read _ c.begin_file-from.ensures.value c.requires.0 c.if-from-eq0.false _
-    c.begin_file-from.ensures.output_after c.begin_file-from.auto.output _ _ c.put_data-to.ensures c.if-to-eq0.false bytes c.put_data-to.auto.output (c.absorb.ensures ∙ ap (λ s.
+    λ rs read. let bytes = bytes_of_below c.args.records.now (λ k l. omega (arith, c.type_inv.records k)) in
+    file_done c.args.metadata.now c.args.records.now _ _ c.args.output.now rs read _ c.begin_file-from.ensures.value c.requires.0
+    c.if-from-eq0.false _
+    c.begin_file-from.ensures.output_after c.begin_file-from.auto.output _ _ c.put_data-to.ensures c.if-to-eq0.false bytes
+    c.put_data-to.auto.output (c.absorb.ensures ∙ ap (λ s.
     absorbed s c.args.records.now) c.begin.ensures) c.finish-hash.ensures c.finish_file.ensures

@@ -20,12 +20,15 @@ put_file-length-requires c = (
 pub returns-then-length-eq0 : goal.returns-then-length-eq0
 returns-then-length-eq0 c =
     let n = number_0 c.args.metadata.now c.args.records.now _ _ (length c.args.output.now) _ c.input_refusal-number.ensures c.if-number-ne0.false
-    in let put = put_room c.clear.auto.output (c.put_file-length.ensures n.0 n.1) in let told = write_full c.args.metadata.now c.args.records.now _ _ (length c.args.output.now) n.0 n.1 _ _ put c.if-length-eq0.true in record {
+    in let put = put_room c.clear.auto.output (c.put_file-length.ensures n.0 n.1) in
+    let told = write_full c.args.metadata.now c.args.records.now _ _ (length c.args.output.now) n.0 n.1 _ _ put c.if-length-eq0.true in record {
       value = c.refusal-then-length-eq0.ensures ∙
           told.0;
       output_after = c.clear-then-length-eq0.ensures ∙ ap zeros (c.put_file-length.auto.output ∙ c.clear.auto.output) ∙ told.1;
     }
 
 pub returns : goal.returns
-returns c = let both = (let n = number_0 c.args.metadata.now c.args.records.now _ _ (length c.args.output.now) _ c.input_refusal-number.ensures c.if-number-ne0.false
-    in let put = put_room c.clear.auto.output (c.put_file-length.ensures n.0 n.1) in write_done c.args.metadata.now c.args.records.now _ _ (length c.args.output.now) n.0 n.1 _ _ put c.if-length-eq0.false) in record { value = both.0; output_after = both.1 }
+returns c = let both = (let n = number_0 c.args.metadata.now c.args.records.now _ _
+    (length c.args.output.now) _ c.input_refusal-number.ensures c.if-number-ne0.false
+    in let put = put_room c.clear.auto.output (c.put_file-length.ensures n.0 n.1) in write_done c.args.metadata.now c.args.records.now _ _
+    (length c.args.output.now) n.0 n.1 _ _ put c.if-length-eq0.false) in record { value = both.0; output_after = both.1 }

@@ -5,4 +5,9 @@ use Rattle.zs.proofs.zs_check.Goals as goal
 
 pub returns : goal.returns
 returns c =
-    record { value = c.check.ensures.value; work_after = c.check.ensures.work_after; checked_by_rules = check_by_rules c.args.file.now (length c.args.work.now) _ c.check.ensures.value }
+    record {
+      value = c.check.ensures.value;
+      work_after = c.check.ensures.work_after;
+      checked_by_rules = check_by_rules c.args.file.now
+          (length c.args.work.now) _ c.check.ensures.value;
+    }

@@ -11,5 +11,6 @@ returns c =
       value = told.value;
       list_after = told.list_after;
       work_after = told.work_after;
-      compared_by_rules = compare_by_rules c.args.first.now c.args.second.now (length c.args.work.now) (length c.args.list.now) _ _ told.value told.list_after;
+      compared_by_rules = compare_by_rules c.args.first.now c.args.second.now (length c.args.work.now)
+          (length c.args.list.now) _ _ told.value told.list_after;
     }

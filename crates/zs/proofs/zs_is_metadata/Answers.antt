@@ -5,4 +5,10 @@ use Rattle.zs.proofs.zs_is_metadata.Goals as goal
 
 pub returns : goal.returns
 returns c =
-    record { value = c.is_metadata.ensures; variant = ((λ yes. is_metadata⇒Metadata c.args.bytes.now (sym c.is_metadata.ensures ∙ yes)), (λ rule. c.is_metadata.ensures ∙ Metadata⇒is_metadata c.args.bytes.now rule)) }
+    record {
+      value = c.is_metadata.ensures;
+      variant = (
+        (λ yes. is_metadata⇒Metadata c.args.bytes.now (sym c.is_metadata.ensures ∙ yes)),
+        (λ rule. c.is_metadata.ensures ∙ Metadata⇒is_metadata c.args.bytes.now rule),
+      );
+    }

@@ -20,9 +20,12 @@ returns c =
     let start_bytes = bytes_of_below c.args.start.now (λ k l. omega (arith, c.type_inv.start k)) in
     let prefix_bytes = bytes_of_below c.args.prefix.now (λ k l. omega (arith, c.type_inv.prefix k)) in
     let asked : QueryBytes q = record { start = start_bytes; prefix = prefix_bytes } in
-    let by_rules = search_by_rules c.args.file.now file_bytes q asked places room _ _ _ c.search.ensures.value c.search.ensures.opened_after c.search.ensures.results_after in
-    let locally = search_locally c.args.file.now q places room _ _ _ c.search.ensures.value c.search.ensures.opened_after c.search.ensures.results_after in
-    let unpacks = search_unpacks c.args.file.now q places room _ _ _ c.search.ensures.value c.search.ensures.opened_after c.search.ensures.results_after in
+    let by_rules = search_by_rules c.args.file.now file_bytes q asked places room _ _ _ c.search.ensures.value c.search.ensures.opened_after
+    c.search.ensures.results_after in
+    let locally = search_locally c.args.file.now q places room _ _ _ c.search.ensures.value c.search.ensures.opened_after
+    c.search.ensures.results_after in
+    let unpacks = search_unpacks c.args.file.now q places room _ _ _ c.search.ensures.value c.search.ensures.opened_after
+    c.search.ensures.results_after in
     record {
       value = c.search.ensures.value;
       opened_after = c.search.ensures.opened_after;

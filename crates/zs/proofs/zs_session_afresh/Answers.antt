@@ -5,4 +5,5 @@ use Rattle.zs.proofs.zs_session_afresh.Goals as goal
 
 pub returns : goal.returns
 returns c =
-    let held = afresh_held _ c.start_afresh.ensures.value c.start_afresh.ensures.output_after in record { value = c.start_afresh.ensures.value; output_after = c.start_afresh.ensures.output_after; held = (held, held⇒rules _ _ _ held) }
+    let held = afresh_held _ c.start_afresh.ensures.value c.start_afresh.ensures.output_after in
+    record { value = c.start_afresh.ensures.value; output_after = c.start_afresh.ensures.output_after; held = (held, held⇒rules _ _ _ held) }

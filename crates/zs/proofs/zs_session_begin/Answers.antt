@@ -5,4 +5,11 @@ use Rattle.zs.proofs.zs_session_begin.Goals as goal
 
 pub returns : goal.returns
 returns c =
-    record { step_taken = λ stage held. (c.begin.ensures.step_taken stage held, held⇒rules _ _ _ (c.begin.ensures.step_taken stage held).held); one_of = c.begin.ensures.one_of }
+    record {
+      step_taken = λ stage held. (
+        c.begin.ensures.step_taken stage held,
+        held⇒rules _ _ _
+            (c.begin.ensures.step_taken stage held).held,
+      );
+      one_of = c.begin.ensures.one_of;
+    }

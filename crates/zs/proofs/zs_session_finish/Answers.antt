@@ -5,4 +5,11 @@ use Rattle.zs.proofs.zs_session_finish.Goals as goal
 
 pub returns : goal.returns
 returns c =
-    record { step_taken = λ stage held. (c.finish.ensures.step_taken stage held, held⇒rules _ _ _ (c.finish.ensures.step_taken stage held).held); one_of = c.finish.ensures.one_of }
+    record {
+      step_taken = λ stage held. (
+        c.finish.ensures.step_taken stage held,
+        held⇒rules _ _ _
+            (c.finish.ensures.step_taken stage held).held,
+      );
+      one_of = c.finish.ensures.one_of;
+    }

@@ -33,11 +33,13 @@ returns-in-Answer c =
 pub returns-in-Refused-items : goal.returns-in-Refused-items
 unfolding blockSaid payloadSaid
 returns-in-Refused-items c =
-    sym (index_unsound c.args.file.now c.args.f _ _ c.if-level-eq0.false c.if-level-gt-LARGEST_LEVEL.false (sym (c.entries_at-items.ensures c.args.f.start) ∙ ap (payloadSaid
+    sym (index_unsound c.args.file.now c.args.f _ _ c.if-level-eq0.false c.if-level-gt-LARGEST_LEVEL.false
+    (sym (c.entries_at-items.ensures c.args.f.start) ∙ ap (payloadSaid
     c.args.f.start) c.in-Refused-items.is))
 
 pub returns-in-Answer-items : goal.returns-in-Answer-items
 unfolding blockSaid payloadSaid
 returns-in-Answer-items c =
-    sym (index_sound c.args.file.now c.args.f _ c.if-level-eq0.false c.if-level-gt-LARGEST_LEVEL.false (sym (c.entries_at-items.ensures c.args.f.start) ∙ ap (payloadSaid
+    sym (index_sound c.args.file.now c.args.f _ c.if-level-eq0.false c.if-level-gt-LARGEST_LEVEL.false
+    (sym (c.entries_at-items.ensures c.args.f.start) ∙ ap (payloadSaid
     c.args.f.start) c.in-Answer-items.is))

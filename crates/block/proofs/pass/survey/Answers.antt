@@ -19,7 +19,8 @@ pub overflow_add-ordinary : goal.overflow_add-ordinary
 unfolding blockSaid
 overflow_add-ordinary c =
     let r = reported c.args.file.now c.loop-at.at _ _ (sym c.block_at-block.ensures ∙ ap (blockSaid c.loop-at.at) c.in-Answer.is) in let within =
-    r.within in let few = r.few in let forward = r.forward in let single = at_most_one c.one_if_ordinary-ordinary.result (is_ordinary c.in-Answer.frame.level)
+    r.within in let few = r.few in let forward = r.forward in let single = at_most_one c.one_if_ordinary-ordinary.result
+    (is_ordinary c.in-Answer.frame.level)
     c.one_if_ordinary-ordinary.ensures in omega (arith, c.well_formed)
 
 pub overflow_add-records : goal.overflow_add-records

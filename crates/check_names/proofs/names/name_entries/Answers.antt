@@ -18,7 +18,8 @@ pub returns-in-Refused : goal.returns-in-Refused
 unfolding entrySaid
 returns-in-Refused c =
     marked_refused c.args.file.now c.args.level c.args.from c.args.end c.args.work.now c.args.n c.loop-at.work c.loop-at.at
-    c.loop-at.invariant c.loop-at-test.true _ (λ place. sym (c.entry_at-step.ensures.by_index place) ∙ ap (entrySaid place (take c.args.end c.args.file.now))
+    c.loop-at.invariant c.loop-at-test.true _ (λ place. sym (c.entry_at-step.ensures.by_index place) ∙ ap
+    (entrySaid place (take c.args.end c.args.file.now))
     c.in-Refused.is)
 
 pub named-i-requires : goal.named-i-requires

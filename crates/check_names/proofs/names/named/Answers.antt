@@ -13,13 +13,15 @@ pub returns-then-f-size : goal.returns-then-f-size
 unfolding frameSaid
 returns-then-f-size c =
     λ from seen key k. named_unfit c.args.file.now from seen c.args.work.now c.args.n k _ c.args.level c.find-i.result
-    c.find-i.ensures c.if-n-i.false _ (sym c.frame_at-frame.ensures ∙ ap (frameSaid c.args.offset) c.in-Answer.is) (λ size lower. c.if-f-size.true size)
+    c.find-i.ensures c.if-n-i.false _ (sym c.frame_at-frame.ensures ∙ ap (frameSaid c.args.offset) c.in-Answer.is)
+    (λ size lower. c.if-f-size.true size)
 
 pub returns-then-f-level : goal.returns-then-f-level
 unfolding frameSaid
 returns-then-f-level c =
     λ from seen key k. named_unfit c.args.file.now from seen c.args.work.now c.args.n k _ c.args.level c.find-i.result
-    c.find-i.ensures c.if-n-i.false _ (sym c.frame_at-frame.ensures ∙ ap (frameSaid c.args.offset) c.in-Answer.is) (λ size lower. c.if-f-level.true lower)
+    c.find-i.ensures c.if-n-i.false _ (sym c.frame_at-frame.ensures ∙ ap (frameSaid c.args.offset) c.in-Answer.is)
+    (λ size lower. c.if-f-level.true lower)
 
 pub returns-in-Refused : goal.returns-in-Refused
 unfolding frameSaid
@@ -32,4 +34,5 @@ pub returns-else-f-level : goal.returns-else-f-level
 unfolding frameSaid
 returns-else-f-level c =
     λ from seen key k. named_fit c.args.file.now from seen c.args.work.now c.args.n k _ c.args.level c.find-i.result
-    c.find-i.ensures c.if-n-i.false _ (sym c.frame_at-frame.ensures ∙ ap (frameSaid c.args.offset) c.in-Answer.is) c.if-f-size.false c.if-f-level.false
+    c.find-i.ensures c.if-n-i.false _ (sym c.frame_at-frame.ensures ∙ ap
+    (frameSaid c.args.offset) c.in-Answer.is) c.if-f-size.false c.if-f-level.false

@@ -10,7 +10,8 @@ loop-at-init c = hopped_start _ _ _
 
 pub returns-in-Refused : goal.returns-in-Refused
 unfolding frameSaid
-returns-in-Refused c = let both = (hopped_refused _ _ _ _ _ _ c.loop-at.invariant c.loop-at-test.true _ _ (sym c.frame_at-frame.ensures ∙ ap (frameSaid c.loop-at.at)
+returns-in-Refused c = let both = (hopped_refused _ _ _ _ _ _ c.loop-at.invariant c.loop-at-test.true _ _
+    (sym c.frame_at-frame.ensures ∙ ap (frameSaid c.loop-at.at)
     c.in-Refused.is)) in record { value = both.0; begins = both.1 }
 
 pub overflow_add-at : goal.overflow_add-at

@@ -10,7 +10,8 @@ decreases-ascend l = l.level
 
 abbrev pub invariant-loop-place : goal.invariant-loop-place
 invariant-loop-place l =
-    Going (ascent_over (ascent_of l.file (l.level - 1))) (entry_at l.at (take l.end l.file)) l.end (ascent_of l.file l.level l.at l.least) l.place l.low
+    Going (ascent_over (ascent_of l.file (l.level - 1))) (entry_at l.at (take l.end l.file)) l.end
+    (ascent_of l.file l.level l.at l.least) l.place l.low
 
 abbrev pub decreases-loop-place : goal.decreases-loop-place
 decreases-loop-place l = l.end - l.place

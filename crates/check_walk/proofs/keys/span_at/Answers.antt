@@ -27,7 +27,8 @@ slice_bounds-text_at-end c =
 pub returns-in-Refused : goal.returns-in-Refused
 unfolding textSaid
 returns-in-Refused c =
-    sym (going_refused _ _ _ _ _ _ c.loop-place-test.true c.loop-place.invariant _ _ (sym (c.text_at-step.ensures c.args.at) ∙ ap (textSaid c.args.at (take
+    sym (going_refused _ _ _ _ _ _ c.loop-place-test.true c.loop-place.invariant _ _
+    (sym (c.text_at-step.ensures c.args.at) ∙ ap (textSaid c.args.at (take
     (end_of c.payload_at-payload.result) c.args.file.now)) c.in-Refused.is) ∙ over_records_end _)
 
 pub overflow_add-place : goal.overflow_add-place
@@ -35,22 +36,26 @@ unfolding textSaid
 overflow_add-place c =
     let p = text⇒Placed c.args.at (take (end_of c.payload_at-payload.result) c.args.file.now) _ _ (sym (c.text_at-step.ensures c.args.at) ∙ ap
     (textSaid c.args.at (take (end_of c.payload_at-payload.result) c.args.file.now)) c.in-Answer.is) in let within = p.within in let forward
-    = p.forward in let all = length-take-le (end_of c.payload_at-payload.result) c.args.file.now c.payload_at-payload.ensures.length_in_bounds in omega (arith, c.well_formed)
+    = p.forward in let all = length-take-le (end_of c.payload_at-payload.result) c.args.file.now c.payload_at-payload.ensures.length_in_bounds in
+    omega (arith, c.well_formed)
 
 pub loop-place-smaller : goal.loop-place-smaller
 unfolding textSaid
 loop-place-smaller c =
     let p = text⇒Placed c.args.at (take (end_of c.payload_at-payload.result) c.args.file.now) _ _ (sym (c.text_at-step.ensures c.args.at) ∙ ap
     (textSaid c.args.at (take (end_of c.payload_at-payload.result) c.args.file.now)) c.in-Answer.is) in let within = p.within in let forward
-    = p.forward in let all = length-take-le (end_of c.payload_at-payload.result) c.args.file.now c.payload_at-payload.ensures.length_in_bounds in omega arith
+    = p.forward in let all = length-take-le (end_of c.payload_at-payload.result) c.args.file.now c.payload_at-payload.ensures.length_in_bounds in
+    omega arith
 
 pub loop-place-preserved : goal.loop-place-preserved
 unfolding textSaid
 loop-place-preserved c =
     let p = text⇒Placed c.args.at (take (end_of c.payload_at-payload.result) c.args.file.now) _ _ (sym (c.text_at-step.ensures c.args.at) ∙ ap
     (textSaid c.args.at (take (end_of c.payload_at-payload.result) c.args.file.now)) c.in-Answer.is) in let within = p.within in let forward
-    = p.forward in let all = length-take-le (end_of c.payload_at-payload.result) c.args.file.now c.payload_at-payload.ensures.length_in_bounds in going_more _ _ _ _
-    _ _ c.loop-place-test.true c.loop-place.invariant _ (sym (c.text_at-step.ensures c.args.at) ∙ ap (textSaid c.args.at (take (end_of c.payload_at-payload.result)
+    = p.forward in let all = length-take-le (end_of c.payload_at-payload.result) c.args.file.now c.payload_at-payload.ensures.length_in_bounds in
+    going_more _ _ _ _
+    _ _ c.loop-place-test.true c.loop-place.invariant _ (sym (c.text_at-step.ensures c.args.at) ∙ ap
+    (textSaid c.args.at (take (end_of c.payload_at-payload.result)
     c.args.file.now)) c.in-Answer.is) (omega arith) _ (over_record_read (take (end_of c.payload_at-payload.result) c.args.file.now) _ within
     _ _ c.joined-next.ensures)
 

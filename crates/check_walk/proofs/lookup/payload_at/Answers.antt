@@ -21,7 +21,11 @@ overflow_sub-length c =
 pub returns-in-Refused : goal.returns-in-Refused
 unfolding frameSaid
 returns-in-Refused c =
-    record { value = sym (payload_none c.args.file.now c.args.at _ _ (sym c.frame_at-found.ensures ∙ ap (frameSaid c.args.at) c.in-Refused.is)); length_in_bounds = omega arith }
+    record {
+      value = sym (payload_none c.args.file.now c.args.at _ _
+          (sym c.frame_at-found.ensures ∙ ap (frameSaid c.args.at) c.in-Refused.is));
+      length_in_bounds = omega arith;
+    }
 
 pub returns-in-Answer : goal.returns-in-Answer
 unfolding frameSaid

@@ -10,4 +10,5 @@ use Rattle.comparer.proofs.merge.is_copy.Goals as goal
 
 pub returns : goal.returns
 returns c =
-    c.equal.ensures ∙ same_of_compared _ _ _ c.compare.ensures ∙ ap (λ (l : List ℕ). same l c.args.x.now) (lent_part c.args.file.now c.args.text.offset c.args.text.length)
+    c.equal.ensures ∙ same_of_compared _ _ _ c.compare.ensures ∙ ap (λ (l : List ℕ). same l c.args.x.now)
+    (lent_part c.args.file.now c.args.text.offset c.args.text.length)

@@ -44,7 +44,8 @@ pub returns-then-at_most : goal.returns-then-at_most
 unfolding record_said
 returns-then-at_most c = (
   least_first c.args.first.now c.args.second.now _ _ _ _ (sym (ap (record_said c.args.first.now) c.in-Answer.is) ∙
-      c.record_at-one.ensures.result_value) _ _ (sym (ap (record_said c.args.second.now) c.in-Answer-two-2.is) ∙ c.record_at-two.ensures.result_value) (sym
+      c.record_at-one.ensures.result_value) _ _ (sym (ap (record_said c.args.second.now) c.in-Answer-two-2.is)
+      ∙ c.record_at-two.ensures.result_value) (sym
       c.at_most.ensures ∙ c.if-at_most.true),
   named_first c.args.first.now c.args.second.now _ (within_told c.args.first.now _ _ _ _ c.in-Answer.is c.record_at-one.ensures.record_within),
 )
@@ -53,7 +54,9 @@ pub returns-else-at_most : goal.returns-else-at_most
 unfolding record_said
 returns-else-at_most c = (
   least_second c.args.first.now c.args.second.now _ _ _ _ (sym (ap (record_said c.args.first.now) c.in-Answer.is) ∙
-      c.record_at-one.ensures.result_value) _ _ (sym (ap (record_said c.args.second.now) c.in-Answer-two-2.is) ∙ c.record_at-two.ensures.result_value) (sym
+      c.record_at-one.ensures.result_value) _ _ (sym (ap (record_said c.args.second.now) c.in-Answer-two-2.is)
+      ∙ c.record_at-two.ensures.result_value) (sym
       c.at_most.ensures ∙ c.if-at_most.false),
-  named_second c.args.first.now c.args.second.now _ (within_told c.args.second.now _ _ _ _ c.in-Answer-two-2.is c.record_at-two.ensures.record_within),
+  named_second c.args.first.now c.args.second.now _ (within_told c.args.second.now _ _ _ _ c.in-Answer-two-2.is
+      c.record_at-two.ensures.record_within),
 )

@@ -8,7 +8,8 @@ use Rattle.comparer.proofs.StepLaws.{Merging}
 use Rattle.comparer.proofs.merge.merge.Given as goal
 
 abbrev pub invariant-loop-which : goal.invariant-loop-which
-invariant-loop-which l = Merging l.initial.list (merged (following l.first l.initial.x) (following l.second l.initial.y)) (length (following l.first l.initial.x) + length (following l.second l.initial.y)) l.count l.list
+invariant-loop-which l = Merging l.initial.list (merged (following l.first l.initial.x) (following l.second l.initial.y))
+    (length (following l.first l.initial.x) + length (following l.second l.initial.y)) l.count l.list
     (following l.first l.x) (following l.second l.y)
 
 abbrev pub decreases-loop-which : goal.decreases-loop-which

@@ -27,7 +27,8 @@ is_copy-requires c =
 pub returns-then-not-is_copy : goal.returns-then-not-is_copy
 unfolding record_said here_of textIn
 returns-then-not-is_copy c = (
-  passed_other c.args.x.now _ _ _ _ _ c.loop-here.invariant (sym (ap (record_said c.args.file.now) c.in-Answer.is) ∙ c.record_at-next.ensures.result_value)
+  passed_other c.args.x.now _ _ _ _ _ c.loop-here.invariant (sym (ap (record_said c.args.file.now) c.in-Answer.is)
+      ∙ c.record_at-next.ensures.result_value)
       (sym c.is_copy.ensures ∙ c.if-not-is_copy.true),
   sym (ap (λ (o : RecordOutcome). following c.args.file.now (here_of
       o)) c.in-Answer.is) ∙ c.record_at-next.ensures.result_value_2 ∙ c.loop-here.invariant.left,
@@ -36,7 +37,8 @@ returns-then-not-is_copy c = (
 pub overflow_add-count : goal.overflow_add-count
 unfolding record_said
 overflow_add-count c =
-    let long = c.loop-here.invariant.long in let some = ap length (sym (ap (record_said c.args.file.now) c.in-Answer.is) ∙ c.record_at-next.ensures.result_value)
+    let long = c.loop-here.invariant.long in let some = ap length
+    (sym (ap (record_said c.args.file.now) c.in-Answer.is) ∙ c.record_at-next.ensures.result_value)
     in let pre = c.requires in omega arith
 
 pub loop-here-smaller : goal.loop-here-smaller
@@ -47,5 +49,6 @@ loop-here-smaller c =
 pub loop-here-preserved : goal.loop-here-preserved
 unfolding record_said textIn
 loop-here-preserved c =
-    passed_more c.args.x.now _ _ _ _ _ c.loop-here.invariant (sym (ap (record_said c.args.file.now) c.in-Answer.is) ∙ c.record_at-next.ensures.result_value)
+    passed_more c.args.x.now _ _ _ _ _ c.loop-here.invariant (sym (ap (record_said c.args.file.now) c.in-Answer.is)
+    ∙ c.record_at-next.ensures.result_value)
     (sym c.is_copy.ensures ∙ c.if-not-is_copy.false)

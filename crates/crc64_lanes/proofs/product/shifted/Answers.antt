@@ -20,7 +20,8 @@ pub loop-left-preserved : goal.loop-left-preserved
 loop-left-preserved c = (
   c.loop-left.invariant.0,
   elim c.if-left-eq1.branch [
-    | then-left-eq1 w ↦ powered_one _ _ _ _ c.loop-left.invariant.1 (omega arith) _ _ c.loop-left.invariant.0 (omega (arith, w.if-left-eq1.true)) (w.r-is ∙ w.product-r.ensures)
+    | then-left-eq1 w ↦ powered_one _ _ _ _ c.loop-left.invariant.1 (omega arith) _ _ c.loop-left.invariant.0 (omega (arith, w.if-left-eq1.true))
+        (w.r-is ∙ w.product-r.ensures)
     | else-left-eq1 w ↦ powered_zero _ _ _ _ c.loop-left.invariant.1 (omega arith) _ (λ e. omega (arith, w.if-left-eq1.false)) w.r-is
   ],
 )

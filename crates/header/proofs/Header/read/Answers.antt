@@ -41,7 +41,8 @@ opened c tested =
 
 pub returns-then-not-holds_header : goal.returns-then-not-holds_header
 unfolding header_said
-returns-then-not-holds_header c = sym (header_cut _ (opened ((goal.at.returns-then-not-holds_header c).Else-not-has_magic) (unfinished ((goal.at.returns-then-not-holds_header c).After-begins))) (sym c.holds_header.ensures ∙ c.if-not-holds_header.true))
+returns-then-not-holds_header c = sym (header_cut _ (opened ((goal.at.returns-then-not-holds_header c).Else-not-has_magic)
+    (unfinished ((goal.at.returns-then-not-holds_header c).After-begins))) (sym c.holds_header.ensures ∙ c.if-not-holds_header.true))
 
 -- the header data lie within the file
 held : (c : Else-not-holds_header) → holds_header c.args.file.now ≡ true
@@ -52,4 +53,5 @@ data-requires c = held ((goal.at.data-requires c).Else-not-holds_header)
 
 pub returns : goal.returns
 returns c =
-    c.data.ensures ∙ sym (header_data_lem _ (opened ((goal.at.returns c).Else-not-has_magic) (unfinished ((goal.at.returns c).After-begins))) (held ((goal.at.returns c).Else-not-holds_header)))
+    c.data.ensures ∙ sym (header_data_lem _ (opened ((goal.at.returns c).Else-not-has_magic) (unfinished ((goal.at.returns c).After-begins)))
+    (held ((goal.at.returns c).Else-not-holds_header)))

@@ -24,8 +24,10 @@ overflow_add-f c =
 
 pub returns-then-f-ne0 : goal.returns-then-f-ne0
 unfolding frameSaid textSaid
-returns-then-f-ne0 c = let both = (index_child_told c.args.s.now c.args.at _ (sym c.frame_at-frame.ensures ∙ ap (frameSaid c.args.at.offset) c.in-Answer.is) _
-    (sym (c.text_at-found.ensures c.args.at.offset) ∙ ap (textSaid c.args.at.offset _) c.in-Answer-found.is) c.if-f-ne0.true) in record { result_value = both.0; child_within = both.1 }
+returns-then-f-ne0 c = let both = (index_child_told c.args.s.now c.args.at _
+    (sym c.frame_at-frame.ensures ∙ ap (frameSaid c.args.at.offset) c.in-Answer.is) _
+    (sym (c.text_at-found.ensures c.args.at.offset) ∙ ap (textSaid c.args.at.offset _) c.in-Answer-found.is) c.if-f-ne0.true) in
+    record { result_value = both.0; child_within = both.1 }
 
 pub key_after-key-requires : goal.key_after-key-requires
 unfolding frameSaid textSaid
@@ -68,6 +70,8 @@ returns-in-Refused-found c =
 
 pub returns-else-f-ne0 : goal.returns-else-f-ne0
 unfolding frameSaid textSaid
-returns-else-f-ne0 c = let both = (data_child_told c.args.s.now c.args.at _ (sym c.frame_at-frame.ensures ∙ ap (frameSaid c.args.at.offset) c.in-Answer.is) _
+returns-else-f-ne0 c = let both = (data_child_told c.args.s.now c.args.at _
+    (sym c.frame_at-frame.ensures ∙ ap (frameSaid c.args.at.offset) c.in-Answer.is) _
     (sym (c.text_at-found.ensures c.args.at.offset) ∙ ap (textSaid c.args.at.offset _) c.in-Answer-found.is) c.if-f-ne0.false _ _
-    c.key_after-key.ensures.result_value c.key_after-key.ensures.offset_value.0 c.key_after-key.ensures.offset_value.1 c.last_record-last.ensures.result_value c.last_record-last.ensures.within) in record { result_value = both.0; child_within = both.1 }
+    c.key_after-key.ensures.result_value c.key_after-key.ensures.offset_value.0 c.key_after-key.ensures.offset_value.1
+    c.last_record-last.ensures.result_value c.last_record-last.ensures.within) in record { result_value = both.0; child_within = both.1 }

@@ -11,11 +11,14 @@ compare_parts-comparison-requires c = c.requires
 
 pub returns-then-agreeing-before : goal.returns-then-agreeing-before
 unfolding bytes_of
-returns-then-agreeing-before c = let both = (key_all c.args.s.now c.args.before c.args.first c.requires.0 c.requires.1 (compared_agreeing _ _ _ c.compare_parts-comparison.ensures) (let same = c.if-agreeing-before.true in omega arith)) in record { result_value = both.0; offset_value = both.1 }
+returns-then-agreeing-before c = let both = (key_all c.args.s.now c.args.before c.args.first c.requires.0 c.requires.1
+    (compared_agreeing _ _ _ c.compare_parts-comparison.ensures) (let same = c.if-agreeing-before.true in omega arith)) in
+    record { result_value = both.0; offset_value = both.1 }
 
 pub returns-then-agreeing-first : goal.returns-then-agreeing-first
 unfolding bytes_of
-returns-then-agreeing-first c = let both = (key_whole c.args.s.now c.args.before c.args.first c.requires.0 c.requires.1 (compared_agreeing _ _ _ c.compare_parts-comparison.ensures) (λ e.
+returns-then-agreeing-first c = let both = (key_whole c.args.s.now c.args.before c.args.first c.requires.0 c.requires.1
+    (compared_agreeing _ _ _ c.compare_parts-comparison.ensures) (λ e.
     c.if-agreeing-before.false (omega (arith, e))) c.if-agreeing-first.true) in record { result_value = both.0; offset_value = both.1 }
 
 pub overflow_add-length : goal.overflow_add-length
@@ -30,5 +33,6 @@ overflow_add-length c =
 
 pub returns : goal.returns
 unfolding bytes_of
-returns c = let both = (key_parted c.args.s.now c.args.before c.args.first c.requires.0 c.requires.1 (compared_agreeing _ _ _ c.compare_parts-comparison.ensures) (λ e.
+returns c = let both = (key_parted c.args.s.now c.args.before c.args.first c.requires.0 c.requires.1
+    (compared_agreeing _ _ _ c.compare_parts-comparison.ensures) (λ e.
     c.if-agreeing-before.false (omega (arith, e))) c.if-agreeing-first.false) in record { result_value = both.0; offset_value = both.1 }

@@ -16,7 +16,8 @@ loop-at-init c =
 
 pub returns-in-Refused : goal.returns-in-Refused
 unfolding textSaid
-returns-in-Refused c = let both = (passing_refused _ _ _ _ c.loop-at.invariant c.loop-at-test.true _ _ (sym (c.text_at-step.ensures 0) ∙ ap (textSaid 0 _) c.in-Refused.is)) in record { result_value = both.0; within = both.1 }
+returns-in-Refused c = let both = (passing_refused _ _ _ _ c.loop-at.invariant c.loop-at-test.true _ _
+    (sym (c.text_at-step.ensures 0) ∙ ap (textSaid 0 _) c.in-Refused.is)) in record { result_value = both.0; within = both.1 }
 
 pub overflow_add-at-in-Answer : goal.overflow_add-at-in-Answer
 unfolding textSaid
@@ -31,7 +32,8 @@ overflow_add-at-in-Answer c =
 pub loop-at-smaller : goal.loop-at-smaller
 unfolding textSaid
 loop-at-smaller c =
-    let before = c.loop-at-test.true in let forward = passing_forward _ _ _ _ c.loop-at.invariant c.loop-at-test.true _ (sym (c.text_at-step.ensures 0) ∙ ap
+    let before = c.loop-at-test.true in let forward = passing_forward _ _ _ _ c.loop-at.invariant c.loop-at-test.true _
+    (sym (c.text_at-step.ensures 0) ∙ ap
     (textSaid 0 _) c.in-Answer.is) in omega (arith, forward.0, forward.1)
 
 pub loop-at-preserved : goal.loop-at-preserved

@@ -17,13 +17,15 @@ returns-in-Refused c =
 pub entry_length-length-requires : goal.entry_length-length-requires
 unfolding ChildWithin
 entry_length-length-requires c =
-    let known = child_known c.args.s.now c.loop-count.at _ c.child_at-child.ensures.result_value _ _ _ c.in-Answer.is c.child_at-child.ensures.child_within in
+    let known = child_known c.args.s.now c.loop-count.at _ c.child_at-child.ensures.result_value _ _ _ c.in-Answer.is
+    c.child_at-child.ensures.child_within in
     let a = known.1.0 in let b = known.1.1 in let d = known.1.3 in let short = c.requires.0 in (omega arith, omega arith, omega arith)
 
 pub overflow_add-length : goal.overflow_add-length
 unfolding ChildWithin
 overflow_add-length c =
-    let known = child_known c.args.s.now c.loop-count.at _ c.child_at-child.ensures.result_value _ _ _ c.in-Answer.is c.child_at-child.ensures.child_within in let a =
+    let known = child_known c.args.s.now c.loop-count.at _ c.child_at-child.ensures.result_value _ _ _ c.in-Answer.is
+    c.child_at-child.ensures.child_within in let a =
     known.1.0 in let b = known.1.1 in let d = known.1.3 in let more = measuring_bound _ _ _ _ _ _ c.loop-count.invariant _
     _ _ known.0 known.1 c.requires.0 in let bounded = c.loop-count.invariant.bounded in let onward = c.loop-count.invariant.onward in let long =
     c.entry_length-length.ensures c.args.s.now (omega arith) in omega arith
@@ -31,13 +33,15 @@ overflow_add-length c =
 pub overflow_add-offset : goal.overflow_add-offset
 unfolding ChildWithin
 overflow_add-offset c =
-    let known = child_known c.args.s.now c.loop-count.at _ c.child_at-child.ensures.result_value _ _ _ c.in-Answer.is c.child_at-child.ensures.child_within in let d =
+    let known = child_known c.args.s.now c.loop-count.at _ c.child_at-child.ensures.result_value _ _ _ c.in-Answer.is
+    c.child_at-child.ensures.child_within in let d =
     known.1.3 in let short = c.requires.0 in omega arith
 
 pub loop-count-preserved : goal.loop-count-preserved
 unfolding ChildWithin
 loop-count-preserved c =
-    let known = child_known c.args.s.now c.loop-count.at _ c.child_at-child.ensures.result_value _ _ _ c.in-Answer.is c.child_at-child.ensures.child_within in let b =
+    let known = child_known c.args.s.now c.loop-count.at _ c.child_at-child.ensures.result_value _ _ _ c.in-Answer.is
+    c.child_at-child.ensures.child_within in let b =
     known.1.1 in let d = known.1.3 in rw (c.entry_length-length.ensures c.args.s.now (omega arith))
     (measuring_more _ _ _ _ _ _ c.loop-count.invariant _ _ _ known.0 known.1 c.requires.0 (omega arith))
 

@@ -4,7 +4,8 @@ use Rattle.index_encoder.proofs.LevelLaws.{block_none, index_room, index_number,
 use Rattle.index_encoder.proofs.level.put_index_block.Goals as goal
 
 pub returns-then-size-eq0 : goal.returns-then-size-eq0
-returns-then-size-eq0 c = let both = (block_none c.args.output.now c.args.level c.args.to c.args.from c.args.group.count c.args.place c.args.group.length c.requires.0
+returns-then-size-eq0 c = let both = (block_none c.args.output.now c.args.level c.args.to c.args.from c.args.group.count c.args.place
+    c.args.group.length c.requires.0
     c.requires.1 c.requires.2 c.block_size-size.ensures c.if-size-eq0.true) in record { value = both.0; output_after = both.1 }
 
 pub overflow_add-group : goal.overflow_add-group
@@ -15,12 +16,14 @@ overflow_add-group c =
 pub overflow_add-body : goal.overflow_add-body
 overflow_add-body c =
     let number = index_number c.args.output.now c.args.level c.args.to c.args.from c.args.group.count c.args.place
-    c.args.group.length c.requires.0 c.requires.1 c.requires.2 c.block_size-size.ensures c.if-size-eq0.false c.put_number.ensures.0 in omega (arith, number.1)
+    c.args.group.length c.requires.0 c.requires.1 c.requires.2 c.block_size-size.ensures c.if-size-eq0.false c.put_number.ensures.0 in omega
+    (arith, number.1)
 
 pub overflow_add-body-2 : goal.overflow_add-body-2
 overflow_add-body-2 c =
     let number = index_number c.args.output.now c.args.level c.args.to c.args.from c.args.group.count c.args.place
-    c.args.group.length c.requires.0 c.requires.1 c.requires.2 c.block_size-size.ensures c.if-size-eq0.false c.put_number.ensures.0 in omega (arith, number.1)
+    c.args.group.length c.requires.0 c.requires.1 c.requires.2 c.block_size-size.ensures c.if-size-eq0.false c.put_number.ensures.0 in omega
+    (arith, number.1)
 
 pub put_entries-end-requires : goal.put_entries-end-requires
 put_entries-end-requires c =
@@ -30,22 +33,26 @@ put_entries-end-requires c =
 pub slice_bounds-checksum-count : goal.slice_bounds-checksum-count
 slice_bounds-checksum-count c =
     let ends = index_ends c.args.output.now c.args.level c.args.to c.args.from c.args.group.count c.args.place
-    c.args.group.length c.requires.0 c.requires.1 c.requires.2 c.block_size-size.ensures c.if-size-eq0.false c.put_number.ensures.0 c.put_number.ensures.1
+    c.args.group.length c.requires.0 c.requires.1 c.requires.2 c.block_size-size.ensures c.if-size-eq0.false c.put_number.ensures.0
+    c.put_number.ensures.1
     c.put.ensures.1 c.put_entries-end.ensures.value c.put_entries-end.ensures.output_after in omega (arith, ends.0)
 
 pub slice_bounds-checksum-start : goal.slice_bounds-checksum-start
 slice_bounds-checksum-start c =
     let ends = index_ends c.args.output.now c.args.level c.args.to c.args.from c.args.group.count c.args.place
-    c.args.group.length c.requires.0 c.requires.1 c.requires.2 c.block_size-size.ensures c.if-size-eq0.false c.put_number.ensures.0 c.put_number.ensures.1
+    c.args.group.length c.requires.0 c.requires.1 c.requires.2 c.block_size-size.ensures c.if-size-eq0.false c.put_number.ensures.0
+    c.put_number.ensures.1
     c.put.ensures.1 c.put_entries-end.ensures.value c.put_entries-end.ensures.output_after in omega (arith, ends.0, ends.1)
 
 pub slice_bounds-checksum-end : goal.slice_bounds-checksum-end
 slice_bounds-checksum-end c =
     let ends = index_ends c.args.output.now c.args.level c.args.to c.args.from c.args.group.count c.args.place
-    c.args.group.length c.requires.0 c.requires.1 c.requires.2 c.block_size-size.ensures c.if-size-eq0.false c.put_number.ensures.0 c.put_number.ensures.1
+    c.args.group.length c.requires.0 c.requires.1 c.requires.2 c.block_size-size.ensures c.if-size-eq0.false c.put_number.ensures.0
+    c.put_number.ensures.1
     c.put.ensures.1 c.put_entries-end.ensures.value c.put_entries-end.ensures.output_after in omega (arith, ends.0, ends.1)
 
 pub returns : goal.returns
 returns c = let both = (index_stored c.args.output.now c.args.level c.args.to c.args.from c.args.group.count c.args.place c.args.group.length
     c.requires.0 c.requires.1 c.requires.2 c.block_size-size.ensures c.if-size-eq0.false c.put_number.ensures.0 c.put_number.ensures.1 c.put.ensures.1
-    c.put_entries-end.ensures.value c.put_entries-end.ensures.output_after c.checksum.ensures c.le64_bytes-crc.ensures c.put-2.ensures.1) in record { value = both.0; output_after = both.1 }
+    c.put_entries-end.ensures.value c.put_entries-end.ensures.output_after c.checksum.ensures c.le64_bytes-crc.ensures c.put-2.ensures.1) in
+    record { value = both.0; output_after = both.1 }

@@ -43,7 +43,8 @@ returns-then-size-eq0 c =
 pub overflow_add-end : goal.overflow_add-end
 overflow_add-end c =
     let put = level_size _ _ _ _ _ _ _ _ _ c.loop-at.invariant c.requires.0 _ c.measure-group.ensures (let some = c.if-group-eq0.false in omega arith)
-    c.put_index_block-size.ensures.value c.put_index_block-size.ensures.output_after c.if-size-eq0.false in let short = c.requires.2 in omega (arith, put.1)
+    c.put_index_block-size.ensures.value c.put_index_block-size.ensures.output_after c.if-size-eq0.false in let short = c.requires.2 in omega
+    (arith, put.1)
 
 pub overflow_add-blocks : goal.overflow_add-blocks
 overflow_add-blocks c =

@@ -14,7 +14,8 @@ loop-at-init c = collected_start _ _ _ _ _ _
 pub returns-in-Refused : goal.returns-in-Refused
 unfolding frameSaid
 returns-in-Refused c =
-    frames_refused _ _ _ _ _ _ c.loop-at.invariant c.loop-at-test.true _ _ (sym c.frame_at-frame.ensures ∙ ap (frameSaid c.loop-at.at) c.in-Refused.is)
+    frames_refused _ _ _ _ _ _ c.loop-at.invariant c.loop-at-test.true _ _
+    (sym c.frame_at-frame.ensures ∙ ap (frameSaid c.loop-at.at) c.in-Refused.is)
 
 pub overflow_add-first : goal.overflow_add-first
 unfolding frameSaid

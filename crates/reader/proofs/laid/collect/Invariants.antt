@@ -7,7 +7,8 @@ use Rattle.reader.proofs.FramesLaws.{FramesCollected}
 use Rattle.reader.proofs.laid.collect.Given as goal
 
 abbrev pub invariant-loop-at : goal.invariant-loop-at
-invariant-loop-at l = FramesCollected l.file l.from (query_of l.start l.stop_given l.stop l.prefix) (record { count = 0; list = l.initial.results }) l.at (record { count = l.found; list = l.results })
+invariant-loop-at l = FramesCollected l.file l.from (query_of l.start l.stop_given l.stop l.prefix)
+    (record { count = 0; list = l.initial.results }) l.at (record { count = l.found; list = l.results })
 
 abbrev pub decreases-loop-at : goal.decreases-loop-at
 decreases-loop-at l = length l.file - l.at

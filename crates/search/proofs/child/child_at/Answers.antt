@@ -38,5 +38,6 @@ returns-in-Answer c =
     c.in-Answer.is in let keyed = within_told _ _ _ _ _ _ c.in-Answer.is c.entry_at-entry.ensures.key_within in record {
       child_stays = child_within c.args.file.now
           c.args.f c.args.at c.args.above c.requires.end _ _ _ _ read keyed _ _ c.child_named-named.ensures c.next_key-upper.ensures.part_within;
-      child_said = is_child c.args.file.now c.args.f c.args.at c.args.above c.requires.end _ _ _ _ read keyed _ _ c.child_named-named.ensures c.next_key-upper.ensures.result_value;
+      child_said = is_child c.args.file.now c.args.f c.args.at c.args.above c.requires.end _ _ _ _ read keyed _ _ c.child_named-named.ensures
+          c.next_key-upper.ensures.result_value;
     }

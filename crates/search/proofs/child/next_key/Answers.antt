@@ -24,4 +24,8 @@ pub returns-in-Answer : goal.returns-in-Answer
 unfolding textSaid
 returns-in-Answer c =
     let read = sym (c.text_at-text.ensures c.args.f.start) ∙ ap (textSaid c.args.f.start (take c.args.f.end c.args.file.now))
-    c.in-Answer.is in record { part_within = next_within c.args.file.now c.args.f c.args.next c.args.above _ c.requires.end read; result_value = next_found c.args.file.now c.args.f c.args.next c.args.above _ c.requires.end read }
+    c.in-Answer.is in record {
+      part_within = next_within c.args.file.now c.args.f c.args.next c.args.above _ c.requires.end read;
+      result_value
+          = next_found c.args.file.now c.args.f c.args.next c.args.above _ c.requires.end read;
+    }

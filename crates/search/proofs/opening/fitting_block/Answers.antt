@@ -24,11 +24,13 @@ returns-then-named-f c =
 pub returns-in-Refused : goal.returns-in-Refused
 unfolding opening_said blockSaid
 returns-in-Refused c =
-    fitting_unsound c.args.file.now c.args.named c.args.f c.if-f-named.false c.if-f-named-2.false c.if-named-f.false _ _ (sym c.block_in-inside.ensures ∙ ap
+    fitting_unsound c.args.file.now c.args.named c.args.f c.if-f-named.false c.if-f-named-2.false c.if-named-f.false _ _
+    (sym c.block_in-inside.ensures ∙ ap
     (blockSaid c.args.f.start) c.in-Refused.is)
 
 pub returns-in-Answer : goal.returns-in-Answer
 unfolding opening_said blockSaid
 returns-in-Answer c =
-    fitting_sound c.args.file.now c.args.named c.args.f c.if-f-named.false c.if-f-named-2.false c.if-named-f.false _ _ (sym c.block_in-inside.ensures ∙ ap
+    fitting_sound c.args.file.now c.args.named c.args.f c.if-f-named.false c.if-f-named-2.false c.if-named-f.false _ _
+    (sym c.block_in-inside.ensures ∙ ap
     (blockSaid c.args.f.start) c.in-Answer.is)

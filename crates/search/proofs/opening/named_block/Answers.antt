@@ -25,11 +25,13 @@ fitting_block-requires c =
 pub returns-in-Refused : goal.returns-in-Refused
 unfolding opening_said frameSaid
 returns-in-Refused c =
-    named_unsound c.args.file.now c.args.from c.args.named c.if-offset-from.false c.if-file-offset.false _ _ (sym c.sound_frame_at-found.ensures ∙ ap (frameSaid
+    named_unsound c.args.file.now c.args.from c.args.named c.if-offset-from.false c.if-file-offset.false _ _
+    (sym c.sound_frame_at-found.ensures ∙ ap (frameSaid
     c.args.named.offset) c.in-Refused.is)
 
 pub returns-in-Answer : goal.returns-in-Answer
 unfolding frameSaid
 returns-in-Answer c =
-    named_sound c.args.file.now c.args.from c.args.named c.if-offset-from.false c.if-file-offset.false _ _ (sym c.sound_frame_at-found.ensures ∙ ap (frameSaid
+    named_sound c.args.file.now c.args.from c.args.named c.if-offset-from.false c.if-file-offset.false _ _
+    (sym c.sound_frame_at-found.ensures ∙ ap (frameSaid
     c.args.named.offset) c.in-Answer.is) c.fitting_block.ensures

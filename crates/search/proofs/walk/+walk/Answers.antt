@@ -39,29 +39,37 @@ loop-child-smaller-then-not-admits t c =
 
 pub loop-child-preserved-then-not-admits : goal.loop-child-preserved-then-not-admits
 loop-child-preserved-then-not-admits t c =
-    onward_passed c.loop-child.invariant c.child_at-entry.ensures.child_said c.in-Answer.is c.child_at-entry.ensures.child_stays c.admits.ensures c.if-not-admits.true
+    onward_passed c.loop-child.invariant c.child_at-entry.ensures.child_said c.in-Answer.is c.child_at-entry.ensures.child_stays c.admits.ensures
+    c.if-not-admits.true
 
 pub returns-in-Refused : goal.returns-in-Refused
 returns-in-Refused t c =
-    onward_unopened c.loop-child.invariant c.child_at-entry.ensures.child_said c.in-Answer.is c.child_at-entry.ensures.child_stays c.admits.ensures c.if-not-admits.false
+    onward_unopened c.loop-child.invariant c.child_at-entry.ensures.child_said c.in-Answer.is c.child_at-entry.ensures.child_stays
+    c.admits.ensures c.if-not-admits.false
     c.open_block-opening.ensures.result_value c.open_block-opening.ensures.opened_after c.in-Refused.is
 
 pub overflow_add-so_far : goal.overflow_add-so_far
 overflow_add-so_far t c =
-    let few = child_place c.loop-child.invariant c.child_at-entry.ensures.child_said c.in-Answer.is c.child_at-entry.ensures.child_stays c.admits.ensures c.if-not-admits.false c.open_block-opening.ensures.result_value c.open_block-opening.ensures.opened_after c.in-Answer-opening.is in omega (arith, c.well_formed)
+    let few = child_place c.loop-child.invariant c.child_at-entry.ensures.child_said c.in-Answer.is c.child_at-entry.ensures.child_stays
+    c.admits.ensures c.if-not-admits.false c.open_block-opening.ensures.result_value c.open_block-opening.ensures.opened_after
+    c.in-Answer-opening.is in omega (arith, c.well_formed)
 
 pub walk-reached-requires : goal.walk-reached-requires
 walk-reached-requires t c =
-    let asks = child_asks c.loop-child.invariant c.child_at-entry.ensures.child_said c.in-Answer.is c.child_at-entry.ensures.child_stays c.admits.ensures
-    c.if-not-admits.false c.open_block-opening.ensures.result_value c.open_block-opening.ensures.opened_after c.in-Answer-opening.is in let less = asks.0 in (
+    let asks = child_asks c.loop-child.invariant c.child_at-entry.ensures.child_said c.in-Answer.is c.child_at-entry.ensures.child_stays
+    c.admits.ensures
+    c.if-not-admits.false c.open_block-opening.ensures.result_value c.open_block-opening.ensures.opened_after c.in-Answer-opening.is in
+    let less = asks.0 in (
       omega arith,
       asks.1,
     )
 
 pub returns-in_default-reached : goal.returns-in_default-reached
 returns-in_default-reached t c =
-    onward_stopped c.loop-child.invariant c.child_at-entry.ensures.child_said c.in-Answer.is c.child_at-entry.ensures.child_stays c.admits.ensures c.if-not-admits.false
-    c.open_block-opening.ensures.result_value c.open_block-opening.ensures.opened_after c.in-Answer-opening.is c.walk-reached.ensures c.in_default-reached.is
+    onward_stopped c.loop-child.invariant c.child_at-entry.ensures.child_said c.in-Answer.is c.child_at-entry.ensures.child_stays
+    c.admits.ensures c.if-not-admits.false
+    c.open_block-opening.ensures.result_value c.open_block-opening.ensures.opened_after c.in-Answer-opening.is c.walk-reached.ensures
+    c.in_default-reached.is
 
 pub loop-child-smaller : goal.loop-child-smaller
 loop-child-smaller t c =
@@ -70,6 +78,8 @@ loop-child-smaller t c =
 
 pub loop-child-preserved : goal.loop-child-preserved
 loop-child-preserved t c =
-    onward_more c.loop-child.invariant c.child_at-entry.ensures.child_said c.in-Answer.is c.child_at-entry.ensures.child_stays c.admits.ensures c.if-not-admits.false
-    c.open_block-opening.ensures.result_value c.open_block-opening.ensures.opened_after c.in-Answer-opening.is c.walk-reached.ensures c.in-Answer-reached.is
+    onward_more c.loop-child.invariant c.child_at-entry.ensures.child_said c.in-Answer.is c.child_at-entry.ensures.child_stays c.admits.ensures
+    c.if-not-admits.false
+    c.open_block-opening.ensures.result_value c.open_block-opening.ensures.opened_after c.in-Answer-opening.is c.walk-reached.ensures
+    c.in-Answer-reached.is
     c.walk-reached.auto.opened c.walk-reached.auto.results

@@ -5,5 +5,6 @@ use Rattle.sha256_block.proofs.block.next_word.Goals as goal
 
 pub returns : goal.returns
 returns c long =
-    rw (c.add-2.ensures, c.add.ensures, c.small_sigma0.ensures, c.add-recent.ensures, c.small_sigma1.ensures) (sym (next_word-take c.args.w.now c.args.t
+    rw (c.add-2.ensures, c.add.ensures, c.small_sigma0.ensures, c.add-recent.ensures, c.small_sigma1.ensures)
+    (sym (next_word-take c.args.w.now c.args.t
     (omega arith) long))

@@ -14,12 +14,15 @@ loop-t-init c = (
 pub loop-t-preserved : goal.loop-t-preserved
 unfolding K
 loop-t-preserved c =
-    let more = Mixed_four (words_of 16 c.args.block.now) c.args.hash c.loop-t.w c.loop-t.v c.round-v1.result c.round-v2.result c.round-v3.result c.round-v.result
-    c.next_word.result c.next_word-in-loop-t.result c.next_word-in-loop-t-2.result c.next_word-in-loop-t-3.result c.loop-t.t (words_of_length 16 c.args.block.now) (omega arith) c.loop-t.invariant.2 in (
+    let more = Mixed_four (words_of 16 c.args.block.now) c.args.hash c.loop-t.w c.loop-t.v c.round-v1.result c.round-v2.result c.round-v3.result
+    c.round-v.result
+    c.next_word.result c.next_word-in-loop-t.result c.next_word-in-loop-t-2.result c.next_word-in-loop-t-3.result c.loop-t.t
+    (words_of_length 16 c.args.block.now) (omega arith) c.loop-t.invariant.2 in (
       omega arith,
       omega
           arith,
-      more c.round-v1.ensures c.next_word.ensures c.round-v2.ensures c.next_word-in-loop-t.ensures c.round-v3.ensures c.next_word-in-loop-t-2.ensures c.round-v.ensures c.next_word-in-loop-t-3.ensures,
+      more c.round-v1.ensures c.next_word.ensures c.round-v2.ensures c.next_word-in-loop-t.ensures c.round-v3.ensures
+          c.next_word-in-loop-t-2.ensures c.round-v.ensures c.next_word-in-loop-t-3.ensures,
     )
 
 pub last_rounds-requires : goal.last_rounds-requires

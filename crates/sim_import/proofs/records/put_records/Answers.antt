@@ -11,7 +11,8 @@ put_record-used-requires c =
 
 pub overflow_add-used : goal.overflow_add-used
 overflow_add-used c =
-    let fits = writing_fits _ _ _ _ (c.requires) _ _ _ _ c.loop-k.invariant c.loop-k-test.true c.le64_at-from.ensures in omega (arith, c.put_record-used.ensures.0)
+    let fits = writing_fits _ _ _ _ (c.requires) _ _ _ _ c.loop-k.invariant c.loop-k-test.true c.le64_at-from.ensures in omega
+    (arith, c.put_record-used.ensures.0)
 
 pub loop-k-preserved : goal.loop-k-preserved
 loop-k-preserved c =

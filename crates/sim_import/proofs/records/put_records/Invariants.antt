@@ -9,7 +9,8 @@ use Rattle.sim_import.proofs.RecordLaws.{Writing}
 use Rattle.sim_import.proofs.records.put_records.Given as goal
 
 abbrev pub invariant-loop-k : goal.invariant-loop-k
-invariant-loop-k l = Writing (map (record_at l.x l.dump) (offsets l.count l.initial.output)) (length l.initial.output - 8 * l.count) l.initial.output l.output l.used l.k
+invariant-loop-k l = Writing (map (record_at l.x l.dump) (offsets l.count l.initial.output))
+    (length l.initial.output - 8 * l.count) l.initial.output l.output l.used l.k
 
 abbrev pub decreases-loop-k : goal.decreases-loop-k
 decreases-loop-k l = l.count - l.k

@@ -19,5 +19,6 @@ overflow_add-result c =
 
 pub returns : goal.returns
 returns c =
-    survey_some c.args.x c.args.adn.now _ _ (sym c.is_filled.ensures ∙ c.if-is_filled.false) (sym c.if-number-ne0.false ∙ c.refusal_of-number.ensures) (size_bytes
+    survey_some c.args.x c.args.adn.now _ _ (sym c.is_filled.ensures ∙ c.if-is_filled.false)
+    (sym c.if-number-ne0.false ∙ c.refusal_of-number.ensures) (size_bytes
     c.args.x c.args.adn.now _ _ _ c.name.ensures c.rest.ensures c.number_length.ensures)

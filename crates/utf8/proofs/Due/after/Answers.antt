@@ -58,5 +58,6 @@ returns-in_default c =
     c.new-in_default.ensures
     ∙ elim c.in_default.branch [
       | in_default-via-then-first-lt194 w ↦ due_after-same 0x80 0xc1 c.args.first (search rules) refl
-      | in_default-via-else-first-lt194+else-first-lt224+else-first-lt237+else-first-lt240+else-first-lt244 w ↦ due_after-same 0xf5 0xff c.args.first (search rules) refl
+      | in_default-via-else-first-lt194+else-first-lt224+else-first-lt237+else-first-lt240+else-first-lt244 w ↦ due_after-same 0xf5 0xff
+          c.args.first (search rules) refl
     ]

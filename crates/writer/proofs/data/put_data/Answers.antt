@@ -27,14 +27,16 @@ pub returns-then-size-eq0 : goal.returns-then-size-eq0
 unfolding bytes_of
 returns-then-size-eq0 c =
     λ xs row. let n = next_block c.args.output.now c.args.from c.args.records.now _ xs _ _ _ _ c.requires.count c.loop-at-test.true
-    (c.loop-at.invariant xs row) c.group_end-end.ensures in let long = putting_length c.args.output.now _ c.args.records.now _ _ _ _ _ (c.loop-at.invariant
+    (c.loop-at.invariant xs row) c.group_end-end.ensures in let long = putting_length c.args.output.now _ c.args.records.now _ _ _ _ _
+    (c.loop-at.invariant
     xs row) in putting_full c.args.output.now _ _ xs _ (block_none c.args.output.now c.args.from c.args.records.now _ xs _ _ _ _ _
     n long c.put_block-size.ensures.0 c.if-size-eq0.true)
 
 pub overflow_add-next : goal.overflow_add-next
 overflow_add-next c =
     let n = next_block c.args.output.now c.args.from c.args.records.now _ c.requires.records _ _ _ _ c.requires.count c.loop-at-test.true
-    (c.loop-at.invariant c.requires.records c.requires.row) c.group_end-end.ensures in let long = putting_length c.args.output.now _ c.args.records.now _ _
+    (c.loop-at.invariant c.requires.records c.requires.row) c.group_end-end.ensures in
+    let long = putting_length c.args.output.now _ c.args.records.now _ _
     _ _ _ (c.loop-at.invariant c.requires.records c.requires.row) in let room = block_room c.args.output.now c.args.from c.args.records.now _
     c.requires.records _ _ _ _ _ n long c.put_block-size.ensures.0 c.if-size-eq0.false in omega (arith, c.well_formed)
 
@@ -42,7 +44,8 @@ pub returns-then-next-gt-MAX_FILE : goal.returns-then-next-gt-MAX_FILE
 unfolding bytes_of
 returns-then-next-gt-MAX_FILE c =
     λ xs row. let n = next_block c.args.output.now c.args.from c.args.records.now _ xs _ _ _ _ c.requires.count c.loop-at-test.true
-    (c.loop-at.invariant xs row) c.group_end-end.ensures in let long = putting_length c.args.output.now _ c.args.records.now _ _ _ _ _ (c.loop-at.invariant
+    (c.loop-at.invariant xs row) c.group_end-end.ensures in let long = putting_length c.args.output.now _ c.args.records.now _ _ _ _ _
+    (c.loop-at.invariant
     xs row) in putting_full c.args.output.now _ _ xs _ (block_long c.args.output.now c.args.from c.args.records.now _ xs _ _ _ _ _
     n long c.put_block-size.ensures.0 c.if-size-eq0.false (omega arith))
 
@@ -54,7 +57,8 @@ loop-at-smaller c =
 pub loop-at-preserved : goal.loop-at-preserved
 loop-at-preserved c =
     λ xs row. let n = next_block c.args.output.now c.args.from c.args.records.now _ xs _ _ _ _ c.requires.count c.loop-at-test.true
-    (c.loop-at.invariant xs row) c.group_end-end.ensures in let long = putting_length c.args.output.now _ c.args.records.now _ _ _ _ _ (c.loop-at.invariant
+    (c.loop-at.invariant xs row) c.group_end-end.ensures in let long = putting_length c.args.output.now _ c.args.records.now _ _ _ _ _
+    (c.loop-at.invariant
     xs row) in block_put c.args.output.now c.args.from c.args.records.now _ xs _ _ _ _ _ n long c.put_block-size.ensures.0
     c.if-size-eq0.false (omega arith) _ c.put_block-size.ensures.1
 

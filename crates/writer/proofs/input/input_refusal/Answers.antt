@@ -22,11 +22,15 @@ returns-in-Answer c =
 pub returns-then-n-eq16 : goal.returns-then-n-eq16
 unfolding payloadSaid
 returns-then-n-eq16 c =
-    not_rising _ c.if-n-eq16.true ∙ input_refused c.args.metadata.now c.args.records.now _ _ (sym c.counts_fit.ensures ∙ c.if-not-counts_fit.false) (sym c.is_metadata.ensures ∙ c.if-not-is_metadata.false) _ (ap (payloadSaid 0) (sym c.in-Refused.is) ∙ c.records_at-read.ensures
+    not_rising _ c.if-n-eq16.true ∙ input_refused c.args.metadata.now c.args.records.now _ _
+    (sym c.counts_fit.ensures ∙ c.if-not-counts_fit.false) (sym c.is_metadata.ensures ∙ c.if-not-is_metadata.false) _
+    (ap (payloadSaid 0) (sym c.in-Refused.is) ∙ c.records_at-read.ensures
     0)
 
 pub returns-else-n-eq16 : goal.returns-else-n-eq16
 unfolding payloadSaid
 returns-else-n-eq16 c =
-    malformed _ c.if-n-eq16.false ∙ input_refused c.args.metadata.now c.args.records.now _ _ (sym c.counts_fit.ensures ∙ c.if-not-counts_fit.false) (sym c.is_metadata.ensures ∙ c.if-not-is_metadata.false) _ (ap (payloadSaid 0) (sym c.in-Refused.is) ∙ c.records_at-read.ensures
+    malformed _ c.if-n-eq16.false ∙ input_refused c.args.metadata.now c.args.records.now _ _
+    (sym c.counts_fit.ensures ∙ c.if-not-counts_fit.false) (sym c.is_metadata.ensures ∙ c.if-not-is_metadata.false) _
+    (ap (payloadSaid 0) (sym c.in-Refused.is) ∙ c.records_at-read.ensures
     0)
