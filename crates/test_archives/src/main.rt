@@ -23,14 +23,17 @@ use std::io;
 use std::io::{BufWriter, Read, Write};
 use std::rt::Files;
 
-// Opens a file and reads all of it, or says why it can't be opened.
+// The most that is read of a file. A longer one would be cut, and the corpus has none.
+const MOST: u64 = 65536;
+
+// Opens a file and reads it, or says why it can't be opened.
 fn contents<R: Files + Alloc + Eprint>(rt: &R, path: &[u8]) -> io::Result<Option<Vec<u8, R::A>>> {
     let name = String::from_utf8_lossy(rt.alloc(), path)?;
     match File::open(rt, name.as_str()) {
         Ok(file) => {
-            let mut open = file;
+            let mut part = file.take(MOST);
             let mut bytes = Vec::new(rt.alloc());
-            open.read_to_end(&mut bytes)?;
+            part.read_to_end(&mut bytes)?;
             Ok(Some(bytes))
         },
         Err(error) => {
