@@ -34,7 +34,7 @@ def files(*kinds):
 
 
 def is_answers(path):
-    return path.endswith(("/Proof.antt", "/Answers.antt", "/Invariants.antt"))
+    return "/proofs/" in path and path.endswith(("/Proof.antt", "/Answers.antt", "/Invariants.antt"))
 
 
 def declared():

@@ -5,7 +5,7 @@ ghost use Rattle.std.specs.Prelude.{◌≡◌};
 ghost use Rattle.outcome.specs.Outcome.{number_of};
 ghost use Rattle.crc64.specs.Crc64.{crc64};
 ghost use Rattle.payload.specs.Payload.{records_at, entries_at};
-ghost use Rattle.payload.specs.Answers.{payloadSaid};
+ghost use Rattle.payload.specs.Answers.{payload_said};
 ghost use Rattle.query.specs.Query.{query_of};
 ghost use Rattle.matching.specs.ResultList.{Stored, put_all};
 ghost use Rattle.bench_exports.specs.Digest.{digest_start};
@@ -47,7 +47,7 @@ pub extern "C" fn bench_sha256(bytes: &[u8]) -> u64
 
 // The number of a payload's refusal, or 0.
 fn refusal_number(read: PayloadOutcome) -> u64
-    ensures { result ≡ number_of (payloadSaid 0 read) }
+    ensures { result ≡ number_of (payload_said 0 read) }
 {
     match read {
         PayloadOutcome::Answer(_) => 0,

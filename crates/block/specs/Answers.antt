@@ -17,10 +17,10 @@ pub record Tallied : Type 0 where
 unfoldable pub tallied : Outcome Block → Outcome Tallied
 tallied o = o >>= λ b. answer (record { frame = b.frame; records = length b.records })
 
-unfoldable pub blockSaid : ℕ → BlockOutcome → Outcome Tallied
-blockSaid place (SoundBlock f records) = answer (record { frame = f; records = records })
-blockSaid place (NoBlock n) = refused n place
+unfoldable pub block_said : ℕ → BlockOutcome → Outcome Tallied
+block_said place (SoundBlock f records) = answer (record { frame = f; records = records })
+block_said place (NoBlock n) = refused n place
 
-unfoldable pub surveySaid : SurveyOutcome → Outcome Survey
-surveySaid (SoundFile s) = answer s
-surveySaid (NoFile number place) = refused number place
+unfoldable pub survey_said : SurveyOutcome → Outcome Survey
+survey_said (SoundFile s) = answer s
+survey_said (NoFile number place) = refused number place

@@ -17,7 +17,7 @@ pub enum BlockOutcome {
 
 // The block at an offset, with every test of one block (10 to 16, 21).
 pub fn block_at(file: &[u8], at: usize) -> BlockOutcome
-    ensures { answers.blockSaid at result ≡ answers.tallied (blocks.block_at file.now at) }
+    ensures { answers.block_said at result ≡ answers.tallied (blocks.block_at file.now at) }
 {
     let found = sound_frame_at(file, at);
     match found {
@@ -29,7 +29,7 @@ pub fn block_at(file: &[u8], at: usize) -> BlockOutcome
 // The block that a sound frame encloses.
 pub fn block_in(file: &[u8], f: Frame) -> BlockOutcome
     requires { (f.body < f.end) × (f.end ≤ length file.now) }
-    ensures { answers.blockSaid f.start result ≡ answers.tallied (blocks.block_in file.now f) }
+    ensures { answers.block_said f.start result ≡ answers.tallied (blocks.block_in file.now f) }
 {
     let level = f.level;
     let from = f.body + 1;
@@ -95,7 +95,7 @@ pub enum SurveyOutcome {
 
 // The block stage: every block from an offset to the file's end, front to back. `root` and `rootsize` are the header's.
 pub fn survey(file: &[u8], from: usize, root: u64, rootsize: u64) -> SurveyOutcome
-    ensures { answers.surveySaid result ≡ surveys.survey_of file.now from root rootsize }
+    ensures { answers.survey_said result ≡ surveys.survey_of file.now from root rootsize }
 {
     let mut at = from;
     let mut ordinary: usize = 0;

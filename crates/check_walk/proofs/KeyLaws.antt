@@ -17,7 +17,7 @@ use Rattle.part.specs.declared.Part.{Part}
 use Rattle.part.proofs.PartLaws.{part-take, length_part}
 use Rattle.framing.specs.Frame.{frame_at}
 use Rattle.payload.specs.Payload.{Text, Entry, text_at, entry_at}
-use Rattle.payload.specs.Answers.{textIn}
+use Rattle.payload.specs.Answers.{text_in}
 use Rattle.payload.proofs.PayloadLaws.{text⇒Placed}
 use Rattle.check_walk.specs.declared.keys.Span.{Span}
 use Rattle.check_walk.specs.declared.keys.Keys.{Keys}
@@ -54,8 +54,8 @@ over_records_start file at p e = going_start _ _ (end_of p) _ p.offset no_span (
 
 -- a record that was read in s
 pub over_record_read : (s : List ℕ) (p : Part) → end_of p ≤ length s → (span next : Span) → next ≡ span_joined span (record { first = p; last = p })
-    → (more : List Text) → span_over (textIn s p.offset p.length ∷ more) span ≡ span_over more next
-unfolding span_over span_one textIn
+    → (more : List Text) → span_over (text_in s p.offset p.length ∷ more) span ≡ span_over more next
+unfolding span_over span_one text_in
 over_record_read s p inside span next e more =
     ap (λ (k : ℕ). span_over more
     (span_joined span (record { first = record { offset = p.offset; length = k }; last = record { offset = p.offset; length = k } })))
@@ -158,9 +158,9 @@ over-keys_end file at child met = refl
 pub over_key : (file : List ℕ) (at end : ℕ) (child : ℕ → Keys → Keys) (key : Part) (offset size : ℕ) (met own next : Keys) → end_of key ≤ end
     → own ≡ child offset met → next ≡ entry_keys file at (bytes_in file key) met own
     → (more : List Entry)
-    → over_keys file at child (record { key = textIn (take end file) key.offset key.length; offset = offset; size = size } ∷ more) met
+    → over_keys file at child (record { key = text_in (take end file) key.offset key.length; offset = offset; size = size } ∷ more) met
     ≡ over_keys file at child more next
-unfolding over_keys textIn bytes_in
+unfolding over_keys text_in bytes_in
 over_key file at end child key offset size met own next inside walked e more =
     ap (λ (k : List ℕ). over_keys file at child more (entry_keys file at k met (child offset met))) (part-take file end key.offset key.length inside)
     ∙ ap (λ (o : Keys). over_keys file at child more (entry_keys file at (part file key.offset key.length) met o)) (sym walked)

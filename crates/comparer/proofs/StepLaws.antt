@@ -13,7 +13,7 @@ use Rattle.byte_string.specs.Order.{at_most}
 use Rattle.part.specs.Part.{part}
 use Rattle.part.specs.declared.Part.{Part}
 use Rattle.payload.specs.Payload.{Text}
-use Rattle.payload.specs.Answers.{textIn}
+use Rattle.payload.specs.Answers.{text_in}
 use Rattle.record.proofs.RecordLaws.{within_of}
 use Rattle.part.proofs.PartLaws.{length_part}
 use Rattle.shown.specs.Shown.{file_named, names_part, part_shown, shown_bytes}
@@ -37,25 +37,25 @@ module _ (first second : List ℕ) (xs ys : List Text) where
   unfolding next_said
   least_end e f = sym next_end ∙ ap₂ next_of e f
 
-  module _ (y : Part) (more : List Text) (f : textIn second y.offset y.length ∷ more ≡ ys) where
+  module _ (y : Part) (more : List Text) (f : text_in second y.offset y.length ∷ more ≡ ys) where
     pub least_second_only : [] ≡ xs → next_said first second (Record 2 y) ≡ next_of xs ys
     unfolding next_said file_named
     least_second_only e = sym (next_second_only _ more) ∙ ap₂ next_of e f
 
-  module _ (x : Part) (rest : List Text) (e : textIn first x.offset x.length ∷ rest ≡ xs) where
+  module _ (x : Part) (rest : List Text) (e : text_in first x.offset x.length ∷ rest ≡ xs) where
     pub least_first_only : [] ≡ ys → next_said first second (Record 1 x) ≡ next_of xs ys
     unfolding next_said file_named
     least_first_only f = sym (next_first_only _ rest) ∙ ap₂ next_of e f
 
-    module _ (y : Part) (more : List Text) (f : textIn second y.offset y.length ∷ more ≡ ys) where
+    module _ (y : Part) (more : List Text) (f : text_in second y.offset y.length ∷ more ≡ ys) where
       pub least_first : at_most (part first x.offset x.length) (part second y.offset y.length) ≡ true
           → next_said first second (Record 1 x) ≡ next_of xs ys
-      unfolding next_said file_named textIn
+      unfolding next_said file_named text_in
       least_first h = sym (next_first _ rest _ more h) ∙ ap₂ next_of e f
 
       pub least_second : at_most (part first x.offset x.length) (part second y.offset y.length) ≡ false
           → next_said first second (Record 2 y) ≡ next_of xs ys
-      unfolding next_said file_named textIn
+      unfolding next_said file_named text_in
       least_second h = sym (next_second _ rest _ more h) ∙ ap₂ next_of e f
 
 -- it is a part of its file
@@ -77,12 +77,12 @@ named_told first second r which text e h = subst (NextNamed first second) e h
 module _ (first second : List ℕ) (r : NextOutcome) (which : ℕ) (text : Part) (e : r ≡ Record which text) (named : NextNamed first second r) where
   -- its bytes are those that are handed back
   pub text_shown : (b : List ℕ) → b ≡ shown_bytes first second (part_shown first second which text.offset text.length)
-      → b ≡ (textIn (file_named first second which) text.offset text.length).bytes
-  unfolding shown_bytes textIn
+      → b ≡ (text_in (file_named first second which) text.offset text.length).bytes
+  unfolding shown_bytes text_in
   text_shown b is = is ∙ ap (shown_bytes first second) (named_place first second which text.offset text.length (named_told first second r which text e named))
 
-  pub text_long : text.length ≡ length (textIn (file_named first second which) text.offset text.length).bytes
-  unfolding textIn
+  pub text_long : text.length ≡ length (text_in (file_named first second which) text.offset text.length).bytes
+  unfolding text_in
   text_long =
       sym (length_part (file_named first second which) text.offset text.length
       (named_within first second which text.offset text.length (named_told first second r which text e named)))

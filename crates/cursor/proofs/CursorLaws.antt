@@ -17,7 +17,7 @@ use Rattle.framing.proofs.FrameLaws.{frame⇒Framed}
 use Rattle.part.specs.declared.Part.{Part}
 use Rattle.part.proofs.PartLaws.{part-take}
 use Rattle.payload.specs.Payload.{Text, text_at}
-use Rattle.payload.specs.Answers.{textIn}
+use Rattle.payload.specs.Answers.{text_in}
 use Rattle.payload.proofs.ReadLaws.{text_any_place, text_forward, text_within}
 use Rattle.block.specs.Block.{is_data}
 use Rattle.block.specs.Laid.{laid_in, laid_at, laid_from, laid_records}
@@ -84,9 +84,9 @@ module _ (file : List ℕ) where
   follow_cut at end limit block e = ap (λ (s : List ℕ). records_from 0 s at ++ records_of (laid_from file block)) e
 
   -- a record is found in the payload
-  pub follow_text : (at end block start n : ℕ) → text_at 0 (take end file) at ≡ answer (record { item = textIn (take end file) start n; next = start + n })
-      → (start + n ≤ end) × (follow at end block ≡ textIn file start n ∷ follow (start + n) end block)
-  unfolding following records_from textIn
+  pub follow_text : (at end block start n : ℕ) → text_at 0 (take end file) at ≡ answer (record { item = text_in (take end file) start n; next = start + n })
+      → (start + n ≤ end) × (follow at end block ≡ text_in file start n ∷ follow (start + n) end block)
+  unfolding following records_from text_in
   follow_text at end block start n e =
       let s = take end file in
       let within : start + n ≤ length s = text_within 0 s at _ e in

@@ -1,7 +1,7 @@
 -- A cursor stands for the records that follow it.
 use Rattle.std.specs.Prelude.{ℕ, ◌+◌, ◌≤◌, List, [], ◌∷◌, ◌++◌, length, take}
 use Rattle.payload.specs.Payload.{Text}
-use Rattle.payload.specs.Answers.{textIn}
+use Rattle.payload.specs.Answers.{text_in}
 use Rattle.block.specs.Laid.{laid_from}
 use Rattle.block.specs.Survey.{records_of}
 use Rattle.matching.specs.Matching.{records_from}
@@ -15,7 +15,7 @@ following file c = records_from 0 (take c.end file) c.at ++ records_of (laid_fro
 
 -- what an answer says of the records that follow
 unfoldable pub record_said : List ℕ → RecordOutcome → List Text
-record_said file (Answer text here after) = textIn file text.offset text.length ∷ following file after
+record_said file (Answer text here after) = text_in file text.offset text.length ∷ following file after
 record_said file (End here) = []
 
 -- the record that an answer names lies within the file

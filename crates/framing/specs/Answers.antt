@@ -8,10 +8,10 @@ use Rattle.framing.specs.declared.NumberOutcome.TheVariants.{Answer as Value, Re
 use Rattle.framing.specs.declared.FrameOutcome.{FrameOutcome}
 use Rattle.framing.specs.declared.FrameOutcome.TheVariants.{Answer as Found, Refused as NoFrame}
 
-unfoldable pub numberSaid : ℕ → NumberOutcome → Outcome (Step ℕ)
-numberSaid place (Value value next) = answer (record { item = value; next = next })
-numberSaid place (NoValue n) = refused n place
+unfoldable pub number_said : ℕ → NumberOutcome → Outcome (Step ℕ)
+number_said place (Value value next) = answer (record { item = value; next = next })
+number_said place (NoValue n) = refused n place
 
-unfoldable pub frameSaid : ℕ → FrameOutcome → Outcome Frame
-frameSaid place (Found f) = answer f
-frameSaid place (NoFrame n) = refused n place
+unfoldable pub frame_said : ℕ → FrameOutcome → Outcome Frame
+frame_said place (Found f) = answer f
+frame_said place (NoFrame n) = refused n place

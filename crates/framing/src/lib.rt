@@ -36,7 +36,7 @@ pub enum NumberOutcome {
 
 // The number at an offset of `s`, which ends with `s`; `cut` is the refusal where it is cut off.
 pub fn number_at(s: &[u8], at: usize, cut: u64) -> NumberOutcome
-    ensures { (place : ℕ) → answers.numberSaid place result ≡ frames.number_at cut place s.now at }
+    ensures { (place : ℕ) → answers.number_said place result ≡ frames.number_at cut place s.now at }
 {
     if s.len() < at {
         return NumberOutcome::Refused(cut);
@@ -61,7 +61,7 @@ pub enum FrameOutcome {
 
 // The frame at an offset, apart from its CRC (10 to 13).
 pub fn frame_at(file: &[u8], at: usize) -> FrameOutcome
-    ensures { answers.frameSaid at result ≡ frames.frame_at file.now at }
+    ensures { answers.frame_said at result ≡ frames.frame_at file.now at }
 {
     let number = number_at(file, at, 10);
     match number {
@@ -73,7 +73,7 @@ pub fn frame_at(file: &[u8], at: usize) -> FrameOutcome
 // The frame whose number has been read.
 fn framed(file: &[u8], at: usize, value: u64, next: usize) -> FrameOutcome
     requires { (at ≤ next) × (next ≤ length file.now) }
-    ensures { answers.frameSaid at result ≡ frames.framed file.now at (record { item = value; next = next }) }
+    ensures { answers.frame_said at result ≡ frames.framed file.now at (record { item = value; next = next }) }
 {
     if value < 1 {
         return FrameOutcome::Refused(13);
@@ -105,7 +105,7 @@ fn crc_right(file: &[u8], body: usize, end: usize) -> bool
 
 // The frame at an offset with its CRC (10 to 14).
 pub fn sound_frame_at(file: &[u8], at: usize) -> FrameOutcome
-    ensures { answers.frameSaid at result ≡ frames.sound_frame_at file.now at }
+    ensures { answers.frame_said at result ≡ frames.sound_frame_at file.now at }
 {
     let found = frame_at(file, at);
     match found {

@@ -18,7 +18,7 @@ use Rattle.framing.specs.declared.Frame.{Frame}
 use Rattle.framing.specs.Frame.{frame_at}
 use Rattle.framing.proofs.FrameLaws.{Framed, frame⇒Framed}
 use Rattle.payload.specs.Payload.{Text, text_at}
-use Rattle.payload.specs.Answers.{textIn}
+use Rattle.payload.specs.Answers.{text_in}
 use Rattle.payload.proofs.PayloadLaws.{text⇒Placed}
 use Rattle.block.specs.Block.{is_data}
 use Rattle.layout.specs.Index.{IndexEntry}
@@ -92,7 +92,7 @@ module _ (s before : List ℕ) (at : ℕ) where
 
 module _ (s : List ℕ) (p : Position) (f : Frame) (Framed-at : frame_at s p.offset ≡ answer f) (first : Part)
     (read : text_at p.offset (take f.end s) (f.body + 1)
-    ≡ answer (record { item = textIn (take f.end s) first.offset first.length; next = first.offset + first.length })) where
+    ≡ answer (record { item = text_in (take f.end s) first.offset first.length; next = first.offset + first.length })) where
   -- where the first text lies
   pub record FirstLies : Type 0 where
     pub after : p.offset < first.offset
@@ -102,7 +102,7 @@ module _ (s : List ℕ) (p : Position) (f : Frame) (Framed-at : frame_at s p.off
     pub cut : length (take f.end s) ≡ f.end
 
   pub first_lies : FirstLies
-  unfolding textIn
+  unfolding text_in
   first_lies =
       let framed = frame⇒Framed s p.offset f Framed-at in
       let number = framed.number in
@@ -133,7 +133,7 @@ module _ (s : List ℕ) (p : Position) (f : Frame) (Framed-at : frame_at s p.off
   Told key last = (child_said s p (AChild key last f.size) ≡ child_at s p) × ChildWithin s p (AChild key last f.size)
 
   pub index_child_told : (f.level ≡ 0 → ⊥) → Told first first
-  unfolding is_data bytes_of child_at child_said ChildWithin entry_in textIn
+  unfolding is_data bytes_of child_at child_said ChildWithin entry_in text_in
   index_child_told d =
       let l = first_lies in
       let after = l.after in
@@ -149,7 +149,7 @@ module _ (s : List ℕ) (p : Position) (f : Frame) (Framed-at : frame_at s p.off
       → key.offset ≡ first.offset → key.length ≤ first.length
       → bytes_of (take f.end s) last ≡ last_from (take f.end s) (first.offset + first.length) (bytes_of (take f.end s) first)
       → Within (take f.end s) last → Told key last
-  unfolding is_data bytes_of child_at child_said ChildWithin entry_in textIn Within
+  unfolding is_data bytes_of child_at child_said ChildWithin entry_in text_in Within
   data_child_told d key last key_is starts shorter last_is last_within =
       let l = first_lies in
       let after = l.after in

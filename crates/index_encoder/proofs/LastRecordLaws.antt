@@ -10,7 +10,7 @@ use Rattle.outcome.specs.Outcome.{answer, refused}
 use Rattle.items.proofs.GoingLaws.{Going, going_start, going_end, going_refused, going_more}
 use Rattle.part.specs.declared.Part.{Part}
 use Rattle.payload.specs.Payload.{text_at}
-use Rattle.payload.specs.Answers.{textIn}
+use Rattle.payload.specs.Answers.{text_in}
 use Rattle.payload.proofs.PayloadLaws.{text⇒Placed}
 use Rattle.index_encoder.specs.Children.{bytes_of, Within, last_text, last_from}
 
@@ -41,13 +41,13 @@ module _ (s : List ℕ) (first : Part) where
       passing_refused number place e =
           (sym (going_refused last_text (text_at 0 s) (length s) whole at (bytes_of s last) before p.going number place e), p.within)
 
-      module _ (next : Part) (e : text_at 0 s at ≡ answer (record { item = textIn s next.offset next.length; next = next.offset + next.length })) where
+      module _ (next : Part) (e : text_at 0 s at ≡ answer (record { item = text_in s next.offset next.length; next = next.offset + next.length })) where
         pub passing_forward : (at < next.offset + next.length) × (next.offset + next.length ≤ length s)
-        unfolding textIn
+        unfolding text_in
         passing_forward = let placed = text⇒Placed 0 s at _ e in let a : at < next.offset = placed.forward in (omega arith, placed.within)
 
         pub passing_more : Passing next (next.offset + next.length)
-        unfolding last_text last_or textIn bytes_of Within
+        unfolding last_text last_or text_in bytes_of Within
         passing_more =
             record {
               going = going_more last_text (text_at 0 s) (length s) whole at (bytes_of s last) before p.going _ e passing_forward.0 (bytes_of s next)

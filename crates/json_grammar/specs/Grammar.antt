@@ -83,12 +83,12 @@ pub data Char : List ℕ → Type 0 where
   escaped : {b : ℕ} → Memᴰ b (0x22 ∷ 0x5c ∷ 0x2f ∷ 0x62 ∷ 0x66 ∷ 0x6e ∷ 0x72 ∷ 0x74 ∷ []) → Char (0x5c ∷ b ∷ [])
   unicode : {a b c d : ℕ} → Hex a → Hex b → Hex c → Hex d → Char (0x5c ∷ 0x75 ∷ a ∷ b ∷ c ∷ d ∷ [])
 
--- *char quotation_mark
+-- *char quotation-mark
 pub data Chars : List ℕ → Type 0 where
   quotation_mark : Chars (0x22 ∷ [])
   char : {c s : List ℕ} → Char c → Chars s → Chars (c ++ s)
 
--- string = quotation_mark *char quotation_mark
+-- string = quotation-mark *char quotation-mark
 pub data String : List ℕ → Type 0 where
   string : {s : List ℕ} → Chars s → String (0x22 ∷ s)
 

@@ -15,7 +15,7 @@ use Rattle.json_text.specs.declared.items.Next.TheVariants.{Item, Closed as Clos
 use Rattle.json_grammar.specs.Recogniser.{◌>>=◌, skip, is_digit, digits_end, skip_minus, int_end, number_end}
 use Rattle.json_grammar.specs.Recogniser.{structural_end, scalar_end, plain_end, item_next, items_from, items_end, container_end}
 use Rattle.json_grammar.specs.Recogniser.{member_over, object_over, array_over, value_over, value_end, object_end, array_end, is_done, is_object}
-use Rattle.json_text.specs.Answers.{first, endSaid, noItems, next_said, opened}
+use Rattle.json_text.specs.Answers.{first, end_said, no_items, next_said, opened}
 use Rattle.json_grammar.proofs.BindLaws.{by_cond, only⁻¹, none_not_some, some_injective, bind_some, bind_none}
 use Rattle.json_grammar.proofs.FrontLaws.{Shortens}
 use Rattle.json_text.proofs.PositionLaws.{past, here}
@@ -95,15 +95,15 @@ module _ (item : List ℕ → Option (List ℕ)) (close : ℕ) (shortens : Short
         go (ClosedAt p) e = omega arith
         go Neither e = omega arith
 
-pub unclosed : (s : List ℕ) (next : Next) → ((p : ℕ) → next ≡ ClosedAt p → ⊥) → none ≡ next_said s noItems next
-unfolding next_said noItems
+pub unclosed : (s : List ℕ) (next : Next) → ((p : ℕ) → next ≡ ClosedAt p → ⊥) → none ≡ next_said s no_items next
+unfolding next_said no_items
 unclosed s (Item p) other = refl
 unclosed s (ClosedAt p) other = absurd (other p refl)
 unclosed s Neither other = refl
 
 -- no item is left
 pub items_ended : (s : List ℕ) (items : List ℕ → Option (List ℕ)) (next : Next) (r : End) (whole : Option (List ℕ))
-    → ((p : ℕ) → next ≡ Item p → ⊥) → endSaid s r ≡ next_said s noItems next → next_said s items next ≡ whole → endSaid s r ≡ whole
+    → ((p : ℕ) → next ≡ Item p → ⊥) → end_said s r ≡ next_said s no_items next → next_said s items next ≡ whole → end_said s r ≡ whole
 unfolding next_said
 items_ended s items (Item p) r whole no_item e inv = absurd (no_item p refl)
 items_ended s items (ClosedAt p) r whole no_item e inv = e ∙ inv

@@ -14,7 +14,7 @@ use lib.Seq.{drop-cons, drop-drop}
 use Rattle.json_grammar.specs.Recogniser.{skip_while}
 use Rattle.json_text.specs.declared.End.{End}
 use Rattle.json_text.specs.declared.End.TheVariants.{At, Nowhere}
-use Rattle.json_text.specs.Answers.{first, endSaid}
+use Rattle.json_text.specs.Answers.{first, end_said}
 
 -- nothing is left past the end
 pub past : (s : List ℕ) (at : ℕ) → length s ≤ at → drop at s ≡ []
@@ -49,13 +49,13 @@ one_more s at = sym (drop-drop 1 at s)
 
 -- ---- where a text ends
 
-pub ends : (s : List ℕ) (r : End) (p : ℕ) (o : Option (List ℕ)) → endSaid s r ≡ o → r ≡ At p → some (drop p s) ≡ o
-unfolding endSaid
-ends s r p o e said = ap (endSaid s) (sym said) ∙ e
+pub ends : (s : List ℕ) (r : End) (p : ℕ) (o : Option (List ℕ)) → end_said s r ≡ o → r ≡ At p → some (drop p s) ≡ o
+unfolding end_said
+ends s r p o e said = ap (end_said s) (sym said) ∙ e
 
-pub ends_nowhere : (s : List ℕ) (r : End) (o : Option (List ℕ)) → endSaid s r ≡ o → r ≡ Nowhere → none ≡ o
-unfolding endSaid
-ends_nowhere s r o e said = ap (endSaid s) (sym said) ∙ e
+pub ends_nowhere : (s : List ℕ) (r : End) (o : Option (List ℕ)) → end_said s r ≡ o → r ≡ Nowhere → none ≡ o
+unfolding end_said
+ends_nowhere s r o e said = ap (end_said s) (sym said) ∙ e
 
 -- ---- passing over the bytes that a test takes
 

@@ -11,7 +11,7 @@ use borrow.Author.Tests.{ne_eqb, le-leb, lt-leb}
 use Rattle.json_text.specs.declared.string.Step.{Step}
 use Rattle.json_text.specs.declared.string.Step.TheVariants.{Closed, Due, Stray}
 use Rattle.json_grammar.specs.Recogniser.{is_hex, is_escape, chars_end, string_end}
-use Rattle.json_text.specs.Answers.{first, stepSaid}
+use Rattle.json_text.specs.Answers.{first, step_said}
 use Rattle.json_text.proofs.PositionLaws.{past, here, begins}
 use Rattle.json_grammar.proofs.StringLaws.{escape_plain}
 
@@ -56,21 +56,21 @@ module _ (due b : ℕ) (s : List ℕ) where
 
 -- ---- the byte at a position
 
-module _ (s : List ℕ) (at due : ℕ) (r : Step) (within : at < length s) (said : (t : List ℕ) → stepSaid t r ≡ chars_end due (get_or s at 0 ∷ t)) where
-  stepped : stepSaid (drop (at + 1) s) r ≡ chars_end due (drop at s)
+module _ (s : List ℕ) (at due : ℕ) (r : Step) (within : at < length s) (said : (t : List ℕ) → step_said t r ≡ chars_end due (get_or s at 0 ∷ t)) where
+  stepped : step_said (drop (at + 1) s) r ≡ chars_end due (drop at s)
   stepped = said (drop (at + 1) s) ∙ ap (chars_end due) (sym (here s at within))
 
   pub step_closed : r ≡ Closed → some (drop (at + 1) s) ≡ chars_end due (drop at s)
-  unfolding stepSaid
-  step_closed e = ap (stepSaid (drop (at + 1) s)) (sym e) ∙ stepped
+  unfolding step_said
+  step_closed e = ap (step_said (drop (at + 1) s)) (sym e) ∙ stepped
 
   pub step_due : (n : ℕ) → r ≡ Due n → chars_end n (drop (at + 1) s) ≡ chars_end due (drop at s)
-  unfolding stepSaid
-  step_due n e = ap (stepSaid (drop (at + 1) s)) (sym e) ∙ stepped
+  unfolding step_said
+  step_due n e = ap (step_said (drop (at + 1) s)) (sym e) ∙ stepped
 
   pub step_stray : r ≡ Stray → none ≡ chars_end due (drop at s)
-  unfolding stepSaid
-  step_stray e = ap (stepSaid (drop (at + 1) s)) (sym e) ∙ stepped
+  unfolding step_said
+  step_stray e = ap (step_said (drop (at + 1) s)) (sym e) ∙ stepped
 
 pub chars_cut : (s : List ℕ) (at due : ℕ) → length s ≤ at → none ≡ chars_end due (drop at s)
 unfolding chars_end

@@ -22,18 +22,18 @@ is_of Space = is_space
 is_of Digit = is_digit
 
 -- where a text ends, or that there is none
-unfoldable pub endSaid : List ℕ → End → Option (List ℕ)
-endSaid s (At p) = some (drop p s)
-endSaid s Nowhere = none
+unfoldable pub end_said : List ℕ → End → Option (List ℕ)
+end_said s (At p) = some (drop p s)
+end_said s Nowhere = none
 
 -- what a byte of a string does, before the bytes `s`
-unfoldable pub stepSaid : List ℕ → Step → Option (List ℕ)
-stepSaid s Closed = some s
-stepSaid s (Due n) = chars_end n s
-stepSaid s Stray = none
+unfoldable pub step_said : List ℕ → Step → Option (List ℕ)
+step_said s Closed = some s
+step_said s (Due n) = chars_end n s
+step_said s Stray = none
 
-unfoldable pub noItems : List ℕ → Option (List ℕ)
-noItems s = none
+unfoldable pub no_items : List ℕ → Option (List ℕ)
+no_items s = none
 
 -- where the next item begins, from which `items` go on, or where the object or array ends
 unfoldable pub next_said : List ℕ → (items : List ℕ → Option (List ℕ)) → Next → Option (List ℕ)

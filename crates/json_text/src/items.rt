@@ -2,7 +2,7 @@
 ghost use Rattle.std.specs.Prelude.{ℕ, ◌≡◌, List, drop};
 ghost use Rattle.std.proofs.Math.Option.{Option};
 ghost use Rattle.json_grammar.specs.Recogniser.{item_next, items_end, container_end, name_end};
-ghost use Rattle.json_text.specs.Answers.{endSaid, noItems, next_said, opened};
+ghost use Rattle.json_text.specs.Answers.{end_said, no_items, next_said, opened};
 
 use crate::End;
 use crate::space::{skip, structural};
@@ -48,7 +48,7 @@ pub fn after_item(s: &[u8], at: usize, close: u8) -> Next
 
 // Where the object or array ends, if it is closed.
 pub fn closed(next: Next) -> End
-    ensures { (s : List ℕ) → endSaid s result ≡ next_said s noItems next }
+    ensures { (s : List ℕ) → end_said s result ≡ next_said s no_items next }
 {
     match next {
         Next::Closed(end) => End::At(end),
@@ -58,7 +58,7 @@ pub fn closed(next: Next) -> End
 
 // The name of a member, and its separator.
 pub fn name(s: &[u8], at: usize) -> End
-    ensures { endSaid s.now result ≡ name_end (drop at s.now) }
+    ensures { end_said s.now result ≡ name_end (drop at s.now) }
 {
     match string(s, at) {
         End::At(end) => structural(s, skip(s, end), b':'),

@@ -1,7 +1,7 @@
 // Numbers.
 ghost use Rattle.std.specs.Prelude.{◌≡◌, drop};
 ghost use Rattle.json_grammar.specs.Recogniser as recogniser;
-ghost use Rattle.json_text.specs.Answers.{endSaid};
+ghost use Rattle.json_text.specs.Answers.{end_said};
 
 use crate::End;
 use crate::byte::{byte_at, is_digit};
@@ -9,7 +9,7 @@ use crate::space::skip_digits;
 
 // One digit or more.
 fn digits(s: &[u8], at: usize) -> End
-    ensures { endSaid s.now result ≡ recogniser.digits_end (drop at s.now) }
+    ensures { end_said s.now result ≡ recogniser.digits_end (drop at s.now) }
 {
     if is_digit(byte_at(s, at)) {
         End::At(skip_digits(s, at + 1))
@@ -26,7 +26,7 @@ fn skip_minus(s: &[u8], at: usize) -> usize
 
 // The integer: zero, or digits that don't begin with one.
 fn int(s: &[u8], at: usize) -> End
-    ensures { endSaid s.now result ≡ recogniser.int_end (drop at s.now) }
+    ensures { end_said s.now result ≡ recogniser.int_end (drop at s.now) }
 {
     if byte_at(s, at) == b'0' {
         End::At(at + 1)
@@ -37,7 +37,7 @@ fn int(s: &[u8], at: usize) -> End
 
 // The fraction, or nothing.
 fn frac(s: &[u8], at: usize) -> End
-    ensures { endSaid s.now result ≡ recogniser.frac_end (drop at s.now) }
+    ensures { end_said s.now result ≡ recogniser.frac_end (drop at s.now) }
 {
     if byte_at(s, at) == b'.' {
         digits(s, at + 1)
@@ -57,7 +57,7 @@ fn skip_sign(s: &[u8], at: usize) -> usize
 
 // The exponent, or nothing.
 fn exp(s: &[u8], at: usize) -> End
-    ensures { endSaid s.now result ≡ recogniser.exp_end (drop at s.now) }
+    ensures { end_said s.now result ≡ recogniser.exp_end (drop at s.now) }
 {
     match byte_at(s, at) {
         b'e' | b'E' => digits(s, skip_sign(s, at + 1)),
@@ -66,7 +66,7 @@ fn exp(s: &[u8], at: usize) -> End
 }
 
 pub fn number(s: &[u8], at: usize) -> End
-    ensures { endSaid s.now result ≡ recogniser.number_end (drop at s.now) }
+    ensures { end_said s.now result ≡ recogniser.number_end (drop at s.now) }
 {
     let End::At(point) = int(s, skip_minus(s, at)) else {
         return End::Nowhere;

@@ -1,7 +1,7 @@
 // Values that hold no others.
 ghost use Rattle.std.specs.Prelude.{◌≡◌, drop};
 ghost use Rattle.json_grammar.specs.Recogniser.{word_end, scalar_end, plain_end};
-ghost use Rattle.json_text.specs.Answers.{endSaid};
+ghost use Rattle.json_text.specs.Answers.{end_said};
 
 use crate::End;
 use crate::byte::byte_at;
@@ -11,7 +11,7 @@ use crate::string::string;
 
 // These very bytes.
 fn word(s: &[u8], from: usize, word: &[u8]) -> End
-    ensures { endSaid s.now result ≡ word_end word.now (drop from s.now) }
+    ensures { end_said s.now result ≡ word_end word.now (drop from s.now) }
 {
     let mut at = from;
     let mut i = 0;
@@ -30,7 +30,7 @@ fn word(s: &[u8], from: usize, word: &[u8]) -> End
 
 // False, null, true, a string or a number.
 fn scalar(s: &[u8], at: usize) -> End
-    ensures { endSaid s.now result ≡ scalar_end (drop at s.now) }
+    ensures { end_said s.now result ≡ scalar_end (drop at s.now) }
 {
     match byte_at(s, at) {
         b'"' => string(s, at),
@@ -43,7 +43,7 @@ fn scalar(s: &[u8], at: usize) -> End
 
 // A scalar, and the white space after it.
 pub fn plain(s: &[u8], at: usize) -> End
-    ensures { endSaid s.now result ≡ plain_end (drop at s.now) }
+    ensures { end_said s.now result ≡ plain_end (drop at s.now) }
 {
     match scalar(s, at) {
         End::At(end) => End::At(skip(s, end)),

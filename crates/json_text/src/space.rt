@@ -1,7 +1,7 @@
 // White space, digits and structural characters.
 ghost use Rattle.std.specs.Prelude.{◌≡◌, drop};
 ghost use Rattle.json_grammar.specs.Recogniser.{skip_while, skip, skip_digits, structural_end};
-ghost use Rattle.json_text.specs.Answers.{endSaid, is_of};
+ghost use Rattle.json_text.specs.Answers.{end_said, is_of};
 
 use crate::End;
 use crate::byte::{is_digit, is_space};
@@ -52,7 +52,7 @@ pub fn skip_digits(s: &[u8], from: usize) -> usize
 
 // A structural character, and the white space after it.
 pub fn structural(s: &[u8], at: usize, character: u8) -> End
-    ensures { endSaid s.now result ≡ structural_end character (drop at s.now) }
+    ensures { end_said s.now result ≡ structural_end character (drop at s.now) }
 {
     if s.len() <= at {
         return End::Nowhere;

@@ -1,7 +1,7 @@
 // Strings.
 ghost use Rattle.std.specs.Prelude.{ℕ, ◌≡◌, List, ◌∷◌, drop};
 ghost use Rattle.json_grammar.specs.Recogniser.{chars_end, string_end};
-ghost use Rattle.json_text.specs.Answers.{endSaid, stepSaid};
+ghost use Rattle.json_text.specs.Answers.{end_said, step_said};
 
 use crate::End;
 use crate::byte::{byte_at, is_hex};
@@ -19,7 +19,7 @@ enum Step {
 
 // What a byte does where so much is due.
 fn pass_byte(due: u8, b: u8) -> Step
-    ensures { (s : List ℕ) → stepSaid s result ≡ chars_end due (b ∷ s) }
+    ensures { (s : List ℕ) → step_said s result ≡ chars_end due (b ∷ s) }
 {
     match due {
         0 => match b {
@@ -45,7 +45,7 @@ fn pass_byte(due: u8, b: u8) -> Step
 
 // What follows a quotation mark, up to the closing one.
 fn chars(s: &[u8], from: usize) -> End
-    ensures { endSaid s.now result ≡ chars_end 0 (drop from s.now) }
+    ensures { end_said s.now result ≡ chars_end 0 (drop from s.now) }
 {
     let mut due: u8 = 0;
     let mut at = from;
@@ -62,7 +62,7 @@ fn chars(s: &[u8], from: usize) -> End
 }
 
 pub fn string(s: &[u8], at: usize) -> End
-    ensures { endSaid s.now result ≡ string_end (drop at s.now) }
+    ensures { end_said s.now result ≡ string_end (drop at s.now) }
 {
     if byte_at(s, at) == b'"' {
         chars(s, at + 1)

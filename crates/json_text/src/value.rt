@@ -1,7 +1,7 @@
 // Values, objects and arrays, which hold each other.
 ghost use Rattle.std.specs.Prelude.{◌≡◌, drop};
 ghost use Rattle.json_grammar.specs.Recogniser.{value_end, object_end, array_end};
-ghost use Rattle.json_text.specs.Answers.{endSaid};
+ghost use Rattle.json_text.specs.Answers.{end_said};
 
 use crate::End;
 use crate::byte::byte_at;
@@ -11,7 +11,7 @@ use crate::scalar::plain;
 // A value with objects and arrays nested at most `depth` deep, and the white space after it.
 #[cycle(array_object_value)]
 fn value(s: &[u8], at: usize, depth: u8) -> End
-    ensures { endSaid s.now result ≡ value_end depth (drop at s.now) }
+    ensures { end_said s.now result ≡ value_end depth (drop at s.now) }
 {
     match byte_at(s, at) {
         b'{' => object(s, at, depth),
@@ -23,7 +23,7 @@ fn value(s: &[u8], at: usize, depth: u8) -> End
 // An object, itself among the `depth`, and the white space after it.
 #[cycle(array_object_value)]
 pub fn object(s: &[u8], from: usize, depth: u8) -> End
-    ensures { endSaid s.now result ≡ object_end depth (drop from s.now) }
+    ensures { end_said s.now result ≡ object_end depth (drop from s.now) }
 {
     if depth == 0 {
         return End::Nowhere;
@@ -44,7 +44,7 @@ pub fn object(s: &[u8], from: usize, depth: u8) -> End
 // An array, likewise.
 #[cycle(array_object_value)]
 fn array(s: &[u8], from: usize, depth: u8) -> End
-    ensures { endSaid s.now result ≡ array_end depth (drop from s.now) }
+    ensures { end_said s.now result ≡ array_end depth (drop from s.now) }
 {
     if depth == 0 {
         return End::Nowhere;

@@ -17,7 +17,7 @@ use Rattle.items.proofs.ItemsLaws.{Row, row_end, row_more}
 use Rattle.part.proofs.PartLaws.{length_part}
 use Rattle.framing.proofs.FrameLaws.{numbered}
 use Rattle.payload.specs.Payload.{Text, text_at, rising, payload_at, records_at}
-use Rattle.payload.specs.Answers.{textIn}
+use Rattle.payload.specs.Answers.{text_in}
 use Rattle.payload.proofs.PayloadLaws.{text⁻¹}
 use Rattle.layout.specs.Blocks.{text_bytes, records_bytes}
 use Rattle.layout.specs.Placed.{placed_text, placed_records}
@@ -74,7 +74,7 @@ input_injective rs ss h k same =
 
 -- records that are read are short
 pub row_short : (place : ℕ) (s : List ℕ) (at : ℕ) (xs : List Text) → Row (text_at place s) (length s) at xs → ShortRecords (map (λ x. x.bytes) xs)
-unfolding textIn
+unfolding text_in
 row_short place s at xs (row_end h) r m = absurd (Memᴰ.not-nil m)
 row_short place s at xs (row_more t more before e row) r m = go (Memᴰ.cases_cons m) (λ i. row_short place s t.next more row r i)
   where

@@ -20,7 +20,7 @@ use Rattle.items.specs.Items.{Step}
 use Rattle.items.proofs.ItemsLaws.{Row, row_end, row_more}
 use Rattle.framing.proofs.FrameLaws.{Numbered, numbered, number_read}
 use Rattle.payload.specs.Payload.{Text, text_at}
-use Rattle.payload.specs.Answers.{textIn}
+use Rattle.payload.specs.Answers.{text_in}
 use Rattle.payload.proofs.PayloadLaws.{text⁻¹}
 use Rattle.layout.specs.Blocks.{text_bytes, records_bytes}
 
@@ -31,13 +31,13 @@ pub record Encoded (s : List ℕ) (at : ℕ) (t : Step Text) : Type 0 where
   pub bytes : part s at (t.next - at) ≡ text_bytes t.item.bytes
 
 pub text_encoded : (place : ℕ) (s : List ℕ) (at : ℕ) (t : Step Text) → AreBytes s → text_at place s at ≡ answer t → Encoded s at t
-unfolding text_bytes textIn part
+unfolding text_bytes text_in part
 text_encoded place s at t bytes e =
     let r = text⁻¹ place s at t e in
     go r.0 (numbered 15 place s at r.0 r.1) (number_read 15 place s at r.0 r.1) r.2 r.3
   where
     go : (n : Step ℕ) → Numbered s at n → (used : ℕ) × (reading (drop at s) ≡ number n.item used) × (n.next ≡ at + used) → n.next + n.item ≤ length s
-        → record { item = textIn s n.next n.item; next = n.next + n.item } ≡ t → Encoded s at t
+        → record { item = text_in s n.next n.item; next = n.next + n.item } ≡ t → Encoded s at t
     go n numbers r h same =
         let used = r.0 in
         let ends = r.2 in

@@ -22,7 +22,7 @@ use Rattle.part.specs.Part.{part}
 use Rattle.framing.specs.Frame.{read_as, number_at, frame_at, framed, crc_right, sound_frame_at}
 use Rattle.framing.proofs.FrameLaws.{framed_found, sound_frame}
 use Rattle.payload.specs.Payload.{text_at, entry_at, entry_sized}
-use Rattle.payload.specs.Answers.{textIn}
+use Rattle.payload.specs.Answers.{text_in}
 use Rattle.payload.proofs.PayloadLaws.{text_found, entry_read}
 use Rattle.layout.specs.Blocks.{text_bytes, block_bytes, block_size}
 use Rattle.layout.specs.Index.{IndexEntry, entry_bytes}
@@ -61,7 +61,7 @@ number_back cut place s at n small l =
 
 pub text_back : (place : ℕ) (s : List ℕ) (at : ℕ) (t : List ℕ) → length t < 2 ^ 63 → Lies s at (text_bytes t)
     → text_at place s at ≡ answer (record { item = placed_text at t; next = at + length (text_bytes t) })
-unfolding text_bytes placed_text textIn
+unfolding text_bytes placed_text text_in
 text_back place s at t small l =
     let number = lies_front s at (encoding (length t)) t l in
     let bytes = lies_back s at (encoding (length t)) t l in

@@ -10,7 +10,7 @@ use Rattle.outcome.specs.Outcome.{answer, refused}
 use Rattle.items.specs.Items.{sound_from}
 use Rattle.part.proofs.PartLaws.{length_part, lent_part}
 use Rattle.payload.specs.Payload.{text_at}
-use Rattle.payload.specs.Answers.{textIn}
+use Rattle.payload.specs.Answers.{text_in}
 use Rattle.payload.proofs.PayloadLaws.{text⇒Placed}
 use Rattle.query.specs.Query.{Query, matches}
 use Rattle.lists.proofs.RisingLaws.{each-once}
@@ -21,9 +21,9 @@ use Rattle.matching.proofs.ResultListLaws.{length-with_record}
 use Rattle.matching.proofs.CollectLaws.{Collected, collected_more, collected_end, collected_refused}
 
 -- where a byte string that was read lies
-pub text_bounds : (place : ℕ) (s : List ℕ) (at start n : ℕ) → text_at place s at ≡ answer (record { item = textIn s start n; next = start + n })
+pub text_bounds : (place : ℕ) (s : List ℕ) (at start n : ℕ) → text_at place s at ≡ answer (record { item = text_in s start n; next = start + n })
     → (at < start) × (start + n ≤ length s)
-unfolding textIn
+unfolding text_in
 text_bounds place s at start n e =
     let t = text⇒Placed place s at _ e in
     (t.forward, t.within)
@@ -35,36 +35,36 @@ module _ (s : List ℕ) (from : ℕ) (q : Query) (first : Stored) where
 
   -- the record at `at` was read: it begins at `start` and has n bytes
   module _ (at : ℕ) (stored : Stored) (p : RecordsCollected at stored) (h : at < length s) (start n : ℕ)
-      (e : (place : ℕ) → text_at place s at ≡ answer (record { item = textIn s start n; next = start + n })) where
+      (e : (place : ℕ) → text_at place s at ≡ answer (record { item = text_in s start n; next = start + n })) where
     -- a record that matches is put
     pub records_kept : matches q (take (start + n - start) (drop start s)) ≡ true
         → (list : List ℕ) → list ≡ with_record stored.list stored.count start n
         → RecordsCollected (start + n) (record { count = stored.count + 1; list = list })
-    unfolding put put_all textIn
+    unfolding put put_all text_in
     records_kept m list is =
         let b = text_bounds 0 s at start n (e 0) in
         let few = p.few in
         let forward = b.0 in
         collected_more (λ place. text_at place s) (λ r. r ∷ []) q (length s) from first at stored p h
-        (record { item = textIn s start n; next = start + n }) e (omega arith)
+        (record { item = text_in s start n; next = start + n }) e (omega arith)
         (record { count = stored.count + 1; list = list })
         (ap (λ (l : List ℕ). record { count = stored.count + 1; list = l })
         (is ∙ ap (with_record stored.list stored.count start) (sym (length_part s start n b.1)))
         ∙ sym (ap (put_all stored)
-        (matching_kept q (textIn s start n) [] (ap (matches q) (sym (lent_part s start n)) ∙ m) ∙ ap (λ l. textIn s start n ∷ l) (matching_nil q))))
+        (matching_kept q (text_in s start n) [] (ap (matches q) (sym (lent_part s start n)) ∙ m) ∙ ap (λ l. text_in s start n ∷ l) (matching_nil q))))
         (omega arith)
         (ap length is ∙ length-with_record stored.list stored.count start n)
 
     -- any other is passed
     pub records_passed : matches q (take (start + n - start) (drop start s)) ≡ false → RecordsCollected (start + n) stored
-    unfolding put_all textIn
+    unfolding put_all text_in
     records_passed m =
         let b = text_bounds 0 s at start n (e 0) in
         let few = p.few in
         let forward = b.0 in
         collected_more (λ place. text_at place s) (λ r. r ∷ []) q (length s) from first at stored p h
-        (record { item = textIn s start n; next = start + n }) e (omega arith) stored
-        (sym (ap (put_all stored) (matching_passed q (textIn s start n) [] (ap (matches q) (sym (lent_part s start n)) ∙ m) ∙ matching_nil q)))
+        (record { item = text_in s start n; next = start + n }) e (omega arith) stored
+        (sym (ap (put_all stored) (matching_passed q (text_in s start n) [] (ap (matches q) (sym (lent_part s start n)) ∙ m) ∙ matching_nil q)))
         (omega arith)
         refl
 

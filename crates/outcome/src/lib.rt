@@ -1,8 +1,8 @@
 // An answer or a refusal. The definitions are in specs/, their laws in proofs/.
 
-// A refusal's number and place; without one both are 0.
 #![tactic(auto)]
 
+// A refusal's number and place; without one both are 0.
 #[derive(Clone, Copy)]
 pub struct Refusal {
     pub number: u64,

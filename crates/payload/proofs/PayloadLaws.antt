@@ -16,7 +16,7 @@ use Rattle.payload.specs.Payload.{Text, Entry, text_at, entry_at, entry_sized}
 use Rattle.payload.specs.declared.EntryOutcome.{EntryOutcome}
 use Rattle.payload.specs.declared.EntryOutcome.TheVariants.{Answer as AnEntry}
 use Rattle.part.specs.declared.Part.{Part}
-use Rattle.payload.specs.Answers.{textIn, KeyWithin}
+use Rattle.payload.specs.Answers.{text_in, KeyWithin}
 use Rattle.framing.proofs.FrameLaws.{Numbered, numbered}
 
 module _ (place : ℕ) (s : List ℕ) (at : ℕ) where
@@ -31,15 +31,15 @@ module _ (place : ℕ) (s : List ℕ) (at : ℕ) where
   text_short n e h = bind_answer (number_at 15 place s at) _ n e ∙ broken (leb (n.next + n.item) (length s)) 15 place _ (lt-leb _ _ h)
 
   pub text_found : (n : Step ℕ) → number_at 15 place s at ≡ answer n → n.next + n.item ≤ length s
-      → text_at place s at ≡ answer (record { item = textIn s n.next n.item; next = n.next + n.item })
-  unfolding text_at textIn
+      → text_at place s at ≡ answer (record { item = text_in s n.next n.item; next = n.next + n.item })
+  unfolding text_at text_in
   text_found n e h = bind_answer (number_at 15 place s at) _ n e ∙ kept (leb (n.next + n.item) (length s)) 15 place _ (le-leb _ _ h)
 
   -- a byte string that was read, taken apart
   pub text⁻¹ : (t : Step Text) → text_at place s at ≡ answer t
       → (n : Step ℕ) × (number_at 15 place s at ≡ answer n) × (n.next + n.item ≤ length s)
-      × (record { item = textIn s n.next n.item; next = n.next + n.item } ≡ t)
-  unfolding text_at textIn
+      × (record { item = text_in s n.next n.item; next = n.next + n.item } ≡ t)
+  unfolding text_at text_in
   text⁻¹ t e =
       let first = bind⁻¹ (number_at 15 place s at) _ t e in
       let n = first.0 in
@@ -49,17 +49,17 @@ module _ (place : ℕ) (s : List ℕ) (at : ℕ) where
   -- where a byte string that was read lies
   pub record Placed (t : Step Text) : Type 0 where
     pub length_at : ℕ
-    pub item_is : t.item ≡ textIn s t.item.at length_at
+    pub item_is : t.item ≡ text_in s t.item.at length_at
     pub long : length t.item.bytes ≡ length_at
     pub forward : at < t.item.at
     pub ends : t.next ≡ t.item.at + length_at
     pub within : t.next ≤ length s
 
   pub text⇒Placed : (t : Step Text) → text_at place s at ≡ answer t → Placed t
-  unfolding textIn
+  unfolding text_in
   text⇒Placed t e = let r = text⁻¹ t e in placed r.0 (numbered 15 place s at r.0 r.1) r.2 r.3
     where
-      placed : (n : Step ℕ) → Numbered s at n → n.next + n.item ≤ length s → record { item = textIn s n.next n.item; next = n.next + n.item } ≡ t → Placed t
+      placed : (n : Step ℕ) → Numbered s at n → n.next + n.item ≤ length s → record { item = text_in s n.next n.item; next = n.next + n.item } ≡ t → Placed t
       placed n numbers h same = subst Placed same
           (record {
             length_at = n.item;

@@ -18,7 +18,7 @@ use Rattle.lists.proofs.ListsLaws.{AscendingIn, ascending_wider}
 use Rattle.framing.specs.Frame.{read_as, number_at}
 use Rattle.items.proofs.RunLaws.{ReadFrom, row_member}
 use Rattle.payload.specs.Payload.{Text, Entry, text_at, entry_at, entry_sized, payload_at, rising}
-use Rattle.payload.specs.Answers.{textIn}
+use Rattle.payload.specs.Answers.{text_in}
 use Rattle.framing.proofs.FrameLaws.{numbered, number_read}
 use Rattle.payload.proofs.PayloadLaws.{text⇒Placed, entry⇒Entered, EntryRead, entry⁻¹, text_found, text⁻¹}
 
@@ -64,7 +64,7 @@ stands_take file cut from end t h p =
     record { after = p.after; before = before; bytes_are = sym (part-take file cut t.at (length t.bytes) (omega arith)) ∙ p.bytes_are }
 
 pub text_stands : (place : ℕ) (s : List ℕ) (at : ℕ) (x : Step Text) → text_at place s at ≡ answer x → Stands s at x.next x.item
-unfolding textIn
+unfolding text_in
 text_stands place s at x e =
     let p = text⇒Placed place s at x e in
     let long = p.long in

@@ -19,7 +19,7 @@ use Rattle.part.proofs.PartLaws.{part_empty}
 use Rattle.lists.proofs.ListsLaws.{both⁻¹}
 use Rattle.lists.specs.Groups.{last_or}
 use Rattle.payload.specs.Payload.{Text, rising, rising_from, payload_at}
-use Rattle.payload.specs.Answers.{textIn, counted}
+use Rattle.payload.specs.Answers.{text_in, counted}
 
 -- ---- one byte string more
 
@@ -66,7 +66,7 @@ module _ {A : Type 0} (step : ℕ → ℕ → Outcome (Step A)) (text_of : A →
     pub progress : (place : ℕ) → Progress (step place) (length s) from at seen
     pub numbered : count ≡ length seen
     pub sorted : rises ≡ rising (map (λ x. (text_of x).bytes) seen)
-    pub last_is : textIn s last size ≡ last_or (textIn s from 0) (map text_of seen)
+    pub last_is : text_in s last size ≡ last_or (text_in s from 0) (map text_of seen)
     pub last_within : last + size ≤ length s
     pub few : count ≤ at
     pub within : at ≤ length s
@@ -86,20 +86,20 @@ module _ {A : Type 0} (step : ℕ → ℕ → Outcome (Step A)) (text_of : A →
       }
 
   -- the last byte string's bytes
-  last_bytes_lem : (last size : ℕ) (seen : List A) → textIn s last size ≡ last_or (textIn s from 0) (map text_of seen)
+  last_bytes_lem : (last size : ℕ) (seen : List A) → text_in s last size ≡ last_or (text_in s from 0) (map text_of seen)
       → part s last size ≡ last_or [] (map (λ x. (text_of x).bytes) seen)
-  unfolding textIn
+  unfolding text_in
   last_bytes_lem last size seen e =
       ap (λ (t : Text). t.bytes) e
-      ∙ sym (last_or_map (λ (t : Text). t.bytes) (textIn s from 0) (map text_of seen))
+      ∙ sym (last_or_map (λ (t : Text). t.bytes) (text_in s from 0) (map text_of seen))
       ∙ ap₂ last_or (part_empty s from) (map-map (λ (t : Text). t.bytes) text_of seen)
 
-  start_bytes : (start n : ℕ) (t : Text) → t ≡ textIn s start n → part s start n ≡ t.bytes
-  unfolding textIn
+  start_bytes : (start n : ℕ) (t : Text) → t ≡ text_in s start n → part s start n ≡ t.bytes
+  unfolding text_in
   start_bytes start n t e = sym (ap (λ (u : Text). u.bytes) e)
 
   pub scanned_more : (at count : ℕ) (rises : Bool) (last size : ℕ) → Scanned at count rises last size → at < length s
-      → (x : A) (next start n : ℕ) → ((place : ℕ) → step place at ≡ answer (record { item = x; next = next })) → text_of x ≡ textIn s start n → at < next → next ≤ length s → start + n ≤ length s
+      → (x : A) (next start n : ℕ) → ((place : ℕ) → step place at ≡ answer (record { item = x; next = next })) → text_of x ≡ text_in s start n → at < next → next ≤ length s → start + n ≤ length s
       → (still : Bool) → still ≡ (rises && at_most (part s last size) (part s start n)) → Scanned next (count + 1) still start n
   scanned_more at count rises last size p h x next start n e text forward within inside rises' flag =
       record {
@@ -111,8 +111,8 @@ module _ {A : Type 0} (step : ℕ → ℕ → Outcome (Step A)) (text_of : A →
             ∙ ap₂ (λ (a b : Bool). a && b) p.sorted (ap₂ at_most (last_bytes_lem last size p.seen p.last_is) (start_bytes start n (text_of x) text))
             ∙ sym (ap rising (map-append (λ y. (text_of y).bytes) p.seen (x ∷ [])) ∙ rising_snoc (map (λ y. (text_of y).bytes) p.seen) (text_of x).bytes);
         last_is =
-            sym (ap (last_or (textIn s from 0)) (map-append text_of p.seen (x ∷ []))
-            ∙ last_or_snoc (textIn s from 0) (map text_of p.seen) (text_of x) ∙ text);
+            sym (ap (last_or (text_in s from 0)) (map-append text_of p.seen (x ∷ []))
+            ∙ last_or_snoc (text_in s from 0) (map text_of p.seen) (text_of x) ∙ text);
         last_within = inside;
         few = omega arith;
         within = within;

@@ -13,17 +13,17 @@ use Rattle.payload.specs.declared.PayloadOutcome.TheVariants.{Answer as Sound, R
 use Rattle.payload.specs.Payload.{Text, Entry}
 
 -- the byte string of this length at an offset of s
-unfoldable pub textIn : List ℕ → (at length : ℕ) → Text
-textIn s at length = record { at = at; bytes = part s at length }
+unfoldable pub text_in : List ℕ → (at length : ℕ) → Text
+text_in s at length = record { at = at; bytes = part s at length }
 
-unfoldable pub textSaid : ℕ → List ℕ → TextOutcome → Outcome (Step Text)
-textSaid place s (AText p) = answer (record { item = textIn s p.offset p.length; next = p.offset + p.length })
-textSaid place s (NoText n) = refused n place
+unfoldable pub text_said : ℕ → List ℕ → TextOutcome → Outcome (Step Text)
+text_said place s (AText p) = answer (record { item = text_in s p.offset p.length; next = p.offset + p.length })
+text_said place s (NoText n) = refused n place
 
-unfoldable pub entrySaid : ℕ → List ℕ → EntryOutcome → Outcome (Step Entry)
-entrySaid place s (AnEntry key offset size next) =
-    answer (record { item = record { key = textIn s key.offset key.length; offset = offset; size = size }; next = next })
-entrySaid place s (NoEntry n) = refused n place
+unfoldable pub entry_said : ℕ → List ℕ → EntryOutcome → Outcome (Step Entry)
+entry_said place s (AnEntry key offset size next) =
+    answer (record { item = record { key = text_in s key.offset key.length; offset = offset; size = size }; next = next })
+entry_said place s (NoEntry n) = refused n place
 
 -- the key that an answer names lies within s
 unfoldable pub KeyWithin : List ℕ → EntryOutcome → Type 0
@@ -34,6 +34,6 @@ KeyWithin s (NoEntry n) = Unit {0}
 unfoldable pub counted : {A : Type 0} → Outcome (List A) → Outcome ℕ
 counted o = o >>= λ xs. answer (length xs)
 
-unfoldable pub payloadSaid : ℕ → PayloadOutcome → Outcome ℕ
-payloadSaid place (Sound count) = answer count
-payloadSaid place (Unsound n) = refused n place
+unfoldable pub payload_said : ℕ → PayloadOutcome → Outcome ℕ
+payload_said place (Sound count) = answer count
+payload_said place (Unsound n) = refused n place

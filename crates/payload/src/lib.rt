@@ -21,7 +21,7 @@ pub enum TextOutcome {
 
 // The record, or the key of an entry, at an offset: a number and that many bytes. Most numbers are of one byte, which is looked at here.
 pub fn text_at(s: &[u8], at: usize) -> TextOutcome
-    ensures { (place : ℕ) → answers.textSaid place s.now result ≡ payloads.text_at place s.now at }
+    ensures { (place : ℕ) → answers.text_said place s.now result ≡ payloads.text_at place s.now at }
 {
     if at < s.len() {
         let first = s[at] as usize;
@@ -39,7 +39,7 @@ pub fn text_at(s: &[u8], at: usize) -> TextOutcome
 
 // Likewise, with any number.
 fn text_by_number(s: &[u8], at: usize) -> TextOutcome
-    ensures { (place : ℕ) → answers.textSaid place s.now result ≡ payloads.text_at place s.now at }
+    ensures { (place : ℕ) → answers.text_said place s.now result ≡ payloads.text_at place s.now at }
 {
     let number = number_at(s, at, 15);
     match number {
@@ -71,7 +71,7 @@ pub enum EntryOutcome {
 
 // The entry at an offset: a key and two numbers.
 pub fn entry_at(s: &[u8], at: usize) -> EntryOutcome
-    ensures by_index { (place : ℕ) → answers.entrySaid place s.now result ≡ payloads.entry_at place s.now at }
+    ensures by_index { (place : ℕ) → answers.entry_said place s.now result ≡ payloads.entry_at place s.now at }
     ensures key_within { answers.KeyWithin s.now result }
 {
     let text = text_by_number(s, at);
@@ -90,8 +90,8 @@ pub fn entry_at(s: &[u8], at: usize) -> EntryOutcome
 // The entry whose key and offset have been read.
 fn sized(s: &[u8], key: Part, offset: u64, at: usize) -> EntryOutcome
     requires { key.offset + key.length ≤ length s.now }
-    ensures by_index { (place : ℕ) → answers.entrySaid place s.now result
-        ≡ payloads.entry_sized place s.now (answers.textIn s.now key.offset key.length) offset at }
+    ensures by_index { (place : ℕ) → answers.entry_said place s.now result
+        ≡ payloads.entry_sized place s.now (answers.text_in s.now key.offset key.length) offset at }
     ensures key_within { answers.KeyWithin s.now result }
 {
     let number = number_at(s, at, 15);
@@ -138,7 +138,7 @@ fn still_rising(s: &[u8], rising: bool, last: Part, next: Part) -> bool
 
 // The records of a data block from an offset to the end of `s`: one or more (15), which fill it (11, 12, 15) and rise (16).
 pub fn records_at(s: &[u8], from: usize) -> PayloadOutcome
-    ensures { (place : ℕ) → answers.payloadSaid place result ≡ answers.counted (payloads.records_at place s.now from) }
+    ensures { (place : ℕ) → answers.payload_said place result ≡ answers.counted (payloads.records_at place s.now from) }
 {
     if s.len() <= from {
         return PayloadOutcome::Refused(15);
@@ -171,7 +171,7 @@ pub fn records_at(s: &[u8], from: usize) -> PayloadOutcome
 
 // The entries of an index block from an offset to the end of `s`: one or more (15), which fill it (11, 12, 15) and whose keys rise (21).
 pub fn entries_at(s: &[u8], from: usize) -> PayloadOutcome
-    ensures { (place : ℕ) → answers.payloadSaid place result ≡ answers.counted (payloads.entries_at place s.now from) }
+    ensures { (place : ℕ) → answers.payload_said place result ≡ answers.counted (payloads.entries_at place s.now from) }
 {
     if s.len() <= from {
         return PayloadOutcome::Refused(15);

@@ -21,7 +21,7 @@ use Rattle.framing.specs.declared.Frame.{Frame}
 use Rattle.framing.specs.Frame.{frame_at}
 use Rattle.framing.proofs.FrameLaws.{Framed, frame⇒Framed}
 use Rattle.payload.specs.Payload.{Text, text_at}
-use Rattle.payload.specs.Answers.{textIn}
+use Rattle.payload.specs.Answers.{text_in}
 use Rattle.payload.proofs.PayloadLaws.{text⇒Placed}
 use Rattle.block.specs.Block.{Block, is_data, block_at, blocks_at}
 use Rattle.block.specs.Laid.{laid_items, laid_records, laid_in, laid_at, laid_from}
@@ -89,12 +89,12 @@ module _ (file : List ℕ) where
 
   -- a record that is read in a part of the file that begins where the file begins
   text_laid : (place end at : ℕ) (s : Step Text) → text_at place (take end file) at ≡ answer s → LaidOut at (s.item ∷ []) s.next × (s.next ≤ end)
-  unfolding LaidOut textIn
+  unfolding LaidOut text_in
   text_laid place end at s e =
       let t = text⇒Placed place (take end file) at s e in
       go s.item t.length_at t.item_is t.long t.forward t.ends t.within
     where
-      go : (r : Text) (n : ℕ) → r ≡ textIn (take end file) r.at n → length r.bytes ≡ n → at < r.at → s.next ≡ r.at + n
+      go : (r : Text) (n : ℕ) → r ≡ text_in (take end file) r.at n → length r.bytes ≡ n → at < r.at → s.next ≡ r.at + n
           → s.next ≤ length (take end file)
           → LaidOut at (r ∷ []) s.next × (s.next ≤ end)
       go r n is long forward ends within =

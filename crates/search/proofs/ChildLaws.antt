@@ -15,7 +15,7 @@ use Rattle.part.specs.declared.Part.{Part}
 use Rattle.part.proofs.PartLaws.{part-take, lent_part}
 use Rattle.framing.specs.declared.Frame.{Frame}
 use Rattle.payload.specs.Payload.{Text, Entry, text_at, entry_at, entries_at}
-use Rattle.payload.specs.Answers.{textIn}
+use Rattle.payload.specs.Answers.{text_in}
 use Rattle.payload.proofs.PayloadLaws.{text⇒Placed, entry⇒Entered, entry⁻¹}
 use Rattle.payload.proofs.ReadLaws.{payload⁻¹, entry_forward}
 use Rattle.block.specs.Block.{Block, block_in}
@@ -87,7 +87,7 @@ module _ (file : List ℕ) (f : Frame) where
 
   -- the byte string of a part
   abbrev text_of : Part → Step Text
-  text_of p = record { item = textIn (take f.end file) p.offset p.length; next = p.offset + p.length }
+  text_of p = record { item = text_in (take f.end file) p.offset p.length; next = p.offset + p.length }
 
   module _ (next : ℕ) (above : Bound) where
     -- no key can be read: no entry is left
@@ -105,7 +105,7 @@ module _ (file : List ℕ) (f : Frame) where
     -- one was read: it is that of the next entry
     module _ (key : Part) (inside : f.end ≤ length file) (read : key_in next ≡ answer (text_of key)) where
       key_ends : (next < key.offset) × (key.offset + key.length ≤ f.end)
-      unfolding textIn
+      unfolding text_in
       key_ends =
           let placed = text⇒Placed f.start (take f.end file) next _ read in
           let within = placed.within in
@@ -118,7 +118,7 @@ module _ (file : List ℕ) (f : Frame) where
 
       pub next_found : (es : List Entry) → entries_from file f next ≡ answer es
           → bound_of file (record { given = true; key = key }) ≡ next_key es (bound_of file above)
-      unfolding next_key bound_of given textIn
+      unfolding next_key bound_of given text_in
       next_found es e = go es (in_row next es e)
         where
           go : (l : List Entry) → Entries next l → bound_of file (record { given = true; key = key }) ≡ next_key l (bound_of file above)
@@ -134,7 +134,7 @@ module _ (file : List ℕ) (f : Frame) where
 
   -- the entry with this key, offset and size
   abbrev entry_of : Part → (offset size : ℕ) → Entry
-  entry_of key offset size = record { key = textIn (take f.end file) key.offset key.length; offset = offset; size = size }
+  entry_of key offset size = record { key = text_in (take f.end file) key.offset key.length; offset = offset; size = size }
 
   module _ (at : ℕ) (above : Bound) (inside : f.end ≤ length file) (key : Part) (offset size next : ℕ)
       (read : entry_in at ≡ answer (record { item = entry_of key offset size; next = next }))
@@ -159,7 +159,7 @@ module _ (file : List ℕ) (f : Frame) where
 
       pub is_child : ((after : List Entry) → entries_from file f next ≡ answer after → bound_of file upper ≡ next_key after (bound_of file above))
           → (es : List Entry) → entries_from file f at ≡ answer es → IsChild file f above child next es
-      unfolding textIn child_named
+      unfolding text_in child_named
       is_child bounds es e =
           let entered = entry⇒Entered f.start (take f.end file) at _ read in
           let long = length-take-le f.end file inside in

@@ -15,7 +15,7 @@ use Rattle.outcome.proofs.OutcomeLaws.{bind_answer}
 use Rattle.part.proofs.PartLaws.{length_part}
 use Rattle.framing.specs.Frame.{read_as, number_at}
 use Rattle.payload.specs.Payload.{Text, Entry, text_at, entry_at, entry_sized}
-use Rattle.payload.specs.Answers.{textIn}
+use Rattle.payload.specs.Answers.{text_in}
 use Rattle.framing.proofs.FrameLaws.{number_read, numbered}
 use Rattle.payload.proofs.PayloadLaws.{text_found, entry_read, text⁻¹, EntryRead, entry⁻¹}
 use Rattle.payload.proofs.ReadLaws.{text_forward, text_within, entry_forward, entry_within}
@@ -57,7 +57,7 @@ NumberIn⇒forward s at next value h = (h.0, h.1)
 -- ---- byte strings
 
 pub text⇒TextIn : (place : ℕ) (s : List ℕ) (at : ℕ) (t : Step Text) → text_at place s at ≡ answer t → TextIn s at t.next t.item
-unfolding TextIn StandsIn textIn
+unfolding TextIn StandsIn text_in
 text⇒TextIn place s at t e =
     let r = text⁻¹ place s at t e in
     subst (λ (u : Step Text). TextIn s at u.next u.item) r.3 (placed r.0 (number⇒NumberIn 15 place s at r.0 r.1) r.2)
@@ -68,7 +68,7 @@ text⇒TextIn place s at t e =
         (length_part s n.next n.item h) (stands, (h, refl), refl)
 
 pub TextIn⇒text : (place : ℕ) (s : List ℕ) (at next : ℕ) (t : Text) → TextIn s at next t → text_at place s at ≡ answer (record { item = t; next = next })
-unfolding TextIn StandsIn textIn
+unfolding TextIn StandsIn text_in
 TextIn⇒text place s at next t h =
     text_found place s at (record { item = length t.bytes; next = t.at }) (NumberIn⇒number 15 place s at t.at (length t.bytes) h.0) h.1.0
     ∙ ap (λ (l : List ℕ). answer (record { item = record { at = t.at; bytes = l }; next = t.at + length t.bytes })) h.1.1

@@ -5,12 +5,12 @@ use lib.ListN.{length-take, length-drop}
 use Rattle.uleb128.specs.Number.{reading_said}
 use Rattle.uleb128.specs.declared.Number.{Number}
 use Rattle.framing.specs.Frame.{read_as}
-use Rattle.framing.specs.Answers.{numberSaid}
+use Rattle.framing.specs.Answers.{number_said}
 use Rattle.framing.proofs.FrameLaws.{number_found, number_past, value_used}
 use Rattle.framing.proofs.number_at.Goals as goal
 
 pub returns-then-s-at : goal.returns-then-s-at
-unfolding numberSaid
+unfolding number_said
 returns-then-s-at c place =
     sym (number_past _ place c.args.s.now c.args.at (omega arith))
 
@@ -23,25 +23,25 @@ overflow_add-result c =
     )
 
 pub returns-in-Value : goal.returns-in-Value
-unfolding numberSaid read_as reading_said
+unfolding number_said read_as reading_said
 returns-in-Value c place =
     ap (λ (n : Number). read_as c.args.cut place c.args.at (reading_said n)) (sym c.in-Value.is) ∙ number_found c.args.cut place
     c.args.s.now c.args.at c.read_number-read.result c.read_number-read.ensures
 
 pub returns-in-CutOff : goal.returns-in-CutOff
-unfolding numberSaid read_as reading_said
+unfolding number_said read_as reading_said
 returns-in-CutOff c place =
     ap (λ (n : Number). read_as c.args.cut place c.args.at (reading_said n)) (sym c.in-CutOff.is) ∙ number_found c.args.cut place
     c.args.s.now c.args.at c.read_number-read.result c.read_number-read.ensures
 
 pub returns-in-TooWide : goal.returns-in-TooWide
-unfolding numberSaid read_as reading_said
+unfolding number_said read_as reading_said
 returns-in-TooWide c place =
     ap (λ (n : Number). read_as c.args.cut place c.args.at (reading_said n)) (sym c.in-TooWide.is) ∙ number_found c.args.cut place
     c.args.s.now c.args.at c.read_number-read.result c.read_number-read.ensures
 
 pub returns-in-NotShortest : goal.returns-in-NotShortest
-unfolding numberSaid read_as reading_said
+unfolding number_said read_as reading_said
 returns-in-NotShortest c place =
     ap (λ (n : Number). read_as c.args.cut place c.args.at (reading_said n)) (sym c.in-NotShortest.is) ∙ number_found c.args.cut place
     c.args.s.now c.args.at c.read_number-read.result c.read_number-read.ensures

@@ -1,7 +1,7 @@
 -- `ascend` meets its contract: each return is one case of the definition, and each turn of the loop is one entry passed.
 -- Assumes nothing.
 use Rattle.std.proofs.Common.{arith, sym, ap, ◌∙◌, take}
-use Rattle.payload.specs.Answers.{entrySaid}
+use Rattle.payload.specs.Answers.{entry_said}
 use Rattle.payload.proofs.PayloadLaws.{entry⇒Entered}
 use Rattle.items.proofs.GoingLaws.{going_end, going_refused, going_more, going_stop}
 use Rattle.check_walk.specs.Ascent.{ascent_said}
@@ -19,32 +19,32 @@ loop-place-init t c =
     c.payload_at-payload.ensures.value
 
 pub returns-in-Refused : goal.returns-in-Refused
-unfolding ascent_said entrySaid
+unfolding ascent_said entry_said
 returns-in-Refused t c =
     sym (going_refused _ _ _ _ _ _ c.loop-place-test.true c.loop-place.invariant _ _ (sym (c.entry_at-step.ensures.by_index c.args.at)
-    ∙ ap (entrySaid c.args.at (take (end_of c.payload_at-payload.result) c.args.file.now)) c.in-Refused.is) ∙ over_end _ _)
+    ∙ ap (entry_said c.args.at (take (end_of c.payload_at-payload.result) c.args.file.now)) c.in-Refused.is) ∙ over_end _ _)
 
 pub returns-in-Refused-child : goal.returns-in-Refused-child
-unfolding ascent_said entrySaid
+unfolding ascent_said entry_said
 returns-in-Refused-child t c =
     sym (going_stop _ _ _ _ _ _ c.loop-place-test.true c.loop-place.invariant _ (sym (c.entry_at-step.ensures.by_index c.args.at)
-    ∙ ap (entrySaid c.args.at (take (end_of c.payload_at-payload.result) c.args.file.now)) c.in-Answer.is) _
+    ∙ ap (entry_said c.args.at (take (end_of c.payload_at-payload.result) c.args.file.now)) c.in-Answer.is) _
     (over_fallen _ _ _ _ _ (sym c.ascend-child.ensures ∙ ap ascent_said c.in-Refused-child.is)))
 
 pub loop-place-smaller : goal.loop-place-smaller
-unfolding entrySaid
+unfolding entry_said
 loop-place-smaller t c =
     let e = entry⇒Entered c.args.at (take (end_of c.payload_at-payload.result) c.args.file.now) _ _
     (sym (c.entry_at-step.ensures.by_index c.args.at)
-    ∙ ap (entrySaid c.args.at (take (end_of c.payload_at-payload.result) c.args.file.now)) c.in-Answer.is) in
+    ∙ ap (entry_said c.args.at (take (end_of c.payload_at-payload.result) c.args.file.now)) c.in-Answer.is) in
     let forward = e.forward in
     omega arith
 
 pub loop-place-preserved : goal.loop-place-preserved
-unfolding ascent_said entrySaid
+unfolding ascent_said entry_said
 loop-place-preserved t c =
     let read = sym (c.entry_at-step.ensures.by_index c.args.at)
-    ∙ ap (entrySaid c.args.at (take (end_of c.payload_at-payload.result) c.args.file.now)) c.in-Answer.is in
+    ∙ ap (entry_said c.args.at (take (end_of c.payload_at-payload.result) c.args.file.now)) c.in-Answer.is in
     going_more _ _ _ _ _ _ c.loop-place-test.true c.loop-place.invariant _ read
     (entry⇒Entered c.args.at (take (end_of c.payload_at-payload.result) c.args.file.now) _ _ read).forward _
     (over_risen _ _ _ _ (sym c.ascend-child.ensures ∙ ap ascent_said c.in-Answer-child.is))

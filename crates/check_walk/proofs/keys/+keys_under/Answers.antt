@@ -2,7 +2,7 @@
 -- Assumes nothing.
 use Rattle.std.proofs.Common.{arith, sym, ap, ◌∙◌, ◌-◌, ◌+◌, ◌≤◌, subst, take, length}
 use lib.Seq.{length-take-le}
-use Rattle.payload.specs.Answers.{entrySaid}
+use Rattle.payload.specs.Answers.{entry_said}
 use Rattle.payload.proofs.PayloadLaws.{entry⇒Entered, within_told}
 use Rattle.items.proofs.GoingLaws.{going_end, going_refused, going_more}
 use Rattle.check_walk.specs.declared.keys.Keys.{Keys}
@@ -22,11 +22,11 @@ loop-place-init t c = record {
 }
 
 pub returns-in-Refused : goal.returns-in-Refused
-unfolding entrySaid
+unfolding entry_said
 returns-in-Refused t c =
     sym (sym (keys_whole c.args.file.now c.args.level c.args.at c.args.before _ c.if-level-eq0.false c.entering-met.ensures)
     ∙ going_refused _ _ _ _ _ _ c.loop-place-test.true c.loop-place.invariant.going _ _ (sym (c.entry_at-step.ensures.by_index c.args.at)
-    ∙ ap (entrySaid c.args.at (take (end_of c.payload_at-payload.result) c.args.file.now)) c.in-Refused.is) ∙ over-keys_end _ _ _ _)
+    ∙ ap (entry_said c.args.at (take (end_of c.payload_at-payload.result) c.args.file.now)) c.in-Refused.is) ∙ over-keys_end _ _ _ _)
 
 pub keys_under-child-requires : goal.keys_under-child-requires
 keys_under-child-requires t c = (omega arith, c.loop-place.invariant.within)
@@ -43,19 +43,19 @@ entry_keys-more-requires t c =
     )
 
 pub loop-place-smaller : goal.loop-place-smaller
-unfolding entrySaid
+unfolding entry_said
 loop-place-smaller t c =
     let e = entry⇒Entered c.args.at (take (end_of c.payload_at-payload.result) c.args.file.now) _ _
     (sym (c.entry_at-step.ensures.by_index c.args.at)
-    ∙ ap (entrySaid c.args.at (take (end_of c.payload_at-payload.result) c.args.file.now)) c.in-Answer.is) in
+    ∙ ap (entry_said c.args.at (take (end_of c.payload_at-payload.result) c.args.file.now)) c.in-Answer.is) in
     let forward = e.forward in
     omega arith
 
 pub loop-place-preserved : goal.loop-place-preserved
-unfolding entrySaid
+unfolding entry_said
 loop-place-preserved t c =
     let read = sym (c.entry_at-step.ensures.by_index c.args.at)
-    ∙ ap (entrySaid c.args.at (take (end_of c.payload_at-payload.result) c.args.file.now)) c.in-Answer.is in
+    ∙ ap (entry_said c.args.at (take (end_of c.payload_at-payload.result) c.args.file.now)) c.in-Answer.is in
     let e = entry⇒Entered c.args.at (take (end_of c.payload_at-payload.result) c.args.file.now) _ _ read in
     let all = length-take-le (end_of c.payload_at-payload.result) c.args.file.now c.payload_at-payload.ensures.length_in_bounds in
     let inside : c.in-Answer.key.offset + c.in-Answer.key.length ≤ length (take (end_of c.payload_at-payload.result) c.args.file.now)

@@ -2,7 +2,7 @@ use native.Mathlib.Omega.{arith}
 use mathlib.Core.Path.{sym, ap, ◌∙◌}
 use mathlib.Core.List.{List}
 use Prim.Native.Nat.{ℕ}
-use Rattle.payload.specs.Answers.{textIn}
+use Rattle.payload.specs.Answers.{text_in}
 use Rattle.cursor.specs.Cursor.{following}
 use Rattle.differences.specs.Merge.{leading}
 use Rattle.comparer.specs.Steps.{next_said}
@@ -43,7 +43,7 @@ loop-which-smaller-then-one-two c =
     c.pass_copies-one.ensures.1 c.pass_copies-two.ensures.1
 
 pub loop-which-preserved-then-one-two : goal.loop-which-preserved-then-one-two
-unfolding next_said textIn
+unfolding next_said text_in
 loop-which-preserved-then-one-two c =
     let shows = text_shown c.args.first.now c.args.second.now _ _ _ c.in-Record.is c.least-next.ensures.1 _ c.shown-bytes.ensures.result_value in
     merging_more _ _ _ _ _ _ _ c.loop-which.invariant _ _ (sym (ap (next_said c.args.first.now c.args.second.now) c.in-Record.is) ∙

@@ -1,7 +1,7 @@
 use lib.ListN.{length}
 use native.Mathlib.Omega.{arith}
 use mathlib.Core.Path.{sym, ap, ◌∙◌}
-use Rattle.payload.specs.Answers.{textIn}
+use Rattle.payload.specs.Answers.{text_in}
 use Rattle.cursor.specs.declared.RecordOutcome.{RecordOutcome}
 use Rattle.cursor.specs.Cursor.{following, record_said, here_of}
 use Rattle.cursor.proofs.CursorLaws.{within_told}
@@ -25,7 +25,7 @@ is_copy-requires c =
     within_told c.args.file.now _ _ _ _ c.in-Answer.is c.record_at-next.ensures.record_within
 
 pub returns-then-not-is_copy : goal.returns-then-not-is_copy
-unfolding record_said here_of textIn
+unfolding record_said here_of text_in
 returns-then-not-is_copy c = (
   passed_other c.args.x.now _ _ _ _ _ c.loop-here.invariant (sym (ap (record_said c.args.file.now) c.in-Answer.is)
       ∙ c.record_at-next.ensures.result_value)
@@ -47,7 +47,7 @@ loop-here-smaller c =
     let some = ap length (sym (ap (record_said c.args.file.now) c.in-Answer.is) ∙ c.record_at-next.ensures.result_value) in omega arith
 
 pub loop-here-preserved : goal.loop-here-preserved
-unfolding record_said textIn
+unfolding record_said text_in
 loop-here-preserved c =
     passed_more c.args.x.now _ _ _ _ _ c.loop-here.invariant (sym (ap (record_said c.args.file.now) c.in-Answer.is)
     ∙ c.record_at-next.ensures.result_value)

@@ -1,7 +1,7 @@
 -- `digits` meets its contract: a digit stands at the position, or it doesn't. Assumes nothing.
 use mathlib.Core.Path.{sym, ◌∙◌}
 use native.Mathlib.Omega.{arith}
-use Rattle.json_text.specs.Answers.{endSaid}
+use Rattle.json_text.specs.Answers.{end_said}
 use Rattle.json_text.proofs.PositionLaws.{stands}
 use Rattle.json_text.proofs.NumberPositionLaws.{digit_some, digits_found, digits_none}
 use Rattle.json_text.proofs.number.digits.Goals as goal
@@ -12,12 +12,12 @@ overflow_add-at c =
     in omega arith
 
 pub returns-then-is_digit : goal.returns-then-is_digit
-unfolding endSaid
+unfolding end_said
 returns-then-is_digit c =
     digits_found c.args.s.now c.args.at c.skip_digits.result (rw (← c.byte_at.ensures) (sym c.is_digit.ensures ∙
     c.if-is_digit.true)) c.skip_digits.ensures
 
 pub returns-else-is_digit : goal.returns-else-is_digit
-unfolding endSaid
+unfolding end_said
 returns-else-is_digit c =
     digits_none _ (rw (← c.byte_at.ensures) (sym c.is_digit.ensures ∙ c.if-is_digit.false))

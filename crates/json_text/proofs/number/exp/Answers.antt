@@ -4,7 +4,7 @@ use mathlib.Core.Logic.{⊎_elim}
 use mathlib.Core.List.{[], ◌∷◌}
 use native.Mathlib.Omega.{arith}
 use Rattle.json_grammar.specs.Recogniser.{one_of}
-use Rattle.json_text.specs.Answers.{endSaid}
+use Rattle.json_text.specs.Answers.{end_said}
 use Rattle.json_text.proofs.KeyLaws.{key_taken, no_key}
 use Rattle.json_text.proofs.PositionLaws.{stands}
 use Rattle.json_text.proofs.NumberPositionLaws.{exp_found, exp_none}
@@ -21,5 +21,5 @@ returns-in-101 c =
     (0x65 ∷ 0x45 ∷ [])) 0x45 (0x65 ∷ []) _ refl c.in-101.is)) c.skip_sign.ensures
 
 pub returns-in_default : goal.returns-in_default
-unfolding endSaid one_of
+unfolding end_said one_of
 returns-in_default c = exp_none _ (rw (← c.byte_at.ensures) (no_key (0x65 ∷ 0x45 ∷ []) 0x45 (0x65 ∷ []) _ refl c.in_default.in_default-own.rest.1))

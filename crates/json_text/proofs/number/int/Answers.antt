@@ -1,7 +1,7 @@
 -- `int` meets its contract: a zero stands at the position, or digits. Assumes nothing.
 use mathlib.Core.Path.{◌∙◌}
 use native.Mathlib.Omega.{arith}
-use Rattle.json_text.specs.Answers.{endSaid}
+use Rattle.json_text.specs.Answers.{end_said}
 use Rattle.json_text.proofs.PositionLaws.{stands}
 use Rattle.json_text.proofs.NumberPositionLaws.{int_zero, int_digits}
 use Rattle.json_text.proofs.number.int.Goals as goal
@@ -11,7 +11,7 @@ overflow_add-result c =
     let h = stands c.args.s.now c.args.at (omega arith) in omega arith
 
 pub returns-then-byte_at-eq48 : goal.returns-then-byte_at-eq48
-unfolding endSaid
+unfolding end_said
 returns-then-byte_at-eq48 c =
     int_zero c.args.s.now c.args.at (omega arith)
 

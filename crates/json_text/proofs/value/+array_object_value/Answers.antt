@@ -3,7 +3,7 @@
 use Rattle.std.proofs.Common.{arith, sym, ◌∙◌, ◌-◌}
 use Rattle.json_grammar.specs.Recogniser.{member_over, value_end}
 use Rattle.json_grammar.proofs.ShorterLaws.{value_shorter, member_shorter}
-use Rattle.json_text.specs.Answers.{endSaid}
+use Rattle.json_text.specs.Answers.{end_said}
 use Rattle.json_text.proofs.PositionLaws.{ends, ends_nowhere}
 use Rattle.json_text.proofs.ItemPositionLaws.{member_unnamed, member_named}
 use Rattle.json_text.proofs.ContainerPositionLaws.{item_fails, item_passed, left_falls, items_ended}
@@ -11,14 +11,14 @@ use Rattle.json_text.proofs.ContainerPositionLaws.{object_flat, array_flat, obje
 use Rattle.json_text.proofs.value.+array_object_value.Goals as goal
 
 pub array-returns-then-depth-eq0 : goal.array-returns-then-depth-eq0
-unfolding endSaid
+unfolding end_said
 array-returns-then-depth-eq0 t c = array_flat _ _ c.if-depth-eq0.true
 
 pub array-loop-next-init : goal.array-loop-next-init
 array-loop-next-init t c = c.first_item-next.ensures (value_end (c.args.depth - 1)) ∙ array_deep _ _ (omega arith)
 
 pub array-returns-in_default-value : goal.array-returns-in_default-value
-unfolding endSaid
+unfolding end_said
 array-returns-in_default-value t c =
     item_fails _ _ (value_shorter (c.args.depth - 1)) c.args.s.now _ c.in-Item.at c.in-Item.is _ c.loop-next.invariant
     (ends_nowhere _ _ _ c.value.ensures c.in_default-value.is)
@@ -37,7 +37,7 @@ pub array-returns : goal.array-returns
 array-returns t c = items_ended c.args.s.now _ _ _ _ c.in_default.not-Item (c.closed.ensures c.args.s.now) c.loop-next.invariant
 
 pub object-returns-then-depth-eq0 : goal.object-returns-then-depth-eq0
-unfolding endSaid
+unfolding end_said
 object-returns-then-depth-eq0 t c = object_flat _ _ c.if-depth-eq0.true
 
 pub object-loop-next-init : goal.object-loop-next-init
@@ -45,13 +45,13 @@ object-loop-next-init t c =
     c.first_item-next.ensures (member_over (value_end (c.args.depth - 1))) ∙ object_deep _ _ (omega arith)
 
 pub object-returns-in_default-name : goal.object-returns-in_default-name
-unfolding endSaid
+unfolding end_said
 object-returns-in_default-name t c =
     item_fails _ _ (member_shorter (c.args.depth - 1)) c.args.s.now _ c.in-Item.at c.in-Item.is _ c.loop-next.invariant
     (member_unnamed _ _ (ends_nowhere _ _ _ c.name.ensures c.in_default-name.is))
 
 pub object-returns-in_default-value : goal.object-returns-in_default-value
-unfolding endSaid
+unfolding end_said
 object-returns-in_default-value t c =
     item_fails _ _ (member_shorter (c.args.depth - 1)) c.args.s.now _ c.in-Item.at c.in-Item.is _ c.loop-next.invariant
     (ends_nowhere _ _ _ c.value.ensures c.in_default-value.is ∙ member_named _ _ _ (ends _ _ _ _ c.name.ensures c.in-At.is))

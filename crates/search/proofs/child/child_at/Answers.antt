@@ -4,7 +4,7 @@ use mathlib.Core.Path.{sym, ap, ◌∙◌}
 use native.Mathlib.Omega.{arith}
 use lib.ListN.{take}
 use lib.Seq.{length-take-le}
-use Rattle.payload.specs.Answers.{entrySaid}
+use Rattle.payload.specs.Answers.{entry_said}
 use Rattle.payload.proofs.PayloadLaws.{within_told}
 use Rattle.search.specs.Steps.{ChildStays, ChildSaid}
 use Rattle.search.proofs.ChildLaws.{entries_none, child_within, is_child}
@@ -23,18 +23,18 @@ overflow_sub-f c =
     let index = c.requires.index in omega arith
 
 pub returns-in-Refused : goal.returns-in-Refused
-unfolding entrySaid ChildStays ChildSaid
+unfolding entry_said ChildStays ChildSaid
 returns-in-Refused c =
     record {
       child_stays = tt;
-      child_said = entries_none c.args.file.now c.args.f c.args.at _ _ (sym (c.entry_at-entry.ensures.by_index c.args.f.start) ∙ ap (entrySaid
+      child_said = entries_none c.args.file.now c.args.f c.args.at _ _ (sym (c.entry_at-entry.ensures.by_index c.args.f.start) ∙ ap (entry_said
           c.args.f.start (take c.args.f.end c.args.file.now)) c.in-Refused.is);
     }
 
 pub returns-in-Answer : goal.returns-in-Answer
-unfolding entrySaid ChildStays ChildSaid
+unfolding entry_said ChildStays ChildSaid
 returns-in-Answer c =
-    let read = sym (c.entry_at-entry.ensures.by_index c.args.f.start) ∙ ap (entrySaid c.args.f.start (take c.args.f.end c.args.file.now))
+    let read = sym (c.entry_at-entry.ensures.by_index c.args.f.start) ∙ ap (entry_said c.args.f.start (take c.args.f.end c.args.file.now))
     c.in-Answer.is in let keyed = within_told _ _ _ _ _ _ c.in-Answer.is c.entry_at-entry.ensures.key_within in record {
       child_stays = child_within c.args.file.now
           c.args.f c.args.at c.args.above c.requires.end _ _ _ _ read keyed _ _ c.child_named-named.ensures c.next_key-upper.ensures.part_within;

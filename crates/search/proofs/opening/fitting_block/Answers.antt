@@ -1,7 +1,7 @@
 -- `fitting_block` meets its contract: size and level, then the block in the frame.
 -- Assumes nothing.
 use mathlib.Core.Path.{sym, ap, ◌∙◌}
-use Rattle.block.specs.Answers.{blockSaid}
+use Rattle.block.specs.Answers.{block_said}
 use Rattle.search.specs.Steps.{opening_said}
 use Rattle.search.proofs.OpeningLaws.{fitting_size, fitting_low, fitting_high, fitting_unsound, fitting_sound}
 use Rattle.search.proofs.opening.fitting_block.Goals as goal
@@ -22,15 +22,15 @@ returns-then-named-f c =
     fitting_high c.args.file.now c.args.named c.args.f c.if-f-named.false c.if-f-named-2.false c.if-named-f.true
 
 pub returns-in-Refused : goal.returns-in-Refused
-unfolding opening_said blockSaid
+unfolding opening_said block_said
 returns-in-Refused c =
     fitting_unsound c.args.file.now c.args.named c.args.f c.if-f-named.false c.if-f-named-2.false c.if-named-f.false _ _
     (sym c.block_in-inside.ensures ∙ ap
-    (blockSaid c.args.f.start) c.in-Refused.is)
+    (block_said c.args.f.start) c.in-Refused.is)
 
 pub returns-in-Answer : goal.returns-in-Answer
-unfolding opening_said blockSaid
+unfolding opening_said block_said
 returns-in-Answer c =
     fitting_sound c.args.file.now c.args.named c.args.f c.if-f-named.false c.if-f-named-2.false c.if-named-f.false _ _
     (sym c.block_in-inside.ensures ∙ ap
-    (blockSaid c.args.f.start) c.in-Answer.is)
+    (block_said c.args.f.start) c.in-Answer.is)

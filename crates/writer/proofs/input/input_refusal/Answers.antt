@@ -1,6 +1,6 @@
 -- `input_refusal` meets its contract. Assumes nothing.
 use mathlib.Core.Path.{sym, ap, ◌∙◌}
-use Rattle.payload.specs.Answers.{payloadSaid}
+use Rattle.payload.specs.Answers.{payload_said}
 use Rattle.writer.proofs.InputRuleLaws.{refused_30, refused_9, input_answer, input_refused, not_rising, malformed}
 use Rattle.writer.proofs.input.input_refusal.Goals as goal
 
@@ -14,23 +14,23 @@ returns-then-not-is_metadata c =
     c.is_metadata.ensures ∙ c.if-not-is_metadata.true)
 
 pub returns-in-Answer : goal.returns-in-Answer
-unfolding payloadSaid
+unfolding payload_said
 returns-in-Answer c =
     input_answer c.args.metadata.now c.args.records.now _ _ (sym c.counts_fit.ensures ∙ c.if-not-counts_fit.false) (sym
-    c.is_metadata.ensures ∙ c.if-not-is_metadata.false) _ (ap (payloadSaid 0) (sym c.in-Answer.is) ∙ c.records_at-read.ensures 0)
+    c.is_metadata.ensures ∙ c.if-not-is_metadata.false) _ (ap (payload_said 0) (sym c.in-Answer.is) ∙ c.records_at-read.ensures 0)
 
 pub returns-then-n-eq16 : goal.returns-then-n-eq16
-unfolding payloadSaid
+unfolding payload_said
 returns-then-n-eq16 c =
     not_rising _ c.if-n-eq16.true ∙ input_refused c.args.metadata.now c.args.records.now _ _
     (sym c.counts_fit.ensures ∙ c.if-not-counts_fit.false) (sym c.is_metadata.ensures ∙ c.if-not-is_metadata.false) _
-    (ap (payloadSaid 0) (sym c.in-Refused.is) ∙ c.records_at-read.ensures
+    (ap (payload_said 0) (sym c.in-Refused.is) ∙ c.records_at-read.ensures
     0)
 
 pub returns-else-n-eq16 : goal.returns-else-n-eq16
-unfolding payloadSaid
+unfolding payload_said
 returns-else-n-eq16 c =
     malformed _ c.if-n-eq16.false ∙ input_refused c.args.metadata.now c.args.records.now _ _
     (sym c.counts_fit.ensures ∙ c.if-not-counts_fit.false) (sym c.is_metadata.ensures ∙ c.if-not-is_metadata.false) _
-    (ap (payloadSaid 0) (sym c.in-Refused.is) ∙ c.records_at-read.ensures
+    (ap (payload_said 0) (sym c.in-Refused.is) ∙ c.records_at-read.ensures
     0)
