@@ -2,6 +2,8 @@
 // call on the file or the two files that it names, and a line with the answer; for a session a line with the answer of each step.
 #![tactic(auto)]
 
+ghost use Rattle.std.specs.Prelude.{IfOk, IfSome, length, take, ◌≡◌, ◌≤◌};
+
 mod cases;
 mod check;
 mod compare_pair;
@@ -23,18 +25,39 @@ use std::io;
 use std::io::{BufWriter, Read, Write};
 use std::rt::Files;
 
-// The most that is read of a file. A longer one would be cut, and the corpus has none.
-const MOST: u64 = 65536;
+// The most that is read of a file.
+const MOST: usize = 65536;
 
-// Opens a file and reads it, or says why it can't be opened.
-fn contents<R: Files + Alloc + Eprint>(rt: &R, path: &[u8]) -> io::Result<Option<Vec<u8, R::A>>> {
+// Reads a file; answers how many bytes of `space` it fills. A longer file would be cut, and the corpus has none.
+fn fill(file: &mut impl Read, space: &mut [u8]) -> io::Result<usize>
+    ensures in_bounds { IfOk result (λ n. n ≤ length space.new) }
+    ensures prefix_len { IfOk result (λ n. n ≡ length (take n space.new)) }
+{
+    let mut n = 0;
+    while n < space.len() {
+        let more = file.read(&mut space[n..])?;
+        if more == 0 {
+            break;
+        }
+        n += more;
+    }
+    Ok(n)
+}
+
+// Opens a file and reads it into `space`, or says why it can't be opened; answers how many bytes that were.
+fn contents(
+    rt: &(impl Files + Alloc + Eprint),
+    path: &[u8],
+    space: &mut [u8],
+) -> io::Result<Option<usize>>
+    ensures in_bounds { IfOk result (λ read. IfSome read (λ n. n ≤ length space.new)) }
+{
     let name = String::from_utf8_lossy(rt.alloc(), path)?;
     match File::open(rt, name.as_str()) {
         Ok(file) => {
-            let mut part = file.take(MOST);
-            let mut bytes = Vec::new(rt.alloc());
-            part.read_to_end(&mut bytes)?;
-            Ok(Some(bytes))
+            let mut open = file;
+            let n = fill(&mut open, space)?;
+            Ok(Some(n))
         },
         Err(error) => {
             eprintln!(rt; "{name}: {error}")?;
@@ -53,13 +76,14 @@ fn answer_pair(
 ) -> io::Result<()> {
     let name_part = case.start;
     let name = string(stored, name_part);
-    let Some(second) = contents(rt, name)? else {
+    let mut space = [0u8; MOST];
+    let Some(n) = contents(rt, name, &mut space)? else {
         return Ok(());
     };
     if case.call == 8 {
-        compare_pair::run(out, first, &second, name, case)
+        compare_pair::run(out, first, &space[..n], name, case)
     } else {
-        shown_part::run(out, first, &second, name, case)
+        shown_part::run(out, first, &space[..n], name, case)
     }
 }
 
@@ -112,8 +136,9 @@ fn run_case(
     case: Case,
 ) -> io::Result<()> {
     let name = case.name;
-    match contents(rt, string(stored, name))? {
-        Some(file) => answer_any(rt, out, &file, stored, case),
+    let mut space = [0u8; MOST];
+    match contents(rt, string(stored, name), &mut space)? {
+        Some(n) => answer_any(rt, out, &space[..n], stored, case),
         None => Ok(()),
     }
 }
@@ -147,8 +172,9 @@ fn run_file(
     out: &mut impl Write,
     path: &str,
 ) -> io::Result<()> {
-    match contents(rt, path.as_bytes())? {
-        Some(stored) => run_all(rt, out, &stored),
+    let mut space = [0u8; MOST];
+    match contents(rt, path.as_bytes(), &mut space)? {
+        Some(n) => run_all(rt, out, &space[..n]),
         None => Ok(()),
     }
 }

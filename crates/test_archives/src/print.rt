@@ -9,11 +9,11 @@ pub fn number(out: &mut impl Write, label: &str, n: u64) -> io::Result<()> {
     write!(out, "{label}{n}")
 }
 
-// How far a number is from 0.
+// How far a number is from 0. That of the least doesn't fit its type with another sign, so of a number below 0 one is added after the cast.
 fn magnitude(n: i64) -> u64
     ensures { result ≡ nat_abs n }
 {
-    n.unsigned_abs()
+    if n < 0 { (-1 - n) as u64 + 1 } else { n as u64 }
 }
 
 // A number that may be below 0 after a label.
