@@ -9,7 +9,7 @@ use lib.Dec.{leb}
 use lib.ListN.{length, take, length-take}
 use borrow.Author.Tests.{le-leb, lt-leb, eq-eqb, ne_eqb, leb-true, leb-false}
 use Rattle.outcome.specs.Outcome.{Outcome, answer, refused, ◌>>=◌}
-use Rattle.items.specs.Items.{Step}
+use Rattle.items.specs.declared.Step.{Step}
 use Rattle.outcome.proofs.OutcomeLaws.{answer_injective, bind_answer, bind_refused, bind⁻¹, map_refused⁻¹}
 use Rattle.items.proofs.ItemsLaws.{items_length}
 use Rattle.framing.specs.declared.Frame.{Frame}

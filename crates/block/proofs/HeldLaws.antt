@@ -9,7 +9,8 @@ use native.Mathlib.Omega.{arith}
 use lib.ListN.{length, take, get_or}
 use lib.Seq.{length-take-le}
 use Rattle.outcome.specs.Outcome.{Outcome, answer}
-use Rattle.items.specs.Items.{Step, sound_from}
+use Rattle.items.specs.Items.{sound_from}
+use Rattle.items.specs.declared.Step.{Step}
 use Rattle.items.proofs.ItemsLaws.{Row, items⇒row, row⇒items, row_change, row_some, items⇒sound}
 use Rattle.lists.proofs.ListsLaws.{AscendingIn, ascending_wider}
 use Rattle.framing.specs.declared.Frame.{Frame}

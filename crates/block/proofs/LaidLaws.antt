@@ -8,7 +8,8 @@ use lib.ListN.{length, take}
 use lib.Seq.{length-take-le}
 use Rattle.outcome.specs.Outcome.{Outcome, answer, refused}
 use Rattle.outcome.proofs.OutcomeLaws.{answer_injective, bind⁻¹, bind_answer, bind_refused}
-use Rattle.items.specs.Items.{Step, sound_from}
+use Rattle.items.specs.Items.{sound_from}
+use Rattle.items.specs.declared.Step.{Step}
 use Rattle.items.proofs.ItemsLaws.{items⇒sound, items⇒sound_same}
 use Rattle.framing.specs.declared.Frame.{Frame}
 use Rattle.framing.specs.Frame.{frame_at}

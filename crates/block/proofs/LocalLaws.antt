@@ -13,7 +13,8 @@ use Rattle.uleb128.proofs.NumberLaws.{number_local}
 use Rattle.endian.specs.FixedWidth.{little_endian}
 use Rattle.crc64.specs.Crc64.{crc64}
 use Rattle.outcome.specs.Outcome.{Outcome, answer, ◌>>=◌, ◌>>◌, must}
-use Rattle.items.specs.Items.{Step, sound_from}
+use Rattle.items.specs.Items.{sound_from}
+use Rattle.items.specs.declared.Step.{Step}
 use Rattle.part.specs.Part.{part}
 use Rattle.outcome.proofs.OutcomeLaws.{bind_answer, bind_same, bind⁻¹}
 use Rattle.part.proofs.PartLaws.{drop-take, drop_later, part_later, get_or_inside, part_inside}

@@ -8,7 +8,7 @@ use Prim.Native.Nat.{ℕ, ◌+◌, ◌-◌, ◌≤◌, ◌<◌}
 use native.Mathlib.Omega.{arith}
 use lib.ListN.{length}
 use Rattle.outcome.specs.Outcome.{answer}
-use Rattle.items.specs.Items.{Step}
+use Rattle.items.specs.declared.Step.{Step}
 use Rattle.outcome.proofs.OutcomeLaws.{answer_injective, bind⁻¹}
 use Rattle.items.proofs.ItemsLaws.{Row, row_end, row_more, items⇒row}
 use Rattle.lists.proofs.ListsLaws.{Ascending, AscendingIn, ascending_wider, ascending-append, ascending_all, ascending_unique, flat_map_member, member_flat_map}

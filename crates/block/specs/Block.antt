@@ -1,7 +1,8 @@
 -- A block at an offset of a file, and the blocks that fill a file.
 use Rattle.std.specs.Prelude.{ℕ, ◌+◌, ◌-◌, Bool, cond, List, [], leb, eqb, length, take}
 use Rattle.outcome.specs.Outcome.{Outcome, answer, ◌>>=◌}
-use Rattle.items.specs.Items.{Step, items_from}
+use Rattle.items.specs.Items.{items_from}
+use Rattle.items.specs.declared.Step.{Step}
 use Rattle.framing.specs.declared.Frame.{Frame}
 use Rattle.framing.specs.Frame.{sound_frame_at}
 use Rattle.payload.specs.Payload.{Text, Entry, records_at, entries_at}

@@ -3,7 +3,8 @@
 -- stage read blocks by this and are total.
 use Rattle.std.specs.Prelude.{ℕ, ◌+◌, ◌-◌, ◌&&◌, cond, not, List, [], length, take}
 use Rattle.outcome.specs.Outcome.{Outcome, answer, ◌>>=◌}
-use Rattle.items.specs.Items.{Step, sound_from}
+use Rattle.items.specs.Items.{sound_from}
+use Rattle.items.specs.declared.Step.{Step}
 use Rattle.framing.specs.declared.Frame.{Frame}
 use Rattle.framing.specs.Frame.{frame_at}
 use Rattle.payload.specs.Payload.{Text, Entry, text_at, entry_at}

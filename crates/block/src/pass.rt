@@ -3,62 +3,35 @@ ghost use Rattle.std.specs.Prelude.{◌+◌, ◌≤◌, ◌<◌, ◌≡◌, ◌|
 ghost use Rattle.block.specs.Block as blocks;
 ghost use Rattle.block.specs.Survey as surveys;
 ghost use Rattle.block.specs.Answers as answers;
+ghost use Rattle.outcome.specs.Fault.{said_at, said};
 
-use crate::Survey;
-use framing::{Frame, FrameOutcome, sound_frame_at};
-use payload::{PayloadOutcome, entries_at, records_at};
-
-#[derive(Clone, Copy)]
-pub enum BlockOutcome {
-    // A sound block, and how many records it has.
-    Answer { frame: Frame, records: usize },
-    Refused(u64),
-}
+use crate::{Survey, Tallied};
+use framing::{Frame, sound_frame_at};
+use outcome::{Fault, Refusal};
+use payload::{entries_at, records_at};
 
 // The block at an offset, with every test of one block (10 to 16, 21).
-pub fn block_at(file: &[u8], at: usize) -> BlockOutcome
-    ensures { answers.block_said at result ≡ answers.tallied (blocks.block_at file.now at) }
+pub fn block_at(file: &[u8], at: usize) -> Result<Tallied, Fault>
+    ensures { said_at at result ≡ answers.tallied (blocks.block_at file.now at) }
 {
-    let found = sound_frame_at(file, at);
-    match found {
-        FrameOutcome::Refused(n) => BlockOutcome::Refused(n),
-        FrameOutcome::Answer(f) => block_in(file, f),
-    }
+    let frame = sound_frame_at(file, at)?;
+    block_in(file, frame)
 }
 
 // The block that a sound frame encloses.
-pub fn block_in(file: &[u8], f: Frame) -> BlockOutcome
+pub fn block_in(file: &[u8], f: Frame) -> Result<Tallied, Fault>
     requires { (f.body < f.end) × (f.end ≤ length file.now) }
-    ensures { answers.block_said f.start result ≡ answers.tallied (blocks.block_in file.now f) }
+    ensures { said_at f.start result ≡ answers.tallied (blocks.block_in file.now f) }
 {
-    let level = f.level;
+    let payload = &file[..f.end];
     let from = f.body + 1;
-    let end = f.end;
-    if Frame::LARGEST_LEVEL < level {
-        return BlockOutcome::Answer {
-            frame: f,
-            records: 0,
-        };
+    let mut records = 0;
+    if f.level == 0 {
+        records = records_at(payload, from)?;
+    } else if f.level <= Frame::LARGEST_LEVEL {
+        entries_at(payload, from)?;
     }
-    if level == 0 {
-        let items = records_at(&file[..end], from);
-        match items {
-            PayloadOutcome::Refused(n) => BlockOutcome::Refused(n),
-            PayloadOutcome::Answer(count) => BlockOutcome::Answer {
-                frame: f,
-                records: count,
-            },
-        }
-    } else {
-        let items = entries_at(&file[..end], from);
-        match items {
-            PayloadOutcome::Refused(n) => BlockOutcome::Refused(n),
-            PayloadOutcome::Answer(_) => BlockOutcome::Answer {
-                frame: f,
-                records: 0,
-            },
-        }
-    }
+    Ok(Tallied { frame: f, records })
 }
 
 // 1 for an ordinary block, 0 for a reserved one.
@@ -87,36 +60,23 @@ fn found_root(found: bool, f: Frame, root: u64, rootsize: u64) -> bool
     f.level <= Frame::LARGEST_LEVEL
 }
 
-#[derive(Clone, Copy)]
-pub enum SurveyOutcome {
-    Answer(Survey),
-    Refused { number: u64, place: usize },
-}
-
 // The block stage: every block from an offset to the file's end, front to back. `root` and `rootsize` are the header's.
-pub fn survey(file: &[u8], from: usize, root: u64, rootsize: u64) -> SurveyOutcome
-    ensures { answers.survey_said result ≡ surveys.survey_of file.now from root rootsize }
+pub fn survey(file: &[u8], from: usize, root: u64, rootsize: u64) -> Result<Survey, Refusal>
+    ensures { said result ≡ surveys.survey_of file.now from root rootsize }
 {
     let mut at = from;
     let mut ordinary: usize = 0;
     let mut records: usize = 0;
     let mut found = false;
     while at < file.len() {
-        let block = block_at(file, at);
-        match block {
-            BlockOutcome::Refused(n) => return SurveyOutcome::Refused {
-                number: n,
-                place: at,
-            },
-            BlockOutcome::Answer { frame, records: n } => {
-                ordinary += one_if_ordinary(frame.level);
-                records += n;
-                found = found_root(found, frame, root, rootsize);
-                at += frame.size;
-            },
-        }
+        let place = at as u64;
+        let block = block_at(file, at).map_err(|fault| Refusal { fault, place })?;
+        ordinary += one_if_ordinary(block.frame.level);
+        records += block.records;
+        found = found_root(found, block.frame, root, rootsize);
+        at += block.frame.size;
     }
-    SurveyOutcome::Answer(Survey {
+    Ok(Survey {
         blocks: ordinary,
         records,
         root: found,

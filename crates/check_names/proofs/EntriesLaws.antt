@@ -7,7 +7,8 @@ use Prim.Native.Nat.{ℕ, ◌-◌, ◌≤◌, ◌<◌}
 use native.Mathlib.Omega.{arith}
 use lib.ListN.{length, get_or, set, take, length-set}
 use Rattle.outcome.specs.Outcome.{Outcome, answer, refused}
-use Rattle.items.specs.Items.{Step, sound_from}
+use Rattle.items.specs.Items.{sound_from}
+use Rattle.items.specs.declared.Step.{Step}
 use Rattle.items.proofs.GoingLaws.{SoundProgress, sound_progress_start, sound_progress_more, sound_progress_next, sound_progress_end, sound_progress_refused}
 use Rattle.lists.specs.Lists.{all}
 use Rattle.lists.proofs.ListsLaws.{all_append}

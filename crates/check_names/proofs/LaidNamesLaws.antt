@@ -6,7 +6,7 @@ use Prim.Native.Nat.{ℕ, ◌+◌, ◌-◌, ◌≤◌, ◌<◌}
 use native.Mathlib.Omega.{arith}
 use lib.ListN.{length}
 use Rattle.outcome.specs.Outcome.{answer}
-use Rattle.items.specs.Items.{Step}
+use Rattle.items.specs.declared.Step.{Step}
 use Rattle.items.proofs.RunLaws.{Run, run_end, run_more, sound⇒run, ReadFrom, run_member}
 use Rattle.lists.proofs.ListsLaws.{Ascending, AscendingIn, ascending_wider, ascending_all}
 use Rattle.framing.specs.Frame.{frame_at}

@@ -11,7 +11,8 @@ use lib.Seq.{length-take-le}
 use borrow.Author.Tests.{eq-eqb, ne_eqb, lt-ltb, le-ltb}
 use Rattle.byte_string.specs.Order.{at_most}
 use Rattle.outcome.specs.Outcome.{Outcome, answer, refused}
-use Rattle.items.specs.Items.{Step, sound_from, where_answered}
+use Rattle.items.specs.Items.{sound_from, where_answered}
+use Rattle.items.specs.declared.Step.{Step}
 use Rattle.part.specs.Part.{part}
 use Rattle.part.specs.declared.Part.{Part}
 use Rattle.part.proofs.PartLaws.{part-take, length_part}

@@ -6,7 +6,8 @@ use Prim.Native.Nat.{ℕ, ◌+◌, ◌-◌, ◌≤◌}
 use native.Mathlib.Omega.{arith}
 use lib.ListN.{length, take}
 use Rattle.outcome.specs.Outcome.{Outcome, answer, refused}
-use Rattle.items.specs.Items.{Step, sound_from, where_answered}
+use Rattle.items.specs.Items.{sound_from, where_answered}
+use Rattle.items.specs.declared.Step.{Step}
 use Rattle.items.proofs.ItemsLaws.{sound_end}
 use Rattle.part.specs.declared.Part.{Part}
 use Rattle.framing.specs.declared.Frame.{Frame}

@@ -16,7 +16,7 @@ use Rattle.uleb128.specs.declared.Number.TheVariants.{Value}
 use Rattle.uleb128.specs.Number.{refused as badNumber}
 use Rattle.uleb128.proofs.NumberLaws.{number_used, number_lt, reading-cut, reading-first}
 use Rattle.outcome.specs.Outcome.{answer, refused}
-use Rattle.items.specs.Items.{Step}
+use Rattle.items.specs.declared.Step.{Step}
 use Rattle.outcome.proofs.OutcomeLaws.{answer_injective, refused_not_answer, kept, broken, kept⁻¹, bind_answer, bind⁻¹}
 use Rattle.part.proofs.PartLaws.{lent_drop}
 use Rattle.framing.specs.declared.Frame.{Frame}

@@ -5,7 +5,7 @@ use Rattle.uleb128.specs.Number.{refused as badNumber}
 use Rattle.endian.specs.FixedWidth.{little_endian}
 use Rattle.crc64.specs.Crc64.{crc64}
 use Rattle.outcome.specs.Outcome.{Outcome, answer, refused, ◌>>=◌, ◌>>◌, must}
-use Rattle.items.specs.Items.{Step}
+use Rattle.items.specs.declared.Step.{Step}
 use Rattle.part.specs.Part.{part}
 use Rattle.framing.specs.declared.Frame.{Frame}
 

@@ -1,3 +1,2 @@
 -- The meaning of a frame.
 pub mod Frame
-pub mod Answers

@@ -7,8 +7,6 @@ use Rattle.outcome.specs.Outcome.{Outcome, answer, refused, ◌>>◌, must}
 use Rattle.part.specs.Part.{part}
 use Rattle.header.specs.Metadata.{is_metadata}
 use Rattle.header.specs.declared.Header.{Header}
-use Rattle.header.specs.declared.HeaderOutcome.{HeaderOutcome}
-use Rattle.header.specs.declared.HeaderOutcome.TheVariants.{Answer as Good, Refused as Bad}
 
 -- the magic of a finished file, and of an unfinished one
 unfoldable pub magic : List ℕ
@@ -83,8 +81,3 @@ header_of file = do
 -- where the blocks begin
 unfoldable pub blocks_from : Header → ℕ
 blocks_from h = h.blocks
-
--- what an answer of `Header::read` says
-unfoldable pub header_said : HeaderOutcome → Outcome Header
-header_said (Good h) = answer h
-header_said (Bad number) = refused number 0

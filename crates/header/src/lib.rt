@@ -3,10 +3,12 @@
 
 ghost use Rattle.std.specs.Prelude.{◌≡◌, true};
 ghost use Rattle.byte_string.specs.Order.{begins};
+ghost use Rattle.outcome.specs.Fault.{said_at};
 ghost use Rattle.header.specs.Header as header;
 ghost use Rattle.header.specs.Metadata.{is_metadata};
 ghost use Rattle.header.specs.MetadataPart.{metadata_part};
 
+use outcome::Fault;
 use part::Part;
 
 // The numbers of a header. The hash, the codec and the metadata are read at their offsets.
@@ -20,13 +22,6 @@ pub struct Header {
     pub rootsize: u64,
     // The length of the metadata (M).
     pub metadata: u64,
-}
-
-#[derive(Clone, Copy)]
-pub enum HeaderOutcome {
-    Answer(Header),
-    // The number of a refusal; its place is 0.
-    Refused(u64),
 }
 
 impl Header {
@@ -58,21 +53,21 @@ impl Header {
     pub const LEAST_BLOCKS: usize = 104;
 
     // The header of a file, or the first of the refusals 1 to 9.
-    pub fn read(file: &[u8]) -> HeaderOutcome
-        ensures { header.header_said result ≡ header.header_of file.now }
+    pub fn read(file: &[u8]) -> Result<Header, Fault>
+        ensures { said_at 0 result ≡ header.header_of file.now }
     {
         if Header::MAX_FILE < file.len() {
-            return HeaderOutcome::Refused(1);
+            return Err(Fault::FileTooLong);
         }
         let unfinished = b"\xabZStoBe\x01";
         if byte_string::compare(unfinished, file).begins(unfinished.len()) {
-            return HeaderOutcome::Refused(2);
+            return Err(Fault::Unfinished);
         }
         if !has_magic(file) {
-            return HeaderOutcome::Refused(3);
+            return Err(Fault::Magic);
         }
         if !holds_header(file) {
-            return HeaderOutcome::Refused(4);
+            return Err(Fault::HeaderCutOff);
         }
         data(file)
     }
@@ -97,15 +92,15 @@ pub fn holds_header(file: &[u8]) -> bool
 }
 
 // The header, or the first of the refusals 5 to 9, which look at the header data.
-fn data(file: &[u8]) -> HeaderOutcome
+fn data(file: &[u8]) -> Result<Header, Fault>
     requires { header.holds_header file.now ≡ true }
-    ensures { header.header_said result ≡ header.data_of file.now }
+    ensures { said_at 0 result ≡ header.data_of file.now }
 {
     if !crc_right(file) {
-        return HeaderOutcome::Refused(5);
+        return Err(Fault::HeaderCrc);
     }
     if !holds_metadata(file) {
-        return HeaderOutcome::Refused(6);
+        return Err(Fault::HeaderLengths);
     }
     fields(file)
 }
@@ -150,24 +145,24 @@ pub fn is_metadata(bytes: &[u8]) -> bool
 }
 
 // The header, or the first of the refusals 7 to 9.
-fn fields(file: &[u8]) -> HeaderOutcome
+fn fields(file: &[u8]) -> Result<Header, Fault>
     requires { (header.holds_header file.now ≡ true) × (header.holds_metadata file.now ≡ true) }
-    ensures { header.header_said result ≡ header.fields_of file.now }
+    ensures { said_at 0 result ≡ header.fields_of file.now }
 {
     let codec = b"none\0\0\0\0\0\0\0\0\0\0\0\0";
     if !byte_string::compare(codec, &file[Header::CODEC_AT..]).begins(codec.len()) {
-        return HeaderOutcome::Refused(7);
+        return Err(Fault::Codec);
     }
     if endian::le64_at(file, Header::TOTAL_AT) != file.len() as u64 {
-        return HeaderOutcome::Refused(8);
+        return Err(Fault::FileLength);
     }
     let metadata = endian::le64_at(file, Header::METADATA_LENGTH_AT);
     let end = Header::METADATA_AT + metadata as usize;
     if !is_metadata(&file[Header::METADATA_AT..end]) {
-        return HeaderOutcome::Refused(9);
+        return Err(Fault::Metadata);
     }
     let blocks = Header::AROUND + endian::le64_at(file, Header::EXTENT_AT) as usize;
-    HeaderOutcome::Answer(Header {
+    Ok(Header {
         blocks,
         root: endian::le64_at(file, Header::ROOT_AT),
         rootsize: endian::le64_at(file, Header::ROOT_SIZE_AT),
@@ -179,15 +174,11 @@ fn fields(file: &[u8]) -> HeaderOutcome
 pub fn metadata(file: &[u8]) -> Part
     ensures { result ≡ metadata_part file.now }
 {
-    let outcome = Header::read(file);
-    match outcome {
-        HeaderOutcome::Answer(header) => Part {
+    match Header::read(file) {
+        Ok(header) => Part {
             offset: Header::METADATA_AT,
             length: header.metadata as usize,
         },
-        HeaderOutcome::Refused(_) => Part {
-            offset: 0,
-            length: 0,
-        },
+        Err(_) => Part::NONE,
     }
 }

@@ -11,7 +11,8 @@ use lib.Seq.{length-take-le}
 use borrow.Author.Tests.{eq-eqb, ne_eqb}
 use Rattle.outcome.specs.Outcome.{Outcome, answer, refused}
 use Rattle.outcome.proofs.OutcomeLaws.{answer_injective, bind_answer, bind_refused, bind⁻¹}
-use Rattle.items.specs.Items.{Step, where_answered}
+use Rattle.items.specs.Items.{where_answered}
+use Rattle.items.specs.declared.Step.{Step}
 use Rattle.part.specs.declared.Part.{Part}
 use Rattle.part.proofs.PartLaws.{part-take}
 use Rattle.framing.specs.declared.Frame.{Frame}

@@ -10,7 +10,8 @@ use lib.ListN.{length}
 use lib.Seq.{append_snoc}
 use borrow.Author.Tests.{le-leb, lt-leb, leb-true, leb-false}
 use Rattle.outcome.specs.Outcome.{Outcome, answer, refused, ◌>>=◌}
-use Rattle.items.specs.Items.{Step, items_from, sound_from, where_answered}
+use Rattle.items.specs.Items.{items_from, sound_from, where_answered}
+use Rattle.items.specs.declared.Step.{Step}
 use Rattle.outcome.proofs.OutcomeLaws.{bind⁻¹, bind_answer, bind_same, bind_assoc, bind_right, answer_injective, refused_not_answer}
 
 module _ {A : Type 0} (step : ℕ → Outcome (Step A)) (end : ℕ) where

@@ -8,7 +8,8 @@ use lib.Dec.{leb}
 use borrow.Author.Tests.{leb-true}
 use Rattle.outcome.specs.Outcome.{Outcome, answer, ◌>>=◌}
 use Rattle.outcome.proofs.RefusalLaws.{Refuses, refuses_answer, refuses_bind}
-use Rattle.items.specs.Items.{Step, items_from}
+use Rattle.items.specs.Items.{items_from}
+use Rattle.items.specs.declared.Step.{Step}
 use Rattle.items.proofs.ItemsLaws.{items_end_lem}
 
 pub refuses_items : (Kind : ℕ → Type 0) {A : Type 0} (step : ℕ → Outcome (Step A)) (end : ℕ) → ((at : ℕ) → Refuses Kind (step at)) → (fuel at : ℕ)

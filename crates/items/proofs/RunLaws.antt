@@ -10,7 +10,8 @@ use native.Mathlib.Omega.{arith}
 use lib.Dec.{leb}
 use borrow.Author.Tests.{leb-true, leb-false}
 use Rattle.outcome.specs.Outcome.{Outcome, answer, refused}
-use Rattle.items.specs.Items.{Step, sound_from}
+use Rattle.items.specs.Items.{sound_from}
+use Rattle.items.specs.declared.Step.{Step}
 use Rattle.items.proofs.ItemsLaws.{sound_end, sound_step, sound_refused, Row, row_end, row_more}
 
 module _ {A : Type 0} (step : ℕ → Outcome (Step A)) (end : ℕ) where

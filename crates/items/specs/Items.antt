@@ -1,11 +1,7 @@
 -- Items that follow one another in a byte string: records or entries in a payload, blocks in a file.
 use Rattle.std.specs.Prelude.{ℕ, zero, suc, cond, List, [], ◌∷◌, leb}
 use Rattle.outcome.specs.Outcome.{Outcome, answer, refused, ◌>>=◌}
-
--- an item, and where the next one begins
-pub record Step (A : Type 0) : Type 0 where
-  pub item : A
-  pub next : ℕ
+use Rattle.items.specs.declared.Step.{Step}
 
 -- what is listed where there is an answer; after a refusal nothing
 unfoldable pub where_answered : {A B : Type 0} → Outcome A → (A → List B) → List B

@@ -9,7 +9,7 @@ use Rattle.endian.specs.FixedWidth.{little_bytes}
 use Rattle.uleb128.specs.Encoding.{encoding}
 use Rattle.crc64.specs.Crc64.{crc64}
 use Rattle.outcome.specs.Outcome.{answer}
-use Rattle.items.specs.Items.{Step}
+use Rattle.items.specs.declared.Step.{Step}
 use Rattle.payload.specs.Payload.{Text, text_at}
 use Rattle.layout.specs.Blocks.{text_bytes, block_bytes}
 use Rattle.layout.specs.Index.{IndexEntry, entry_bytes, first_key}

@@ -12,7 +12,8 @@ use lib.ListN.{length}
 use borrow.Author.Tests.{lt-ltb}
 use Rattle.outcome.specs.Outcome.{answer, refused}
 use Rattle.outcome.proofs.OutcomeLaws.{answer_injective, kept, broken, bind_answer}
-use Rattle.items.specs.Items.{Step, items_from}
+use Rattle.items.specs.Items.{items_from}
+use Rattle.items.specs.declared.Step.{Step}
 use Rattle.items.proofs.ItemsLaws.{Row, row_end, row_more}
 use Rattle.part.proofs.PartLaws.{length_part}
 use Rattle.framing.proofs.FrameLaws.{numbered}

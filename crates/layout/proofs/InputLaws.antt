@@ -16,7 +16,7 @@ use Rattle.part.specs.Part.{part}
 use Rattle.part.proofs.PartLaws.{part-add, length_part}
 use Rattle.outcome.specs.Outcome.{answer}
 use Rattle.outcome.proofs.OutcomeLaws.{answer_injective}
-use Rattle.items.specs.Items.{Step}
+use Rattle.items.specs.declared.Step.{Step}
 use Rattle.items.proofs.ItemsLaws.{Row, row_end, row_more}
 use Rattle.framing.proofs.FrameLaws.{Numbered, numbered, number_read}
 use Rattle.payload.specs.Payload.{Text, text_at}

@@ -7,7 +7,8 @@ use native.Mathlib.Omega.{arith}
 use lib.ListN.{length, length-append}
 use Rattle.outcome.specs.Outcome.{Outcome, answer}
 use Rattle.outcome.proofs.OutcomeLaws.{bind_answer}
-use Rattle.items.specs.Items.{Step, items_from, sound_from}
+use Rattle.items.specs.Items.{items_from, sound_from}
+use Rattle.items.specs.declared.Step.{Step}
 use Rattle.items.proofs.ItemsLaws.{items_end_lem, items_step, sound_step}
 use Rattle.layout.proofs.LiesLaws.{Lies, lies_front, lies_back}
 

@@ -12,7 +12,8 @@ use lib.ListN.{length, length-append}
 use borrow.Author.Tests.{lt-ltb}
 use Rattle.outcome.specs.Outcome.{Outcome, answer}
 use Rattle.outcome.proofs.OutcomeLaws.{kept, bind_answer}
-use Rattle.items.specs.Items.{Step, items_from}
+use Rattle.items.specs.Items.{items_from}
+use Rattle.items.specs.declared.Step.{Step}
 use Rattle.uleb128.proofs.EncodingLaws.{encoding_some}
 use Rattle.payload.specs.Payload.{Text, Entry, text_at, entry_at, rising, payload_at, records_at, entries_at}
 use Rattle.layout.specs.Blocks.{text_bytes, block_size, records_bytes, data_bytes}

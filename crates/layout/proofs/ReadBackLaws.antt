@@ -17,7 +17,7 @@ use Rattle.crc64.specs.Crc64.{crc64}
 use Rattle.crc64.proofs.Crc64Laws.{crc64_lt}
 use Rattle.outcome.specs.Outcome.{answer}
 use Rattle.outcome.proofs.OutcomeLaws.{bind_answer}
-use Rattle.items.specs.Items.{Step}
+use Rattle.items.specs.declared.Step.{Step}
 use Rattle.part.specs.Part.{part}
 use Rattle.framing.specs.Frame.{read_as, number_at, frame_at, framed, crc_right, sound_frame_at}
 use Rattle.framing.proofs.FrameLaws.{framed_found, sound_frame}

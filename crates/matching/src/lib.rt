@@ -2,13 +2,14 @@
 #![tactic(auto)]
 
 ghost use Rattle.std.specs.Prelude.{ℕ, ◌+◌, ◌-◌, ◌^◌, ◌<◌, leb, length, ◌≡◌};
-ghost use Rattle.query.specs.Query.{query_of};
+ghost use Rattle.query.specs.Asked.{asked};
 ghost use Rattle.matching.specs.Matching.{matching, records_from};
 ghost use Rattle.matching.specs.Packing.{packed};
 ghost use Rattle.matching.specs.ResultList.{room_for, with_record, Stored, put_all};
 
 use part::Part;
-use payload::{TextOutcome, text_at};
+use payload::text_at;
+use query::Query;
 
 // Whether a result list has room for n matches.
 pub fn has_room(results: &[u64], n: usize) -> bool
@@ -37,34 +38,26 @@ fn put_match(results: &mut [u64], count: usize, found: Part)
 pub fn collect_records(
     s: &[u8],
     from: usize,
-    start: &[u8],
-    stop_given: bool,
-    stop: &[u8],
-    prefix: &[u8],
+    query: Query<'_>,
     results: &mut [u64],
     count: usize,
 ) -> usize
     requires { (count + (length s.now - from) < 2 ^ 64) × (length s.now < 2 ^ 32) }
     ensures { (place : ℕ) → ◌≡◌ {A = Stored} (record { count = result; list = results.new })
         (put_all (record { count = count; list = results.old })
-        (matching (query_of start.now stop_given stop.now prefix.now) (records_from place s.now from))) }
+        (matching (asked query.entry) (records_from place s.now from))) }
 {
     let mut at = from;
     let mut found = count;
     while at < s.len() {
-        let step = text_at(s, at);
-        match step {
-            TextOutcome::Refused(_) => return found,
-            TextOutcome::Answer(text) => {
-                let first = text.offset;
-                let end = first + text.length;
-                if query::matches(&s[first..end], start, stop_given, stop, prefix) {
-                    put_match(results, found, text);
-                    found += 1;
-                }
-                at = end;
-            },
+        let Ok(text) = text_at(s, at) else {
+            return found;
+        };
+        if query.matches(text.of(s)) {
+            put_match(results, found, text);
+            found += 1;
         }
+        at = text.end();
     }
     found
 }

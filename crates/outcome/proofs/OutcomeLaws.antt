@@ -7,8 +7,10 @@ use Prim.Native.Nat.{ℕ}
 use native.Mathlib.Omega.{arith}
 use borrow.Author.Tests.{eq-eqb, ne_eqb}
 use Rattle.outcome.specs.Outcome.{Outcome, answer, refused, ◌>>=◌, ◌>>◌, must}
+use Rattle.outcome.specs.declared.Fault.{Fault}
 use Rattle.outcome.specs.declared.Refusal.{Refusal}
-use Rattle.outcome.specs.Refusal.{refusal_of}
+use Rattle.std.specs.Prelude.{Result, Ok, Err}
+use Rattle.outcome.specs.Fault.{number, said_at, said}
 
 -- ---- constructors
 
@@ -120,12 +122,20 @@ unfolding ◌>>◌
 after_same (answer u) p q h = h refl
 after_same (refused number place) p q h = refl
 
--- ---- a refusal as a struct
+-- ---- what a result says
 
-pub fault_none : (f : Refusal) → f.number ≡ 0 → refusal_of f ≡ answer tt
-unfolding refusal_of
-fault_none f z = rw (eq-eqb f.number 0 z)
+pub says_answer : {A : Type 0} (place : ℕ) (r : Result A Fault) (a : A) → r ≡ Ok a → said_at place r ≡ answer a
+unfolding said_at
+says_answer place r a e = rw e
 
-pub fault_some : (f : Refusal) → f.number ≢ 0 → refusal_of f ≡ refused f.number f.place
-unfolding refusal_of
-fault_some f h = rw (ne_eqb f.number 0 h)
+pub says_fault : {A : Type 0} (place : ℕ) (r : Result A Fault) (f : Fault) → r ≡ Err f → said_at place r ≡ refused (number f) place
+unfolding said_at
+says_fault place r f e = rw e
+
+pub says_done : {A : Type 0} (r : Result A Refusal) (a : A) → r ≡ Ok a → said r ≡ answer a
+unfolding said
+says_done r a e = rw e
+
+pub says_refusal : {A : Type 0} (r : Result A Refusal) (f : Refusal) → r ≡ Err f → said r ≡ refused (number f.fault) f.place
+unfolding said
+says_refusal r f e = rw e

@@ -1,3 +1,3 @@
 -- An answer or a refusal.
 pub mod Outcome
-pub mod Refusal
+pub mod Fault

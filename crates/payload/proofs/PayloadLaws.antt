@@ -8,7 +8,7 @@ use lib.Dec.{leb}
 use lib.ListN.{length}
 use borrow.Author.Tests.{le-leb, lt-leb, leb-true}
 use Rattle.outcome.specs.Outcome.{answer, refused}
-use Rattle.items.specs.Items.{Step}
+use Rattle.items.specs.declared.Step.{Step}
 use Rattle.outcome.proofs.OutcomeLaws.{answer_injective, kept, broken, kept⁻¹, bind_answer, bind_refused, bind⁻¹}
 use Rattle.part.proofs.PartLaws.{length_part}
 use Rattle.framing.specs.Frame.{number_at}

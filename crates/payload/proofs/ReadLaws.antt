@@ -9,7 +9,8 @@ use lib.Dec.{ltb}
 use lib.ListN.{length, take}
 use borrow.Author.Tests.{ltb-true}
 use Rattle.outcome.specs.Outcome.{Outcome, answer}
-use Rattle.items.specs.Items.{Step, items_from}
+use Rattle.items.specs.Items.{items_from}
+use Rattle.items.specs.declared.Step.{Step}
 use Rattle.part.specs.Part.{part}
 use Rattle.outcome.proofs.OutcomeLaws.{answer_injective, kept⁻¹, bind_answer, bind⁻¹}
 use Rattle.part.proofs.PartLaws.{part-take}

@@ -4,7 +4,8 @@ use mathlib.Core.List.{List}
 use Prim.Native.Nat.{ℕ, ◌-◌}
 use Rattle.outcome.specs.Outcome.{Outcome}
 use Rattle.outcome.proofs.RefusalLaws.{Refuses, refuses_answer, refuses_bind, refuses_rule}
-use Rattle.items.specs.Items.{Step, items_from}
+use Rattle.items.specs.Items.{items_from}
+use Rattle.items.specs.declared.Step.{Step}
 use Rattle.items.proofs.RefusalItemsLaws.{refuses_items}
 use Rattle.framing.specs.Frame.{number_at}
 use Rattle.framing.proofs.RefusalLaws.{number_refuses}

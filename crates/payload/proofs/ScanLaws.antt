@@ -11,7 +11,7 @@ use borrow.Author.Tests.{lt-ltb, le-ltb}
 use Rattle.byte_string.specs.Order.{at_most}
 use Rattle.byte_string.proofs.OrderLaws.{nil_at_most, at_most_trans}
 use Rattle.outcome.specs.Outcome.{Outcome, answer, refused}
-use Rattle.items.specs.Items.{Step}
+use Rattle.items.specs.declared.Step.{Step}
 use Rattle.part.specs.Part.{part}
 use Rattle.outcome.proofs.OutcomeLaws.{kept, broken, bind_answer, bind_refused}
 use Rattle.items.proofs.ItemsLaws.{Progress, progress_start, progress_more, progress_end, progress_refused}

@@ -3,7 +3,8 @@
 use Rattle.std.specs.Prelude.{ℕ, ◌+◌, ◌-◌, List, map, leb, ltb, length}
 unfoldable pub use Rattle.byte_string.specs.Rising.{rising_from, rising}
 use Rattle.outcome.specs.Outcome.{Outcome, answer, ◌>>=◌, ◌>>◌, must}
-use Rattle.items.specs.Items.{Step, items_from}
+use Rattle.items.specs.Items.{items_from}
+use Rattle.items.specs.declared.Step.{Step}
 use Rattle.part.specs.Part.{part}
 use Rattle.framing.specs.Frame.{number_at}
 

@@ -1,43 +1,66 @@
 // Queries: whether a record matches, and whether a block between two bounds may hold a match.
-//
-// A stop or an upper bound that isn't given is passed as `false` and any slice; the bytes of that slice have no influence.
 #![tactic(auto)]
 
 ghost use Rattle.std.specs.Prelude.{◌≡◌};
-ghost use Rattle.query.specs.Query.{query_of, given, before, matches};
-ghost use Rattle.query.specs.Opening.{may_match, up_to, admits_prefix};
+ghost use Rattle.query.specs.Query.{before, matches};
+ghost use Rattle.query.specs.Opening.{may_match, reaches, up_to, admits_prefix};
+ghost use Rattle.query.specs.Asked.{asked, lent};
 
-// Whether x is less than the stop, where there is one.
-fn before_stop(x: &[u8], stop_given: bool, stop: &[u8]) -> bool
-    ensures { result ≡ before x.now (given stop_given stop.now) }
-{
-    if stop_given {
-        return byte_string::compare(x, stop).less();
-    }
-    true
+// A start, a stop that is given or not, and a prefix; start and prefix may be empty.
+#[derive(Clone, Copy)]
+pub struct Query<'a> {
+    pub start: &'a [u8],
+    pub stop: Option<&'a [u8]>,
+    pub prefix: &'a [u8],
 }
 
-// Whether a byte string matches.
-pub fn matches(x: &[u8], start: &[u8], stop_given: bool, stop: &[u8], prefix: &[u8]) -> bool
-    ensures { result ≡ matches (query_of start.now stop_given stop.now prefix.now) x.now }
+impl<'a> Query<'a> {
+    // Whether a byte string matches.
+    pub fn matches(self, x: &[u8]) -> bool
+        ensures { result ≡ matches (asked self.entry) x.now }
+    {
+        byte_string::compare(self.start, x).at_most()
+            && before(x, self.stop)
+            && byte_string::compare(self.prefix, x).begins(self.prefix.len())
+    }
+
+    // The opening test: whether any byte string from `lower` to `upper`, both included, matches.
+    pub fn may_match(self, lower: &[u8], upper: Option<&[u8]>) -> bool
+        ensures { result ≡ may_match lower.now (lent upper.entry) (asked self.entry) }
+    {
+        reaches(lower, upper, self.stop)
+            && reaches(self.start, upper, self.stop)
+            && reaches(self.prefix, upper, self.stop)
+            && admits_prefix(lower, self.prefix)
+            && admits_prefix(self.start, self.prefix)
+    }
+}
+
+// Whether x is less than the stop, where there is one.
+fn before(x: &[u8], stop: Option<&[u8]>) -> bool
+    ensures { result ≡ before x.now (lent stop.entry) }
 {
-    if !byte_string::compare(start, x).at_most() {
-        return false;
+    match stop {
+        Some(stop) => byte_string::compare(x, stop).less(),
+        None => true,
     }
-    if !before_stop(x, stop_given, stop) {
-        return false;
-    }
-    byte_string::compare(prefix, x).begins(prefix.len())
 }
 
 // Whether x is at most the upper bound, where there is one.
-fn up_to(x: &[u8], upper_given: bool, upper: &[u8]) -> bool
-    ensures { result ≡ up_to x.now (given upper_given upper.now) }
+fn up_to(x: &[u8], upper: Option<&[u8]>) -> bool
+    ensures { result ≡ up_to x.now (lent upper.entry) }
 {
-    if upper_given {
-        return byte_string::compare(x, upper).at_most();
+    match upper {
+        Some(upper) => byte_string::compare(x, upper).at_most(),
+        None => true,
     }
-    true
+}
+
+// Whether x is neither past the upper bound nor at or past the stop.
+fn reaches(x: &[u8], upper: Option<&[u8]>, stop: Option<&[u8]>) -> bool
+    ensures { result ≡ reaches x.now (lent upper.entry) (lent stop.entry) }
+{
+    up_to(x, upper) && before(x, stop)
 }
 
 // Whether some byte string from `from` on begins with the prefix.
@@ -45,45 +68,5 @@ fn admits_prefix(from: &[u8], prefix: &[u8]) -> bool
     ensures { result ≡ admits_prefix from.now prefix.now }
 {
     let compared = byte_string::compare(from, prefix);
-    if compared.at_most() {
-        return true;
-    }
-    compared.begins(prefix.len())
-}
-
-// The opening test: whether any byte string from `lower` to `upper`, both included, matches.
-pub fn may_match(
-    lower: &[u8],
-    upper_given: bool,
-    upper: &[u8],
-    start: &[u8],
-    stop_given: bool,
-    stop: &[u8],
-    prefix: &[u8],
-) -> bool
-    ensures { result ≡ may_match lower.now (given upper_given upper.now)
-        (query_of start.now stop_given stop.now prefix.now) }
-{
-    if !up_to(lower, upper_given, upper) {
-        return false;
-    }
-    if !before_stop(lower, stop_given, stop) {
-        return false;
-    }
-    if !up_to(start, upper_given, upper) {
-        return false;
-    }
-    if !before_stop(start, stop_given, stop) {
-        return false;
-    }
-    if !up_to(prefix, upper_given, upper) {
-        return false;
-    }
-    if !before_stop(prefix, stop_given, stop) {
-        return false;
-    }
-    if !admits_prefix(lower, prefix) {
-        return false;
-    }
-    admits_prefix(start, prefix)
+    compared.at_most() || compared.begins(prefix.len())
 }

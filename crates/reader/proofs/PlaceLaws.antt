@@ -15,7 +15,8 @@ use Rattle.part.specs.Part.{part}
 use Rattle.part.proofs.PartLaws.{part-take}
 use Rattle.outcome.specs.Outcome.{Outcome, answer, refused}
 use Rattle.outcome.proofs.OutcomeLaws.{answer_injective, bind⁻¹}
-use Rattle.items.specs.Items.{Step, sound_from}
+use Rattle.items.specs.Items.{sound_from}
+use Rattle.items.specs.declared.Step.{Step}
 use Rattle.items.proofs.ItemsLaws.{sound_end, sound_step, sound_refused}
 use Rattle.framing.specs.declared.Frame.{Frame}
 use Rattle.framing.specs.Frame.{frame_at}

@@ -11,7 +11,8 @@ use lib.ListN.{length, take}
 use lib.Seq.{length-take-le}
 use borrow.Author.Tests.{lt-ltb, eqb-true, eq-eqb}
 use Rattle.outcome.specs.Outcome.{Outcome, answer}
-use Rattle.items.specs.Items.{Step, items_from}
+use Rattle.items.specs.Items.{items_from}
+use Rattle.items.specs.declared.Step.{Step}
 use Rattle.outcome.proofs.OutcomeLaws.{answer_injective, kept, bind_answer, bind⁻¹}
 use Rattle.framing.specs.declared.Frame.{Frame}
 use Rattle.framing.specs.Frame.{number_at, framed, frame_at, crc_right, sound_frame_at}

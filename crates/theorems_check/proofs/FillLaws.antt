@@ -6,7 +6,8 @@ use mathlib.Core.List.{List, []}
 use Prim.Native.Nat.{ℕ, ◌-◌, ◌≤◌, ◌<◌}
 use native.Mathlib.Omega.{arith}
 use Rattle.outcome.specs.Outcome.{Outcome, answer}
-use Rattle.items.specs.Items.{Step, items_from}
+use Rattle.items.specs.Items.{items_from}
+use Rattle.items.specs.declared.Step.{Step}
 use Rattle.items.proofs.ItemsLaws.{Row, row_end, row_more, items⇒row, row⇒items}
 use Rattle.theorems_check.specs.Rules.{Fill, full, item}
 

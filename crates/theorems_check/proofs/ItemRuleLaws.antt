@@ -9,7 +9,7 @@ use lib.Seq.{take-take}
 use Rattle.uleb128.specs.Number.{number, reading}
 use Rattle.uleb128.proofs.NumberLaws.{number_local}
 use Rattle.outcome.specs.Outcome.{answer}
-use Rattle.items.specs.Items.{Step}
+use Rattle.items.specs.declared.Step.{Step}
 use Rattle.part.specs.Part.{part}
 use Rattle.outcome.proofs.OutcomeLaws.{bind_answer}
 use Rattle.part.proofs.PartLaws.{length_part}

@@ -1,7 +1,8 @@
 -- A number of the format (uleb128): seven bits a byte, lowest first, the top bit set on all but the last byte.
-use Rattle.std.specs.Prelude.{ℕ, suc, ◌+◌, ◌*◌, ◌%◌, ◌&&◌, cond, List, [], ◌∷◌, leb, ltb, eqb, length, take, get_or}
+use Rattle.std.specs.Prelude.{ℕ, suc, ◌+◌, ◌*◌, ◌%◌, ◌&&◌, cond, List, [], ◌∷◌, leb, ltb, eqb, length, take, get_or, Result, Ok, Err}
 use Rattle.uleb128.specs.declared.Number.{Number}
-use Rattle.uleb128.specs.declared.Number.TheVariants.{Value, CutOff, TooWide, NotShortest}
+use Rattle.uleb128.specs.declared.NumberFault.{NumberFault}
+use Rattle.uleb128.specs.declared.NumberFault.TheVariants.{CutOff, TooWide, NotShortest}
 
 -- what reading a number at the front of a part finds
 pub data Reading : Type 0 where
@@ -33,8 +34,8 @@ reading s =
     (number (sevens (take (n + 1) s)) (n + 1))))
 
 -- what an answer of `read_number` says
-unfoldable pub reading_said : Number → Reading
-reading_said (Value value used) = number value used
-reading_said CutOff = cut_off
-reading_said TooWide = refused 11
-reading_said NotShortest = refused 12
+unfoldable pub reading_said : Result Number NumberFault → Reading
+reading_said (Ok n) = number n.value n.used
+reading_said (Err CutOff) = cut_off
+reading_said (Err TooWide) = refused 11
+reading_said (Err NotShortest) = refused 12

@@ -5,11 +5,16 @@ ghost use Rattle.std.specs.Prelude.{◌≡◌, length};
 ghost use Rattle.uleb128.specs.Number.{reading, reading_said};
 ghost use Rattle.uleb128.specs.Encoding.{encoding};
 
-// What stands at the front of the part.
+// A number that stands at the front of a part: its value, and how many bytes it takes.
 #[derive(Clone, Copy)]
-pub enum Number {
-    // A number: its value, and how many bytes it takes.
-    Value { value: u64, used: usize },
+pub struct Number {
+    pub value: u64,
+    pub used: usize,
+}
+
+// Why none stands there.
+#[derive(Clone, Copy)]
+pub enum NumberFault {
     // The part ends before the number does.
     CutOff,
     // Nine bytes from 80 hex up.
@@ -19,7 +24,7 @@ pub enum Number {
 }
 
 // The number at the front of the part, which may end anywhere.
-pub fn read_number(part: &[u8]) -> Number
+pub fn read_number(part: &[u8]) -> Result<Number, NumberFault>
     ensures { reading_said result ≡ reading part.now }
 {
     let mut value: u64 = 0;
@@ -30,22 +35,22 @@ pub fn read_number(part: &[u8]) -> Number
         if b < 128 {
             if b == 0 {
                 if 0 < n {
-                    return Number::NotShortest;
+                    return Err(NumberFault::NotShortest);
                 }
             }
-            return Number::Value {
+            return Ok(Number {
                 value: value + b * scale,
                 used: n + 1,
-            };
+            });
         }
         if n == 8 {
-            return Number::TooWide;
+            return Err(NumberFault::TooWide);
         }
         value += (b - 128) * scale;
         scale *= 128;
         n += 1;
     }
-    Number::CutOff
+    Err(NumberFault::CutOff)
 }
 
 // How many bytes the shortest form of a number takes.

@@ -16,7 +16,7 @@ use Rattle.lists.specs.Groups.{groups}
 use Rattle.lists.proofs.ListsLaws.{flat_map_append}
 use Rattle.lists.proofs.GroupsLaws.{groups_cons, groups_nil}
 use Rattle.part.specs.Part.{part}
-use Rattle.items.specs.Items.{Step}
+use Rattle.items.specs.declared.Step.{Step}
 use Rattle.items.proofs.ItemsLaws.{Row, row_end, row_more}
 use Rattle.payload.specs.Payload.{Text, text_at}
 use Rattle.output_bytes.specs.OutputBytes.{bytes_fit, stored, stored_length}
