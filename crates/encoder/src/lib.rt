@@ -18,13 +18,13 @@ pub fn put_number(output: &mut [u8], at: usize, value: u64) -> usize
     if output.len() < at || output.len() - at < length {
         return 0;
     }
-    let last = at + length - 1;
+    let last = length - 1;
     let mut rest = value;
-    for place in at..last {
-        output[place] = (rest % 128 + 128) as u8;
+    for i in 0..last {
+        output[at + i] = (rest % 128 + 128) as u8;
         rest /= 128;
     }
-    output[last] = rest as u8;
+    output[at + last] = rest as u8;
     length
 }
 
