@@ -21,7 +21,6 @@ pub struct Written {
 impl From<Fault> for Written {
     ghost from_gives = { λ fault w. w ≡ written_answer (refused (number fault) 0) };
 
-    #[tactic(auto, unfolding(crate::specs::Written::written_answer, outcome::specs::Outcome::number_of, outcome::specs::Outcome::place_of, outcome::specs::Outcome::count_of))]
     fn from(fault: Fault) -> Written {
         Written {
             number: fault.number(),
@@ -32,7 +31,6 @@ impl From<Fault> for Written {
 }
 
 // The answer after a refusal with this number, which has no place.
-#[tactic(auto, unfolding(crate::specs::Written::written_answer, outcome::specs::Outcome::number_of, outcome::specs::Outcome::place_of, outcome::specs::Outcome::count_of))]
 pub fn refusal(number: u64) -> Written
     ensures { result ≡ written_answer (refused number 0) }
 {

@@ -1,0 +1,9 @@
+-- `refusal` meets its contract. Assumes nothing.
+use mathlib.Core.Path.{refl}
+use Rattle.outcome.specs.Outcome.{number_of, place_of, count_of}
+use Rattle.written.specs.Written.{written_answer}
+use Rattle.written.proofs.refusal.Goals as goal
+
+pub returns : goal.returns
+unfolding written_answer number_of place_of count_of
+returns c = refl
