@@ -55,6 +55,7 @@ pub fn frame_at(file: &[u8], at: usize) -> Result<Frame, Fault>
 }
 
 // The frame whose number L has been read.
+#[tactic(auto, unfolding(outcome::specs::Fault::said_at, outcome::specs::Fault::number), using(crate::proofs::FrameLaws::framed_empty, crate::proofs::FrameLaws::framed_long, crate::proofs::FrameLaws::framed_found))]
 fn framed(file: &[u8], at: usize, extent: Step<u64>) -> Result<Frame, Fault>
     requires { (at ≤ extent.next) × (extent.next ≤ length file.now) }
     ensures { said_at at result ≡ frames.framed file.now at extent }
