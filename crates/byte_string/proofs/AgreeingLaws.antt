@@ -1,6 +1,5 @@
 -- The laws of `agreeing`: where two lists part, and what the answers are by what stands there.
 -- Assumes nothing.
-use Prim.Native.Nat.{Ordering}
 use Prim.Native.Nat.{ℕ, zero, suc, ◌+◌, ◌≤◌, ◌<◌, zero-le, suc-le-suc}
 use native.Mathlib.Nat.{zero-add, not-suc-le-zero}
 use native.Mathlib.Numerals.{add-one}
@@ -9,12 +8,17 @@ use mathlib.Core.Path.{◌≡◌, refl, sym, ap, ◌∙◌}
 use mathlib.Core.Logic.{◌⊎◌, inl, inr}
 use mathlib.Core.Bool.{◌&&◌}
 use mathlib.Core.List.{List, [], ◌∷◌}
-use lib.Dec.{eqb, leb, leb-zero, leb-suc-zero, leb-suc-suc}
+use lib.Dec.{eqb, ltb, leb, leb-zero, leb-suc-zero, leb-suc-suc}
 use lib.ListN.{length, get_or, take, drop, drop_of_length-le}
 use lib.Seq.{drop-cons, drop-drop, get_or-take}
 use borrow.Author.Tests.{eq-eqb, ne_eqb}
+use Rattle.std.proofs.Common.{Less, Equal, Greater, Option, Some, None}
+use Rattle.std.specs.Option.{is_some, unwrap_or, option_map, option_cmp}
+use Rattle.std.specs.Borrow.{Bor}
+use Rattle.std.specs.Ordering.{nat_cmp}
+use Rattle.std.proofs.lemmas.Bool.Decides.{nat_tests}
 use Rattle.byte_string.specs.Order.{order, begins, agreeing}
-use Rattle.byte_string.proofs.OrderLaws.{Ways, ways, order_below, order_same, order_above}
+use Rattle.byte_string.proofs.OrderLaws.{cmp_lt, cmp_gt, Ways, ways, order_below, order_same, order_above}
 
 -- A first element on both sides, and on one.
 
@@ -121,28 +125,35 @@ module _ (x y : List ℕ) (n : ℕ) (e : n ≡ agreeing x y) where
       let none : agreeing (drop n x) (drop n y) ≡ 0 = rw e (agreeing-drop x y) in
       omega (arith, agreeing_step x y n h k s)
 
-  pub order_both_ended : length x ≤ n → length y ≤ n → order x y ≡ Ordering.eq
+  pub order_both_ended : length x ≤ n → length y ≤ n → order x y ≡ Equal
   unfolding order
   order_both_ended h k = order_from ∙ rw (drop_of_length-le x h, drop_of_length-le y k)
 
-  pub order_left_ended : length x ≤ n → n < length y → order x y ≡ Ordering.lt
+  pub order_left_ended : length x ≤ n → n < length y → order x y ≡ Less
   unfolding order
   order_left_ended h k = order_from ∙ rw (drop_of_length-le x h, drop-cons y n 0 k)
 
-  pub order_right_ended : n < length x → length y ≤ n → order x y ≡ Ordering.gt
+  pub order_right_ended : n < length x → length y ≤ n → order x y ≡ Greater
   unfolding order
   order_right_ended h k = order_from ∙ rw (drop-cons x n 0 h, drop_of_length-le y k)
 
-  pub order_parted_below : n < length x → n < length y → get_or x n 0 < get_or y n 0 → order x y ≡ Ordering.lt
-  order_parted_below h k s = order_from ∙ rw (drop-cons x n 0 h, drop-cons y n 0 k) (order_below _ _ _ _ s)
-
-  pub order_parted_above : n < length x → n < length y → get_or y n 0 ≤ get_or x n 0 → order x y ≡ Ordering.gt
-  order_parted_above h k s = go (ways (get_or x n 0) (get_or y n 0))
+  -- where neither has ended, the elements decide
+  pub order_parted : n < length x → n < length y → order x y ≡ nat_cmp (get_or x n 0) (get_or y n 0)
+  order_parted h k = order_from ∙ rw (drop-cons x n 0 h, drop-cons y n 0 k) (go (ways (get_or x n 0) (get_or y n 0)))
     where
-      go : Ways (get_or x n 0) (get_or y n 0) → order x y ≡ Ordering.gt
-      go (inl w) = absurd (omega arith)
+      go : Ways (get_or x n 0) (get_or y n 0) → order (get_or x n 0 ∷ drop (suc n) x) (get_or y n 0 ∷ drop (suc n) y) ≡ nat_cmp (get_or x n 0) (get_or y n 0)
+      go (inl w) = order_below _ _ _ _ w ∙ sym (cmp_lt _ _ w)
       go (inr (inl w)) = absurd (parted h k w)
-      go (inr (inr w)) = order_from ∙ rw (drop-cons x n 0 h, drop-cons y n 0 k) (order_above _ _ _ _ w)
+      go (inr (inr w)) = order_above _ _ _ _ w ∙ sym (cmp_gt _ _ w)
+
+  -- what stands there in each, or nothing where it has ended
+  pub order_there : (r s : Option (Bor ℕ)) → is_some r ≡ ltb n (length x) → is_some s ≡ ltb n (length y)
+      → unwrap_or (option_map (λ b. b.now) r) 0 ≡ get_or x n 0 → unwrap_or (option_map (λ b. b.now) s) 0 ≡ get_or y n 0
+      → option_cmp (λ a b. nat_cmp a.now b.now) r s ≡ order x y
+  order_there None None p q e f = sym (order_both_ended (grind (arith, nat_tests)) (grind (arith, nat_tests)))
+  order_there None (Some b) p q e f = sym (order_left_ended (grind (arith, nat_tests)) (grind (arith, nat_tests)))
+  order_there (Some a) None p q e f = sym (order_right_ended (grind (arith, nat_tests)) (grind (arith, nat_tests)))
+  order_there (Some a) (Some b) p q e f = rw (e, f) (sym (order_parted (grind (arith, nat_tests)) (grind (arith, nat_tests))))
 
 -- x begins with p where they agree in all of p
 pub begins-agreeing : (p x : List ℕ) → begins p x ≡ leb (length p) (agreeing p x)

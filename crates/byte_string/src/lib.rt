@@ -6,38 +6,44 @@
 ghost use Rattle.std.specs.Prelude.{◌+◌, ◌≤◌, ◌≡◌, length, drop};
 ghost use Rattle.byte_string.specs.Order.{agreeing, comparison, says_less, says_at_most, says_equal, says_begins};
 
+use std::cmp::Ordering;
+
 // A byte string x compared with another, y.
 #[derive(Clone, Copy)]
 pub struct Comparison {
-    // Minus one where x comes before y, zero where they are equal, plus one where x comes after y.
-    pub sign: i8,
+    // `Less` where x comes before y.
+    pub sign: Ordering,
     // How many leading bytes agree.
     pub agreeing: usize,
 }
 
 impl Comparison {
     // Whether x comes before y.
+    #[tactic(auto, unfolding(crate::specs::Order::says_less))]
     pub fn less(self) -> bool
         ensures { result ≡ says_less self }
     {
-        self.sign < 0
+        self.sign.is_lt()
     }
 
     // Whether x comes before y or equals it.
+    #[tactic(auto, unfolding(crate::specs::Order::says_at_most))]
     pub fn at_most(self) -> bool
         ensures { result ≡ says_at_most self }
     {
-        self.sign <= 0
+        self.sign.is_le()
     }
 
     // Whether x equals y.
+    #[tactic(auto, unfolding(crate::specs::Order::says_equal))]
     pub fn equal(self) -> bool
         ensures { result ≡ says_equal self }
     {
-        self.sign == 0
+        self.sign.is_eq()
     }
 
     // Whether y begins with x, given how many bytes x has. Given how many y has, whether x begins with y.
+    #[tactic(auto, unfolding(crate::specs::Order::says_begins))]
     pub fn begins(self, count: usize) -> bool
         ensures { result ≡ says_begins count self }
     {
@@ -118,17 +124,8 @@ pub fn compare(x: &[u8], y: &[u8]) -> Comparison
     ensures { result ≡ comparison x.now y.now }
 {
     let agreeing = agreement(x, y);
-    if x.len() <= agreeing {
-        if y.len() <= agreeing {
-            return Comparison { sign: 0, agreeing };
-        }
-        return Comparison { sign: -1, agreeing };
+    Comparison {
+        sign: x.get(agreeing).cmp(&y.get(agreeing)),
+        agreeing,
     }
-    if y.len() <= agreeing {
-        return Comparison { sign: 1, agreeing };
-    }
-    if x[agreeing] < y[agreeing] {
-        return Comparison { sign: -1, agreeing };
-    }
-    Comparison { sign: 1, agreeing }
 }
