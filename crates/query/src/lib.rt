@@ -2,7 +2,7 @@
 #![tactic(auto)]
 
 ghost use Rattle.std.specs.Prelude.{◌≡◌};
-ghost use Rattle.query.specs.Query.{before, matches};
+ghost use Rattle.query.specs.Query.{query_of, before, matches};
 ghost use Rattle.query.specs.Opening.{may_match, reaches, up_to, admits_prefix};
 ghost use Rattle.query.specs.Asked.{asked, lent};
 
@@ -15,6 +15,19 @@ pub struct Query<'a> {
 }
 
 impl<'a> Query<'a> {
+    // The query of a call from C. Where no stop is given, the bytes of `stop` have no influence.
+    #[tactic(auto, unfolding(crate::specs::Query::query_of, crate::specs::Query::given, crate::specs::Asked::asked, crate::specs::Asked::lent))]
+    pub fn new(start: &'a [u8], stop_given: bool, stop: &'a [u8], prefix: &'a [u8]) -> Query<'a>
+        ensures { asked result ≡ query_of start.now stop_given stop.now prefix.now }
+    {
+        let stop = if stop_given { Some(stop) } else { None };
+        Query {
+            start,
+            stop,
+            prefix,
+        }
+    }
+
     // Whether a byte string matches.
     #[tactic(auto, unfolding(crate::specs::Query::matches, crate::specs::Asked::asked), using(byte_string::proofs::ComparisonLaws::compared))]
     pub fn matches(self, x: &[u8]) -> bool
