@@ -1,5 +1,9 @@
 -- Laws of numbers and frames at an offset.
 -- Assumes nothing.
+use Rattle.uleb128.specs.Number.{reading_said}
+use Rattle.uleb128.specs.declared.NumberFault.{NumberFault}
+use Rattle.uleb128.specs.declared.NumberFault.TheVariants.{CutOff, TooWide, NotShortest}
+use Rattle.framing.specs.Answers.{number_said}
 use mathlib.Core.Path.{◌≡◌, refl, sym, ap, ◌∙◌, subst⁻¹}
 use mathlib.Core.Bool.{true, false}
 use mathlib.Core.List.{List, []}
@@ -13,7 +17,7 @@ use borrow.Author.Tests.{le-leb, lt-leb, leb-true}
 use Rattle.uleb128.specs.Number.{Reading, number, cut_off, reading, continuing}
 use Rattle.uleb128.specs.Number.{refused as badNumber}
 use Rattle.uleb128.proofs.NumberLaws.{number_used, number_lt, reading-cut, reading-first}
-use Rattle.std.specs.Prelude.{Result}
+use Rattle.std.specs.Prelude.{Result, Err}
 use Rattle.std.specs.Result.{IsErrAnd}
 use Rattle.std.proofs.lemmas.Result.{err_from_is_err_and}
 use Rattle.outcome.specs.declared.Fault.{Fault}
@@ -34,6 +38,17 @@ unfolding said_at
 said_fault place r f h = let p = err_from_is_err_and r h in rw (p.1, p.2)
 
 -- ---- numbers
+
+-- why none could be read
+pub number_fault : (cut place at : ℕ) (r : Result (Step ℕ) NumberFault) (f : NumberFault) → IsErrAnd r (λ x. x ≡ f)
+    → number_said cut place r ≡ read_as cut place at (reading_said (Err f))
+unfolding number_said read_as reading_said
+number_fault cut place at r f h = let p = err_from_is_err_and r h in rw (p.1, p.2) (same f)
+  where
+    same : (g : NumberFault) → number_said cut place (Err g) ≡ read_as cut place at (reading_said (Err g))
+    same CutOff = refl
+    same TooWide = refl
+    same NotShortest = refl
 
 -- the number at an offset is what reading the rest, which is lent, finds
 pub number_lent : (cut place : ℕ) (s : List ℕ) (at : ℕ) (r : Reading) → r ≡ reading (take (length s - at) (drop at s)) → read_as cut place at r ≡ number_at cut place s at
