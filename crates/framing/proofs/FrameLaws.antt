@@ -20,22 +20,12 @@ use Rattle.uleb128.proofs.NumberLaws.{number_used, number_lt, reading-cut, readi
 use Rattle.std.specs.Prelude.{Result, Err}
 use Rattle.std.specs.Result.{IsErrAnd}
 use Rattle.std.proofs.lemmas.Result.{err_from_is_err_and}
-use Rattle.outcome.specs.declared.Fault.{Fault}
-use Rattle.outcome.specs.Fault.{said_at}
-use Rattle.outcome.specs.Fault.{number as code}
 use Rattle.outcome.specs.Outcome.{answer, refused}
 use Rattle.items.specs.declared.Step.{Step}
 use Rattle.outcome.proofs.OutcomeLaws.{answer_injective, refused_not_answer, kept, broken, kept⁻¹, bind_answer, bind⁻¹}
 use Rattle.part.proofs.PartLaws.{lent_drop}
 use Rattle.framing.specs.declared.Frame.{Frame}
 use Rattle.framing.specs.Frame.{read_as, number_at, framed, frame_at, crc_right, sound_frame_at}
-
--- ---- a fault that is handed on
-
--- what it says
-pub said_fault : {A : Type 0} (place : ℕ) (r : Result A Fault) (f : Fault) → IsErrAnd r (λ x. x ≡ f) → said_at place r ≡ refused (code f) place
-unfolding said_at
-said_fault place r f h = let p = err_from_is_err_and r h in rw (p.1, p.2)
 
 -- ---- numbers
 

@@ -27,6 +27,14 @@ pub struct Frame {
 impl Frame {
     // The largest level of an ordinary block; higher levels are reserved.
     pub const LARGEST_LEVEL: u8 = 63;
+
+    // Whether it encloses an ordinary block: data or index.
+    #[tactic(auto, unfolding(crate::specs::Frame::is_ordinary))]
+    pub fn is_ordinary(self) -> bool
+        ensures { result ≡ frames.is_ordinary self.level }
+    {
+        self.level <= Frame::LARGEST_LEVEL
+    }
 }
 
 // The number at an offset of `s`, which ends with `s`, and where it ends.
@@ -75,10 +83,7 @@ fn framed(file: &[u8], at: usize, extent: Step<u64>) -> Result<Frame, Fault>
     }
     let body = extent.next;
     let left = file.len() - body;
-    if left < 8 {
-        return Err(Fault::BlockCutOff);
-    }
-    if ((left - 8) as u64) < extent.item {
+    if left < 8 || ((left - 8) as u64) < extent.item {
         return Err(Fault::BlockCutOff);
     }
     let end = body + extent.item as usize;
@@ -92,7 +97,8 @@ fn framed(file: &[u8], at: usize, extent: Step<u64>) -> Result<Frame, Fault>
 }
 
 // Whether the CRC after the bytes from `body` to `end` is theirs.
-fn crc_right(file: &[u8], body: usize, end: usize) -> bool
+#[tactic(auto, unfolding(crate::specs::Frame::crc_right, part::specs::Part::part))]
+pub fn crc_right(file: &[u8], body: usize, end: usize) -> bool
     requires { (body ≤ end) × (end ≤ length file.now) }
     ensures { result ≡ frames.crc_right file.now body end }
 {
@@ -104,9 +110,7 @@ pub fn sound_frame_at(file: &[u8], at: usize) -> Result<Frame, Fault>
     ensures { said_at at result ≡ frames.sound_frame_at file.now at }
 {
     let frame = frame_at(file, at)?;
-    let body = frame.body;
-    let end = frame.end;
-    if !crc_right(file, body, end) {
+    if !crc_right(file, frame.body, frame.end) {
         return Err(Fault::BlockCrc);
     }
     Ok(frame)

@@ -2,8 +2,8 @@ use mathlib.Core.Path.{sym, ap, ◌∙◌}
 use mathlib.Core.Bool.{Bool, ◌&&◌}
 use native.Mathlib.Omega.{arith}
 use Rattle.byte_string.proofs.ComparisonLaws.{compared_at_most}
+use Rattle.outcome.proofs.ResultLaws.{fault_on}
 use Rattle.outcome.specs.Fault.{said_at, number}
-use Rattle.framing.proofs.FrameLaws.{said_fault}
 use Rattle.payload.specs.Answers.{ItemRead}
 use Rattle.payload.proofs.ScanLaws.{scanned_start, scanned_more, scanned_empty, scanned_refused, scanned_unsorted, scanned_sound}
 use Rattle.payload.proofs.items_at.Goals as goal
@@ -18,7 +18,7 @@ loop-at-init g c = scanned_start g.T.Item.step_at g.T.Item.text_of c.args.s.now 
 pub returns-in_err-next : goal.returns-in_err-next
 unfolding ItemRead
 returns-in_err-next g c place =
-    said_fault place _ _ c.from_residual.ensures.1
+    fault_on place _ _ c.from_residual.ensures.1
     ∙ sym (scanned_refused g.T.Item.step_at g.T.Item.text_of c.args.s.now c.args.from _ _ _ _ _ c.if-s-from.false c.loop-at.invariant
     c.loop-at-test.true _ place (c.in_err-next.ensures place))
 
