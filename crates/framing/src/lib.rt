@@ -65,6 +65,7 @@ pub fn number_or(s: &[u8], at: usize, cut: Fault) -> Result<Step<u64>, Fault>
 }
 
 // The frame at an offset, apart from its CRC (10 to 13).
+#[tactic(auto, unfolding(outcome::specs::Fault::said_at, outcome::specs::Fault::number, crate::specs::Frame::frame_at), using(crate::proofs::FrameLaws::chain))]
 pub fn frame_at(file: &[u8], at: usize) -> Result<Frame, Fault>
     ensures { said_at at result ≡ frames.frame_at file.now at }
 {
@@ -73,7 +74,7 @@ pub fn frame_at(file: &[u8], at: usize) -> Result<Frame, Fault>
 }
 
 // The frame whose number L has been read.
-#[tactic(auto, unfolding(outcome::specs::Fault::said_at, outcome::specs::Fault::number), using(crate::proofs::FrameLaws::framed_empty, crate::proofs::FrameLaws::framed_long, crate::proofs::FrameLaws::framed_found))]
+#[tactic(auto, unfolding(outcome::specs::Fault::said_at, outcome::specs::Fault::number), using(crate::proofs::FrameLaws::framed_cases))]
 fn framed(file: &[u8], at: usize, extent: Step<u64>) -> Result<Frame, Fault>
     requires { (at ≤ extent.next) × (extent.next ≤ length file.now) }
     ensures { said_at at result ≡ frames.framed file.now at extent }
@@ -106,6 +107,7 @@ pub fn crc_right(file: &[u8], body: usize, end: usize) -> bool
 }
 
 // The frame at an offset with its CRC (10 to 14).
+#[tactic(auto, unfolding(outcome::specs::Fault::said_at, outcome::specs::Fault::number), using(crate::proofs::FrameLaws::sound_cases))]
 pub fn sound_frame_at(file: &[u8], at: usize) -> Result<Frame, Fault>
     ensures { said_at at result ≡ frames.sound_frame_at file.now at }
 {
