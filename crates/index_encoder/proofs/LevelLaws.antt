@@ -21,11 +21,11 @@ use Rattle.layout.specs.Index.{IndexEntry, entry_bytes, IndexBlock, index_bytes,
 use Rattle.layout.proofs.BlockBackLaws.{index_some}
 use Rattle.encoder.proofs.PutLaws.{block_size_some, size_0, size_within, block_number, block_stored}
 use Rattle.index_encoder.specs.declared.entries.Group.{Group}
-use Rattle.index_encoder.specs.declared.level.LevelOutcome.TheVariants.{Answer as ALevel, Refused as NoLevel}
+use Rattle.std.specs.Prelude.{Option, Some, None}
 use Rattle.index_encoder.specs.declared.child.Position.{Position}
 use Rattle.index_encoder.specs.Children.{Within, children_from, start_at}
-use Rattle.index_encoder.specs.Level.{Measured, entries_for, block_for, level_for, LevelPut}
-use Rattle.index_encoder.proofs.StoredLaws.{flat_map_snoc, take_counted, stored_nil}
+use Rattle.index_encoder.specs.Level.{Measured, entries_for, block_for, level_for, size_put, LevelPut}
+use Rattle.index_encoder.proofs.StoredLaws.{flat_map_snoc, take_counted, stored_nil, size_some, size_none, size_some⁻¹, size_none⁻¹}
 
 -- ---- one index block
 
@@ -43,10 +43,13 @@ module _ (o : List ℕ) (level to : ℕ) (from : Position) (count place n : ℕ)
 
   -- it doesn't fit
   pub block_none : {size : ℕ} → Sized size → size ≡ 0
-      → (0 ≡ stored_length o place (index_bytes (block_for o level to from count place)))
+      → (None ≡ size_put o place (index_bytes (block_for o level to from count place)))
       × (o ≡ stored o place (index_bytes (block_for o level to from count place)))
   unfolding index_bytes block_for
-  block_none {size} e z = size_0 o place level payload size (sized e) z
+  block_none {size} e z =
+      let none = size_0 o place level payload size (sized e) z in
+      let block = block_for o level to from count place in
+      (size_none o place (index_bytes block) (stored_length_none o place (index_bytes block) none.0 refl (index_some block)), none.1)
 
   module _ {size : ℕ} (es : Sized size) (some : size ≡ 0 → ⊥) where
     fits : (size ≡ block_size (length payload)) × (place + block_size (length payload) ≤ length o)
@@ -115,15 +118,22 @@ module _ (o : List ℕ) (level to : ℕ) (from : Position) (count place n : ℕ)
           -- number, level byte, entries and CRC
           pub index_stored : {sum : ℕ} {crc o4 : List ℕ} → sum ≡ crc64 (take (end - (place + a)) (drop (place + a) o3)) → crc ≡ little_bytes 8 sum
               → o4 ≡ stored o3 end crc
-              → (size ≡ stored_length o place (index_bytes (block_for o level to from count place)))
+              → (Some size ≡ size_put o place (index_bytes (block_for o level to from count place)))
               × (o4 ≡ stored o place (index_bytes (block_for o level to from count place)))
           unfolding index_bytes block_for
-          index_stored {sum} {crc} s c e4 =
-              block_stored o place level payload fits.1 fits.0 index_number.0 (c ∙ ap (little_bytes 8) (s ∙ ap crc64 summed))
-              (subst (λ m. o1 ≡ stored o place (encoding (m + 1))) long e1)
-              e2
-              (e3 ∙ ap (λ l. stored o2 (place + a + 1) (flat_map entry_bytes l)) same)
-              (e4 ∙ ap (λ p. stored o3 p crc) ends)
+          index_stored {sum} {crc} {o4} s c e4 =
+              let block = block_for o level to from count place in
+              let all = stored_length_some o place (index_bytes block) put.0 some in
+              (ap Some all.0 ∙ size_some o place (index_bytes block) (let whole = all.0 in let within = all.1 in omega arith), put.1)
+            where
+              put : (size ≡ stored_length o place (index_bytes (block_for o level to from count place)))
+                  × (o4 ≡ stored o place (index_bytes (block_for o level to from count place)))
+              put =
+                  block_stored o place level payload fits.1 fits.0 index_number.0 (c ∙ ap (little_bytes 8) (s ∙ ap crc64 summed))
+                  (subst (λ m. o1 ≡ stored o place (encoding (m + 1))) long e1)
+                  e2
+                  (e3 ∙ ap (λ l. stored o2 (place + a + 1) (flat_map entry_bytes l)) same)
+                  (e4 ∙ ap (λ p. stored o3 p crc) ends)
 
 -- ---- the index blocks of a level
 
@@ -173,11 +183,11 @@ module _ (old : List ℕ) (per_index level from to : ℕ) where
       first = measured.counted ∙ ap (λ l. length (take per_index (children_from l at))) leveling_same
 
       -- no block is left
-      pub level_all : g.count ≡ 0 → LevelPut old output to (level_for per_index level old from to) (ALevel end blocks)
+      pub level_all : g.count ≡ 0 → LevelPut old output to (level_for per_index level old from to) (Some (record { end = end; blocks = blocks }))
       unfolding LevelPut level_from
       level_all z = go (children_of at) refl
         where
-          go : (xs : List IndexEntry) → children_of at ≡ xs → LevelPut old output to (level_for per_index level old from to) (ALevel end blocks)
+          go : (xs : List IndexEntry) → children_of at ≡ xs → LevelPut old output to (level_for per_index level old from to) (Some (record { end = end; blocks = blocks }))
           go [] e =
               let all : v.done ≡ level_for per_index level old from to =
               sym (v.split ∙ ap (λ l. v.done ++ level_from level end l) (ap (groups per_index) e ∙ groups_nil per_index some) ∙ append-nil v.done) in (
@@ -255,11 +265,11 @@ module _ (old : List ℕ) (per_index level from to : ℕ) where
                 ∙ ap (λ k. take k (children_from (take to output) at)) (sym measured.counted)
 
         -- it doesn't fit
-        pub level_none : {size : ℕ} {new : List ℕ} → size ≡ stored_length output end (index_bytes block) → new ≡ stored output end (index_bytes block) → size ≡ 0
-            → LevelPut old new to (level_for per_index level old from to) NoLevel
+        pub level_none : {new : List ℕ} → None ≡ size_put output end (index_bytes block) → new ≡ stored output end (index_bytes block)
+            → LevelPut old new to (level_for per_index level old from to) None
         unfolding LevelPut
-        level_none {size} {new} e1 e2 z = (
-          (let over = stored_length_none output end (index_bytes block) e1 z (index_some block) in
+        level_none {new} e1 e2 = (
+          (let over = size_none⁻¹ output end (index_bytes block) e1 in
               let ends = v.ends in let long = leveling_long in let all = whole in omega arith),
           ap (take to) e2 ∙ take-stored output end (index_bytes block) to (let ends = v.ends in omega arith) ∙ leveling_same,
         )
@@ -274,11 +284,10 @@ module _ (old : List ℕ) (per_index level from to : ℕ) where
                 ∙ ap (λ k. k + length (flat_map index_bytes others)) (length-append (flat_map index_bytes v.done) (index_bytes block))
 
         -- it is put
-        module _ {size : ℕ} {new : List ℕ} (e1 : size ≡ stored_length output end (index_bytes block)) (e2 : new ≡ stored output end (index_bytes block))
-            (n : size ≡ 0 → ⊥) where
+        module _ {size : ℕ} {new : List ℕ} (e1 : Some size ≡ size_put output end (index_bytes block)) (e2 : new ≡ stored output end (index_bytes block)) where
           pub level_size : (size ≡ length (index_bytes block)) × (end + size ≤ length old)
           level_size =
-              let all = stored_length_some output end (index_bytes block) e1 n in
+              let all = size_some⁻¹ output end (index_bytes block) e1 in
               let long = leveling_long in
               let size_is = all.0 in
               let within = all.1 in
