@@ -3,7 +3,6 @@
 use mathlib.Core.Path.{◌≡◌, refl, sym, ap, ◌∙◌}
 use mathlib.Core.Bool.{Bool, true, false}
 use mathlib.Core.List.{List, [], ◌∷◌, ◌++◌, flat_map, append_assoc, append-nil}
-use Rattle.std.specs.Prelude.{Option, Some, None}
 use Prim.Native.Nat.{ℕ, zero, suc, ◌+◌, ◌≤◌, ◌<◌}
 use native.Mathlib.Omega.{arith}
 use lib.Dec.{ltb}
@@ -12,8 +11,7 @@ use lib.Seq.{take-take, drop-append-le, length-take-le}
 use borrow.Author.Tests.{ltb-true, ltb-false}
 use Rattle.lists.proofs.ListsLaws.{flat_map_append}
 use Rattle.output_bytes.specs.OutputBytes.{stored}
-use Rattle.output_bytes.proofs.OutputBytesLaws.{stored_some, stored_none, fits_some, fits_none}
-use Rattle.index_encoder.specs.Level.{size_put}
+use Rattle.output_bytes.proofs.OutputBytesLaws.{stored_some, stored_none}
 
 -- ---- numbers and lists
 
@@ -59,24 +57,3 @@ stored_room o at s room h k =
     rest =
         sym (drop-append-le (at + length s) (take room o) (drop room o) (rw (length-take-le room o h) k))
         ∙ ap (drop (at + length s)) (take-append-drop room o)
-
--- how many bytes are put: all, or nothing where they don't fit
-module _ (o : List ℕ) (at : ℕ) (bytes : List ℕ) where
-  pub size_some : at + length bytes ≤ length o → Some (length bytes) ≡ size_put o at bytes
-  unfolding size_put
-  size_some h = rw (fits_some o at bytes h)
-
-  pub size_none : length o < at + length bytes → None ≡ size_put o at bytes
-  unfolding size_put
-  size_none h = rw (fits_none o at bytes h)
-
-  pub size_some⁻¹ : {size : ℕ} → Some size ≡ size_put o at bytes → (size ≡ length bytes) × (at + length bytes ≤ length o)
-  size_some⁻¹ {size} e =
-      by_order (length o) (at + length bytes)
-      (λ h. absurd (let none : ◌≡◌ {A = Option ℕ} (Some size) None = e ∙ sym (size_none h) in cc))
-      (λ h. let same : Some size ≡ Some (length bytes) = e ∙ sym (size_some h) in (cc, h))
-
-  pub size_none⁻¹ : None ≡ size_put o at bytes → length o < at + length bytes
-  size_none⁻¹ e =
-      by_order (length o) (at + length bytes) (λ h. h)
-      (λ h. absurd (let some : ◌≡◌ {A = Option ℕ} None (Some (length bytes)) = e ∙ sym (size_some h) in cc))

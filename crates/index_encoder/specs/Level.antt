@@ -1,8 +1,8 @@
 -- Putting one level of index blocks over a run of blocks in an output.
-use Rattle.std.specs.Prelude.{ℕ, ◌+◌, ◌≤◌, ◌<◌, ◌≡◌, cond, length, take, drop, Option, Some, None}
+use Rattle.std.specs.Prelude.{ℕ, ◌+◌, ◌≤◌, ◌<◌, ◌≡◌, length, take, drop, Option, Some, None}
 use mathlib.Core.List.{List, flat_map}
 use Rattle.lists.specs.Groups.{groups}
-use Rattle.output_bytes.specs.OutputBytes.{bytes_fit, stored}
+use Rattle.output_bytes.specs.OutputBytes.{stored}
 use Rattle.layout.specs.Index.{IndexEntry, entry_bytes, IndexBlock, index_bytes, level_from}
 use Rattle.index_encoder.specs.declared.child.Position.{Position}
 use Rattle.index_encoder.specs.Children.{Within, children_from, start_at}
@@ -27,10 +27,6 @@ block_for output level to from count place = record { level = level; offset = pl
 -- the level over the blocks that stand in the output from `from` to `to`, to be put from `to` on
 unfoldable pub level_for : (per_index level : ℕ) (output : List ℕ) (from to : ℕ) → List IndexBlock
 level_for per_index level output from to = level_from level to (groups per_index (children_from (take to output) (start_at from)))
-
--- how many bytes are put: all, or nothing where they don't fit
-unfoldable pub size_put : (output : List ℕ) (at : ℕ) (bytes : List ℕ) → Option ℕ
-size_put output at bytes = cond (bytes_fit output at bytes) (Some (length bytes)) None
 
 -- what `put_level` answers: the level is put, or it doesn't fit and what stands before it is as it was
 unfoldable pub LevelPut : (old new : List ℕ) (to : ℕ) → List IndexBlock → Option Level → Type 0

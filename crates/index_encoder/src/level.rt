@@ -1,10 +1,10 @@
 // One level of index blocks over a run of blocks.
 ghost use Rattle.std.specs.Prelude.{◌^◌, ◌≤◌, ◌≡◌, length, take};
 ghost use mathlib.Core.List.{flat_map};
-ghost use Rattle.output_bytes.specs.OutputBytes.{stored};
+ghost use Rattle.output_bytes.specs.OutputBytes.{stored, stored_size};
 ghost use Rattle.layout.specs.Index.{entry_bytes, index_bytes};
 ghost use Rattle.index_encoder.specs.Children.{Within};
-ghost use Rattle.index_encoder.specs.Level.{entries_for, block_for, level_for, size_put, LevelPut};
+ghost use Rattle.index_encoder.specs.Level.{entries_for, block_for, level_for, LevelPut};
 
 use crate::child::Position;
 use crate::entries::{Group, measure, put_entries};
@@ -28,14 +28,11 @@ fn put_index_block(
 ) -> Option<usize>
     requires { (to ≤ place) × Within (take to output.old) from.before
         × (group.length ≡ length (flat_map entry_bytes (entries_for output.old to from group.count))) }
-    ensures value { result ≡ size_put output.old place (index_bytes (block_for output.old level to from group.count place)) }
+    ensures value { result ≡ stored_size output.old place (index_bytes (block_for output.old level to from group.count place)) }
     ensures output_after { output.new
         ≡ stored output.old place (index_bytes (block_for output.old level to from group.count place)) }
 {
-    let size = encoder::block_size(output.len(), place, group.length);
-    if size == 0 {
-        return None;
-    }
+    let size = encoder::block_size(output.len(), place, group.length)?;
     let body = place + encoder::put_number(output, place, group.length as u64 + 1);
     output_bytes::put(output, body, &[level]);
     let end = put_entries(output, to, from, group.count, body + 1);

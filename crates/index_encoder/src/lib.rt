@@ -57,12 +57,7 @@ pub fn file_room(room: usize) -> usize
 }
 
 // Puts level after level, up to the first that has a single block.
-fn put_levels(
-    output: &mut [u8],
-    from: usize,
-    to: usize,
-    per_index: u64,
-) -> Result<Raised, Fault>
+fn put_levels(output: &mut [u8], from: usize, to: usize, per_index: u64) -> Result<Raised, Fault>
     requires { (2 ≤ per_index) × (to ≤ length output.old) × (length output.old ≤ 2 ^ 30) }
     ensures { LevelsPut output.old output.new to (index_for per_index output.old from to) result }
 {

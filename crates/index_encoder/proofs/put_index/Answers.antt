@@ -1,5 +1,4 @@
 -- `put_index` meets its contract: after a refusal the output is cleared from `to` on. Assumes nothing.
-use mathlib.Core.Path.{sym, ◌∙◌}
 use Rattle.index_encoder.proofs.RaiseLaws.{index_cleared, index_left}
 use Rattle.index_encoder.proofs.put_index.Goals as goal
 

@@ -1,7 +1,6 @@
 -- `raise` meets its contract: the two refusals, then all levels in the part of the output that a file may fill. Assumes nothing.
-use mathlib.Core.Path.{refl, sym}
+use mathlib.Core.Path.{refl}
 use native.Mathlib.Omega.{arith}
-use lib.Seq.{length-take-le}
 use Rattle.outcome.specs.Fault.{number}
 use Rattle.index_encoder.proofs.RaiseLaws.{raise_few, raise_late, raise_put}
 use Rattle.index_encoder.proofs.raise.Goals as goal

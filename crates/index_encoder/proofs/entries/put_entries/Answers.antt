@@ -2,8 +2,8 @@ use mathlib.Core.Path.{sym}
 use Prim.Native.Nat.{◌+◌, ◌-◌}
 use native.Mathlib.Nat.{sub-zero}
 use native.Mathlib.Omega.{arith}
-use Rattle.index_encoder.specs.Children.{child_said, ChildWithin}
-use Rattle.index_encoder.proofs.EntryLaws.{entering_none, entering_long, entering_all}
+use Rattle.index_encoder.specs.Children.{child_said}
+use Rattle.index_encoder.proofs.EntryLaws.{entering_none, entering_all}
 use Rattle.index_encoder.proofs.EntryLaws.{entering_refused, entering_within, entering_fits, entering_more}
 use Rattle.index_encoder.proofs.entries.put_entries.Goals as goal
 

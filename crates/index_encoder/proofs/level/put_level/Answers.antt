@@ -1,8 +1,6 @@
-use mathlib.Core.Path.{sym}
 use native.Mathlib.Omega.{arith}
 use lib.ListN.{length-take}
-use lib.Seq.{length-take-le}
-use Rattle.index_encoder.proofs.LevelLaws.{leveling_none, leveling_long, leveling_held, leveling_more}
+use Rattle.index_encoder.proofs.LevelLaws.{leveling_none, leveling_held, leveling_more}
 use Rattle.index_encoder.proofs.LevelLaws.{level_all, level_requires, level_falls, level_none, level_size}
 use Rattle.index_encoder.proofs.level.put_level.Goals as goal
 
