@@ -24,8 +24,7 @@ pub fn collect(file: &[u8], from: usize, query: Query<'_>, results: &mut [u64]) 
             return found;
         };
         if frame.level == 0 {
-            let end = frame.end;
-            found = collect_records(&file[..end], frame.body + 1, query, results, found);
+            found = collect_records(&file[..frame.end], frame.body + 1, query, results, found);
         }
         at += frame.size;
     }
