@@ -7,7 +7,7 @@ use mathlib.Core.List.{List, [], ◌∷◌, ◌++◌}
 use Prim.Native.Nat.{ℕ, suc, ◌+◌, ◌-◌, ◌*◌, ◌/◌, ◌≤◌, ◌<◌}
 use native.Mathlib.Omega.{arith}
 use lib.Dec.{eqb, leb, ltb}
-use lib.ListN.{length, take, drop, length-append, length-take, length-drop}
+use lib.ListN.{length, take, drop, length-append, length-take, length-drop, take-append-drop}
 use borrow.Author.Tests.{le-leb, lt-leb, le-ltb, lt-ltb, eq-eqb, ne_eqb, leb-true, leb-false, ltb-false}
 use Rattle.std.proofs.Common.{Some, None, nat_eq, Ordering, is_le}
 use Rattle.std.specs.Ordering.{nat_cmp, MatchOrdering}
@@ -38,6 +38,10 @@ filled_list (b ∷ s) = ap (λ t. eqb b 255 && t) (filled_list s)
 pub filled_append : (s t : List ℕ) → is_filled (s ++ t) ≡ (is_filled s && is_filled t)
 unfolding is_filled
 filled_append s t = all_append (λ b. eqb b 255) s t
+
+-- a record by its two parts
+pub filled_parts : (x : ℕ) (adn field rest : List ℕ) → field ≡ take x adn → rest ≡ drop x adn → is_filled (field ++ rest) ≡ is_filled adn
+filled_parts x adn field rest e f = rw (e, f, take-append-drop x adn)
 
 -- ---- what is counted from the front
 

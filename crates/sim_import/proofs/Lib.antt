@@ -3,3 +3,4 @@ pub mod OccupiedLaws
 pub mod SurveyLaws
 pub mod BytesLaws
 pub mod RecordLaws
+pub mod ImportLaws

@@ -17,7 +17,7 @@ use Rattle.lists.proofs.ListsLaws.{keep_append, keep_member}
 use Rattle.lists.proofs.GroupsLaws.{groups_nil, groups_cons, by_groups}
 use Rattle.byte_string.proofs.OrderLaws.{Ways, ways}
 use Rattle.part.specs.Part.{part}
-use Rattle.outcome.specs.Outcome.{Outcome, answer, refused, ◌>>=◌, ◌>>◌, must, number_of}
+use Rattle.outcome.specs.Outcome.{Outcome, answer, refused, ◌>>=◌, ◌>>◌, must}
 use Rattle.sim.specs.Adn.{is_filled, is_name, number_length, record_of, imported}
 use Rattle.sim_import.specs.Import.{not_free, occupied, imported_all}
 use Rattle.sim.proofs.AdnLaws.{record_long}

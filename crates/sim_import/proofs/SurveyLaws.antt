@@ -36,6 +36,10 @@ use Rattle.sim_import.proofs.OccupiedLaws.{
 
 -- ---- one record
 
+pub part_short : (s : List ℕ) (at n : ℕ) → length (part s at n) ≤ n
+unfolding part
+part_short s at n = let t = length-take n (drop at s) in omega arith
+
 module _ (x : ℕ) (adn : List ℕ) where
   pub survey_free : is_filled adn ≡ true → answer (record { count = 0; length = 0 }) ≡ survey_of (imported_all x (not_free (adn ∷ [])))
   unfolding survey_of surveyed imported_all records_bytes flat_map ◌>>=◌
@@ -105,10 +109,6 @@ joined : (o : Outcome (List (List ℕ))) (a b : List (List ℕ))
 unfolding ◌>>=◌
 joined (answer qs) a b = rw (append_assoc a b qs)
 joined (refused n p) a b = refl
-
-part_short : (s : List ℕ) (at n : ℕ) → length (part s at n) ≤ n
-unfolding part
-part_short s at n = let t = length-take n (drop at s) in omega arith
 
 -- the counts of at most one record
 one_small : (x : ℕ) (adn : List ℕ) → x < 256 → length adn ≤ x + 14

@@ -5,10 +5,10 @@
 #![tactic(auto)]
 
 ghost use Rattle.std.specs.Prelude.{◌≡◌, length};
-ghost use Rattle.outcome.specs.Outcome.{answer, ◌>>=◌};
 ghost use Rattle.outcome.specs.Fault.{said_at};
 ghost use Rattle.written.specs.Written.{written_answer, written_output};
 ghost use Rattle.sim_import.specs.Import.{import_of};
+ghost use Rattle.sim_import.specs.Steps.{length_of};
 
 mod records;
 mod survey;
@@ -24,7 +24,7 @@ const MAX_NAME: u64 = 241;
 
 // Puts the records of a dump into an output, with zeros after them, and answers how many bytes they take; after a refusal the output is zeros.
 fn import(bytes: &[u8], name_length: u64, output: &mut [u8]) -> Result<usize, Fault>
-    ensures value { said_at 0 result ≡ (import_of bytes.now name_length (length output.old) >>= λ made. answer (length made)) }
+    ensures value { said_at 0 result ≡ length_of (import_of bytes.now name_length (length output.old)) }
     ensures output_after { output.new ≡ written_output (length output.old) (import_of bytes.now name_length (length output.old)) }
 {
     output_bytes::clear(output);
