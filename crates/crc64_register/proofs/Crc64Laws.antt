@@ -2,10 +2,11 @@
 -- Assumes nothing.
 use mathlib.Core.Path.{◌≡◌, refl, sym, ap, ◌∙◌}
 use mathlib.Core.List.{List, [], ◌∷◌, ◌++◌}
-use Prim.Native.Nat.{ℕ, zero, suc, ◌+◌, ◌-◌, ◌*◌, ◌/◌, ◌%◌, ◌^◌, ◌≤◌, ◌<◌}
-use native.Mathlib.Nat.{sub-zero, zero-mul}
+use Prim.Native.Nat.{ℕ, zero, suc, ◌+◌, ◌*◌, ◌/◌, ◌%◌, ◌^◌, ◌≤◌, ◌<◌}
+use native.Mathlib.Nat.{zero-mul}
 use native.Mathlib.Numerals.{add-one}
 use native.Mathlib.Omega.{arith}
+use Rattle.std.specs.List.{fold}
 use lib.Bits.{bit_xor, xor_lt, xor_zero_r}
 use lib.Dec.{lit<}
 use lib.ListN.{length, get_or, take, drop, take-append-drop}
@@ -39,30 +40,11 @@ bit_step_zero r other =
     let none : r % 2 ≡ 0 = omega arith in
     rw (none, zero-mul, xor_zero_r)
 
--- ---- the loop over the bits of a byte
-
--- with i of n bits gone, the register is r, and the bits to come lead to where all n lead from the start
-pub record Gone (n start i r : ℕ) : Type 0 where
-  pub within : i ≤ n
-  pub leads : bit_steps (n - i) r ≡ bit_steps n start
-
--- at first no bit is gone
-pub gone_none : (n start : ℕ) → Gone n start 0 start
-gone_none n start = record { within = omega arith; leads = rw (sub-zero n) }
-
 -- one bit more leaves
-pub gone_more : (n start i r next : ℕ) → Gone n start i r → i < n → next ≡ bit_step r → Gone n start (i + 1) next
+pub bit_steps_more : (n start r next : ℕ) → r ≡ bit_steps n start → next ≡ bit_step r → next ≡ bit_steps (n + 1) start
 unfolding bit_steps
-gone_more n start i r next done h e =
-    let left : n - i ≡ suc (n - (i + 1)) = omega arith in
-    record { within = omega arith; leads = rw e (rw left at done.leads) }
-
--- with all n bits gone, the register is where they lead
-pub gone_all : (n start i r : ℕ) → Gone n start i r → n ≤ i → r ≡ bit_steps n start
-unfolding bit_steps
-gone_all n start i r done h =
-    let left : n - i ≡ 0 = omega arith in
-    rw left at done.leads
+bit_steps_more zero start r next e f = f ∙ ap bit_step e
+bit_steps_more (suc n) start r next e f = rw (add-one (suc n)) (rw (add-one n) at (bit_steps_more n (bit_step start) r next e f))
 
 -- ---- the register over a byte string
 
@@ -71,6 +53,12 @@ pub register-append : (r : ℕ) (s t : List ℕ) → register r (s ++ t) ≡ reg
 unfolding register
 register-append r [] t = refl
 register-append r (b ∷ s) t = register-append (byte_step r b) s t
+
+-- the register as a fold of the step
+pub register_fold : (r : ℕ) (s : List ℕ) → fold byte_step r s ≡ register r s
+unfolding register
+register_fold r [] = refl
+register_fold r (b ∷ s) = register_fold (byte_step r b) s
 
 -- one byte more goes in
 pub register-take : (r : ℕ) (s : List ℕ) (i : ℕ) → i < length s → register r (take (i + 1) s) ≡ byte_step (register r (take i s)) (get_or s i 0)

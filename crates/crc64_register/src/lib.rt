@@ -14,14 +14,12 @@ fn byte_step(register: u64, b: u8) -> u64
     ensures { result ≡ byte_step register b }
 {
     let mut r = register ^ (b as u64);
-    let mut i: usize = 0;
-    while i < 8 {
+    for _ in 0..8u8 {
         r = if r % 2 == 1 {
             (r / 2) ^ POLYNOMIAL
         } else {
             r / 2
         };
-        i += 1;
     }
     r
 }
@@ -30,11 +28,5 @@ fn byte_step(register: u64, b: u8) -> u64
 pub fn absorb_by_bits(register: u64, bytes: &[u8]) -> u64
     ensures { result ≡ crc.register register bytes.now }
 {
-    let mut r = register;
-    let mut i = 0;
-    while i < bytes.len() {
-        r = byte_step(r, bytes[i]);
-        i += 1;
-    }
-    r
+    bytes.iter().fold(register, |r, b| byte_step(r, *b))
 }

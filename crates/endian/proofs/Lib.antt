@@ -1,2 +1,3 @@
 -- Laws of numbers of a fixed width.
 pub mod FixedWidthLaws
+pub mod StdLaws

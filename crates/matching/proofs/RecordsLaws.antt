@@ -5,10 +5,11 @@ use mathlib.Core.Bool.{true, false}
 use mathlib.Core.List.{List, [], ◌∷◌, flat_map}
 use Prim.Native.Nat.{ℕ, ◌+◌, ◌-◌, ◌≤◌, ◌<◌}
 use native.Mathlib.Omega.{arith}
-use lib.ListN.{length, take, drop}
+use lib.ListN.{length}
 use Rattle.outcome.specs.Outcome.{answer, refused}
 use Rattle.items.specs.Items.{sound_from}
-use Rattle.part.proofs.PartLaws.{length_part, lent_part}
+use Rattle.part.specs.Part.{part}
+use Rattle.part.proofs.PartLaws.{length_part}
 use Rattle.payload.specs.Payload.{text_at}
 use Rattle.payload.specs.Answers.{text_in}
 use Rattle.payload.proofs.PayloadLaws.{text⇒Placed}
@@ -37,7 +38,7 @@ module _ (s : List ℕ) (from : ℕ) (q : Query) (first : Stored) where
   module _ (at : ℕ) (stored : Stored) (p : RecordsCollected at stored) (h : at < length s) (start n : ℕ)
       (e : (place : ℕ) → text_at place s at ≡ answer (record { item = text_in s start n; next = start + n })) where
     -- a record that matches is put
-    pub records_kept : matches q (take (start + n - start) (drop start s)) ≡ true
+    pub records_kept : matches q (part s start n) ≡ true
         → (list : List ℕ) → list ≡ with_record stored.list stored.count start n
         → RecordsCollected (start + n) (record { count = stored.count + 1; list = list })
     unfolding put put_all text_in
@@ -51,12 +52,12 @@ module _ (s : List ℕ) (from : ℕ) (q : Query) (first : Stored) where
         (ap (λ (l : List ℕ). record { count = stored.count + 1; list = l })
         (is ∙ ap (with_record stored.list stored.count start) (sym (length_part s start n b.1)))
         ∙ sym (ap (put_all stored)
-        (matching_kept q (text_in s start n) [] (ap (matches q) (sym (lent_part s start n)) ∙ m) ∙ ap (λ l. text_in s start n ∷ l) (matching_nil q))))
+        (matching_kept q (text_in s start n) [] m ∙ ap (λ l. text_in s start n ∷ l) (matching_nil q))))
         (omega arith)
         (ap length is ∙ length-with_record stored.list stored.count start n)
 
     -- any other is passed
-    pub records_passed : matches q (take (start + n - start) (drop start s)) ≡ false → RecordsCollected (start + n) stored
+    pub records_passed : matches q (part s start n) ≡ false → RecordsCollected (start + n) stored
     unfolding put_all text_in
     records_passed m =
         let b = text_bounds 0 s at start n (e 0) in
@@ -64,7 +65,7 @@ module _ (s : List ℕ) (from : ℕ) (q : Query) (first : Stored) where
         let forward = b.0 in
         collected_more (λ place. text_at place s) (λ r. r ∷ []) q (length s) from first at stored p h
         (record { item = text_in s start n; next = start + n }) e (omega arith) stored
-        (sym (ap (put_all stored) (matching_passed q (text_in s start n) [] (ap (matches q) (sym (lent_part s start n)) ∙ m) ∙ matching_nil q)))
+        (sym (ap (put_all stored) (matching_passed q (text_in s start n) [] m ∙ matching_nil q)))
         (omega arith)
         refl
 

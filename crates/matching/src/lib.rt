@@ -53,11 +53,11 @@ pub fn collect_records(
         let Ok(text) = text_at(s, at) else {
             return found;
         };
+        at = text.end();
         if query.matches(text.of(s)) {
             put_match(results, found, text);
             found += 1;
         }
-        at = text.end();
     }
     found
 }

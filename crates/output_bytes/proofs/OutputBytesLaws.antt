@@ -11,6 +11,9 @@ use lib.Dec.{leb}
 use lib.ListN.{length, replicate, take, drop, get_or, set, length-append, length-drop, length-set}
 use lib.Seq.{length-take-le, take-append-le, take-take, take_at, drop_at, drop-drop, paste-zero, paste-suc, take-length}
 use borrow.Author.Tests.{le-leb, lt-leb, leb-true, leb-false}
+use borrow.Rule.Slice.PartMut.{put_mid}
+use Rattle.std.proofs.lemmas.Slice.{put_mid-paste}
+use Rattle.std.proofs.lemmas.List.Edits.{paste_all}
 use Rattle.output_list.specs.OutputList.{padded, zeros}
 use Rattle.output_list.proofs.OutputListLaws.{zeros-replicate, padded-append, length-padded, take-padded, drop-padded}
 use Rattle.output_bytes.specs.OutputBytes.{bytes_fit, stored, stored_length}
@@ -168,8 +171,12 @@ storing_all old at s output i st l =
 pub put_none : (o : List ℕ) (at : ℕ) (s : List ℕ) → length o < at + length s → (false ≡ bytes_fit o at s) × (o ≡ stored o at s)
 put_none o at s h = (sym (fits_none o at s h), sym (stored_none o at s h))
 
-pub put_all : (o : List ℕ) (at : ℕ) (s output : List ℕ) (i : ℕ) → Storing o at s output i → length s ≤ i → (true ≡ bytes_fit o at s) × (output ≡ stored o at s)
-put_all o at s output i st l = (sym (fits_some o at s st.enough), storing_all o at s output i st l)
+pub put_all : (o : List ℕ) (at : ℕ) (s new : List ℕ) (n : ℕ) → at + length s ≤ length o → new ≡ s → n ≡ length s
+    → (true ≡ bytes_fit o at s) × (put_mid at n o new ≡ stored o at s)
+put_all o at s new n h e k = (
+  sym (fits_some o at s h),
+  put_mid-paste at n o new s (length s) e (sym k) refl ∙ paste_all o at s (length s) refl ∙ sym (stored_some o at s h),
+)
 
 -- ---- how many bytes were stored
 

@@ -8,7 +8,7 @@ use native.Mathlib.Omega.{arith}
 use lib.Dec.{leb}
 use lib.ListN.{length}
 use borrow.Author.Tests.{leb-true, leb-false, le-leb, lt-leb}
-use Rattle.output_list.specs.OutputList.{padded, zeros}
+use Rattle.output_list.specs.OutputList.{zeros}
 use Rattle.output_list.proofs.OutputListLaws.{length-zeros}
 use Rattle.outcome.specs.Outcome.{Outcome, answer, refused, number_of, place_of, count_of, list_of, ◌>>=◌}
 use Rattle.outcome.proofs.OutcomeLaws.{answer_injective, answer_not_refused, kept, broken, bind_answer, bind_refused, bind⁻¹, map_refused⁻¹}
@@ -24,7 +24,7 @@ use Rattle.block.specs.Laid.{laid_from}
 use Rattle.block.proofs.LaidLaws.{blocks⇒laid}
 use Rattle.query.specs.Query.{Query}
 use Rattle.matching.specs.Matching.{matching}
-use Rattle.matching.specs.ResultList.{room_for, numbers_of, Stored, put_all}
+use Rattle.matching.specs.ResultList.{room_for, Stored, put_all}
 use Rattle.matching.proofs.ResultListLaws.{count_put_all, length_put_all, stored_all}
 use Rattle.reader.specs.Read.{read_blocks, read_of, read_answer, read_list, refused_answer, counted}
 

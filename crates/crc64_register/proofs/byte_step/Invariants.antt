@@ -1,12 +1,8 @@
--- `byte_step` meets its contract. The loop's invariant: with i of the 8 bits gone, those to come lead from r to the register
--- after the byte. Assumes nothing.
-use Prim.Native.Nat.{◌-◌}
+-- The loop's invariant: as many bits have left the register as turns are made.
+use Rattle.std.proofs.Common.{◌≡◌}
 use lib.Bits.{bit_xor}
-use Rattle.crc64_register.proofs.Crc64Laws.{Gone}
+use Rattle.crc64_register.specs.Crc64.{bit_steps}
 use Rattle.crc64_register.proofs.byte_step.Given as goal
 
-abbrev pub invariant-loop-i : goal.invariant-loop-i
-invariant-loop-i l = Gone 8 (bit_xor l.register l.b) l.i l.r
-
-abbrev pub decreases-loop-i : goal.decreases-loop-i
-decreases-loop-i l = 8 - l.i
+abbrev pub invariant-loop : goal.invariant-loop
+invariant-loop l = l.r ≡ bit_steps l.counter (bit_xor l.register l.b)

@@ -1,8 +1,6 @@
--- The bytes by division. Assumes nothing.
-use mathlib.Core.Path.{refl}
-use Rattle.endian.specs.FixedWidth.{little_bytes}
+use Rattle.std.proofs.Common.{◌∙◌}
+use Rattle.endian.proofs.StdLaws.{bytes_low_first-little}
 use Rattle.endian.proofs.le64_bytes.Goals as goal
 
 pub returns : goal.returns
-unfolding little_bytes
-returns c = refl
+returns c = c.to_le_bytes.ensures ∙ bytes_low_first-little 8 c.args.x
