@@ -5,13 +5,14 @@ ghost use Rattle.std.specs.Prelude.{◌≡◌};
 ghost use Rattle.outcome.specs.Outcome.{number_of};
 ghost use Rattle.crc64.specs.Crc64.{crc64};
 ghost use Rattle.payload.specs.Payload.{records_at, entries_at};
-ghost use Rattle.payload.specs.Answers.{payload_said};
+ghost use Rattle.outcome.specs.Fault.{said_at};
 ghost use Rattle.query.specs.Query.{query_of};
 ghost use Rattle.matching.specs.ResultList.{Stored, put_all};
 ghost use Rattle.bench_exports.specs.Digest.{digest_start};
 ghost use Rattle.bench_exports.specs.Matches.{matches_in};
 
-use payload::PayloadOutcome;
+use outcome::Fault;
+use query::Query;
 
 const LONGEST: usize = 1073741824;
 
@@ -45,13 +46,13 @@ pub extern "C" fn bench_sha256(bytes: &[u8]) -> u64
     endian::le64_at(&digest, 0)
 }
 
-// The number of a payload's refusal, or 0.
-fn refusal_number(read: PayloadOutcome) -> u64
-    ensures { result ≡ number_of (payload_said 0 read) }
+// The number of a payload's fault, or 0.
+fn fault_number(read: Result<usize, Fault>) -> u64
+    ensures { result ≡ number_of (said_at 0 read) }
 {
     match read {
-        PayloadOutcome::Answer(_) => 0,
-        PayloadOutcome::Refused(n) => n,
+        Ok(_) => 0,
+        Err(fault) => fault.number(),
     }
 }
 
@@ -60,7 +61,7 @@ fn refusal_number(read: PayloadOutcome) -> u64
 pub extern "C" fn bench_records(bytes: &[u8]) -> u64
     ensures { result ≡ number_of (records_at 0 bytes.now 0) }
 {
-    refusal_number(payload::records_at(bytes, 0))
+    fault_number(payload::records_at(bytes, 0))
 }
 
 // The tests of an index block's payload: the number of the refusal, or 0.
@@ -68,7 +69,7 @@ pub extern "C" fn bench_records(bytes: &[u8]) -> u64
 pub extern "C" fn bench_entries(bytes: &[u8]) -> u64
     ensures { result ≡ number_of (entries_at 0 bytes.now 0) }
 {
-    refusal_number(payload::entries_at(bytes, 0))
+    fault_number(payload::entries_at(bytes, 0))
 }
 
 // How many records of a data block's payload match; those for which the list has room are put on it. None for more than 2^30 bytes.
@@ -88,5 +89,6 @@ pub extern "C" fn bench_matches(
     if bytes.len() > LONGEST {
         return 0;
     }
-    matching::collect_records(bytes, 0, start, stop_given, stop, prefix, results, 0) as u64
+    let query = Query::new(start, stop_given, stop, prefix);
+    matching::collect_records(bytes, 0, query, results, 0) as u64
 }

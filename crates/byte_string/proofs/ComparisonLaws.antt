@@ -67,3 +67,19 @@ module _ (x y : List ℕ) (c : Comparison) (e : c ≡ comparison x y) where
   pub compared_begins_back : says_begins (length y) c ≡ begins y x
   unfolding says_begins
   compared_begins_back = ap (leb (length y)) (compared_agreeing ∙ agreeing_comm x y) ∙ sym (begins-agreeing y x)
+
+-- The same, of the comparison itself.
+
+pub says_less_of : (x y : List ℕ) → says_less (comparison x y) ≡ less x y
+says_less_of x y = compared_less x y (comparison x y) refl
+
+pub says_at_most_of : (x y : List ℕ) → says_at_most (comparison x y) ≡ at_most x y
+says_at_most_of x y = compared_at_most x y (comparison x y) refl
+
+pub says_begins_of : (x y : List ℕ) → says_begins (length x) (comparison x y) ≡ begins x y
+says_begins_of x y = compared_begins x y (comparison x y) refl
+
+pub says_begins_back : (x y : List ℕ) → says_begins (length y) (comparison x y) ≡ begins y x
+says_begins_back x y = compared_begins_back x y (comparison x y) refl
+
+pub ruleset compared = (says_less_of, says_at_most_of, says_begins_of, says_begins_back)

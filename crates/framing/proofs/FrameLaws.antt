@@ -1,5 +1,9 @@
 -- Laws of numbers and frames at an offset.
 -- Assumes nothing.
+use Rattle.uleb128.specs.Number.{reading_said}
+use Rattle.uleb128.specs.declared.NumberFault.{NumberFault}
+use Rattle.uleb128.specs.declared.NumberFault.TheVariants.{CutOff, TooWide, NotShortest}
+use Rattle.framing.specs.Answers.{number_said}
 use mathlib.Core.Path.{◌≡◌, refl, sym, ap, ◌∙◌, subst⁻¹}
 use mathlib.Core.Bool.{true, false}
 use mathlib.Core.List.{List, []}
@@ -10,11 +14,15 @@ use lib.Dec.{leb}
 use lib.ListN.{length, take, drop, get_or, drop_of_length-le, length-drop}
 use lib.Seq.{get_or-drop}
 use borrow.Author.Tests.{le-leb, lt-leb, leb-true}
-use Rattle.uleb128.specs.Number.{Reading, number, cut_off, reading, continuing, reading_said}
-use Rattle.uleb128.specs.declared.Number.{Number}
-use Rattle.uleb128.specs.declared.Number.TheVariants.{Value}
+use Rattle.uleb128.specs.Number.{Reading, number, cut_off, reading, continuing}
 use Rattle.uleb128.specs.Number.{refused as badNumber}
 use Rattle.uleb128.proofs.NumberLaws.{number_used, number_lt, reading-cut, reading-first}
+use Rattle.std.specs.Prelude.{Result, Err}
+use Rattle.std.specs.Result.{IsErrAnd}
+use Rattle.std.proofs.lemmas.Result.{err_from_is_err_and}
+use Rattle.outcome.specs.declared.Fault.{Fault}
+use Rattle.outcome.specs.Fault.{said_at}
+use Rattle.outcome.specs.Fault.{number as code}
 use Rattle.outcome.specs.Outcome.{answer, refused}
 use Rattle.items.specs.declared.Step.{Step}
 use Rattle.outcome.proofs.OutcomeLaws.{answer_injective, refused_not_answer, kept, broken, kept⁻¹, bind_answer, bind⁻¹}
@@ -22,20 +30,30 @@ use Rattle.part.proofs.PartLaws.{lent_drop}
 use Rattle.framing.specs.declared.Frame.{Frame}
 use Rattle.framing.specs.Frame.{read_as, number_at, framed, frame_at, crc_right, sound_frame_at}
 
+-- ---- a fault that is handed on
+
+-- what it says
+pub said_fault : {A : Type 0} (place : ℕ) (r : Result A Fault) (f : Fault) → IsErrAnd r (λ x. x ≡ f) → said_at place r ≡ refused (code f) place
+unfolding said_at
+said_fault place r f h = let p = err_from_is_err_and r h in rw (p.1, p.2)
+
 -- ---- numbers
 
--- the number at an offset is what reading the rest finds
-pub number_found : (cut place : ℕ) (s : List ℕ) (at : ℕ) (n : Number) → reading_said n ≡ reading (take (length s - at) (drop at s)) → read_as cut place at (reading_said n) ≡ number_at cut place s at
+-- why none could be read
+pub number_fault : (cut place at : ℕ) (r : Result (Step ℕ) NumberFault) (f : NumberFault) → IsErrAnd r (λ x. x ≡ f)
+    → number_said cut place r ≡ read_as cut place at (reading_said (Err f))
+unfolding number_said read_as reading_said
+number_fault cut place at r f h = let p = err_from_is_err_and r h in rw (p.1, p.2) (same f)
+  where
+    same : (g : NumberFault) → number_said cut place (Err g) ≡ read_as cut place at (reading_said (Err g))
+    same CutOff = refl
+    same TooWide = refl
+    same NotShortest = refl
+
+-- the number at an offset is what reading the rest, which is lent, finds
+pub number_lent : (cut place : ℕ) (s : List ℕ) (at : ℕ) (r : Reading) → r ≡ reading (take (length s - at) (drop at s)) → read_as cut place at r ≡ number_at cut place s at
 unfolding number_at
-number_found cut place s at n e = ap (read_as cut place at) (e ∙ ap reading (lent_drop s at))
-
--- a value that was read
-pub value_read : (s : List ℕ) (n : Number) (value used : ℕ) → n ≡ Value value used → reading_said n ≡ reading s → reading s ≡ number value used
-unfolding reading_said
-value_read s n value used told e = sym e ∙ ap reading_said told
-
-pub value_used : (s : List ℕ) (n : Number) (value used : ℕ) → n ≡ Value value used → reading_said n ≡ reading s → used ≤ length s
-value_used s n value used told e = (number_used s value used (value_read s n value used told e)).2
+number_lent cut place s at r e = ap (read_as cut place at) (e ∙ ap reading (lent_drop s at))
 
 -- past the end every number is cut off
 pub number_past : (cut place : ℕ) (s : List ℕ) (at : ℕ) → length s ≤ at → number_at cut place s at ≡ refused cut place

@@ -17,22 +17,11 @@ use Rattle.part.specs.Part.{part}
 use Rattle.outcome.proofs.OutcomeLaws.{must⁻¹, kept⁻¹, passed⁻¹, answer_injective, answer_not_refused}
 use Rattle.part.proofs.PartLaws.{drop-take, part_front}
 use Rattle.header.specs.declared.Header.{Header}
-use Rattle.header.specs.declared.HeaderOutcome.TheVariants.{Answer as Good, Refused as Bad}
 use Rattle.header.specs.Metadata.{Metadata}
 use Rattle.header.specs.Header.{magic, unfinished_magic, codec_none, field_at, H, M, header_crc_right}
-use Rattle.header.specs.Header.{header_numbers, fields_of, data_of, size_rule, front_rules, header_of, blocks_from, header_said}
+use Rattle.header.specs.Header.{header_numbers, fields_of, data_of, size_rule, front_rules, header_of, blocks_from}
 use Rattle.header.proofs.MetadataLaws.{is_metadata⇒Metadata, Metadata⇒is_metadata}
 use Rattle.header.proofs.RuleLaws.{Opened, holds_header⁻¹, holds_header_of, holds_metadata⁻¹, holds_metadata_of, fields_good, data_fields, header_data_lem}
-
--- ---- what an answer of `Header::read` says
-
-pub good_header : (file : List ℕ) (h : Header) → header_said (Good h) ≡ header_of file → header_of file ≡ answer h
-unfolding header_said
-good_header file h e = sym e
-
-pub bad_header : (file : List ℕ) (number : ℕ) → header_said (Bad number) ≡ header_of file → header_of file ≡ refused number 0
-unfolding header_said
-bad_header file number e = sym e
 
 -- ---- an accepted header
 

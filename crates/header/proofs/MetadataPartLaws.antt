@@ -9,18 +9,20 @@ use Rattle.outcome.specs.Outcome.{Outcome, answer, refused}
 use Rattle.part.specs.Part.{part}
 use Rattle.part.proofs.PartLaws.{length_part}
 use Rattle.header.specs.declared.Header.{Header}
-use Rattle.header.specs.declared.HeaderOutcome.{HeaderOutcome}
 use Rattle.header.specs.Metadata.{Metadata}
-use Rattle.header.specs.Header.{header_of, header_said}
+use Rattle.header.specs.Header.{header_of}
+use Rattle.std.specs.Prelude.{Result}
+use Rattle.outcome.specs.declared.Fault.{Fault}
+use Rattle.outcome.specs.Fault.{said_at}
 use Rattle.header.specs.MetadataPart.{metadata_in, metadata_part, HoldsMetadata}
 use Rattle.header.proofs.HeaderLaws.{is_header}
 use Rattle.header.proofs.MetadataLaws.{metadata_long}
 
 -- the part that the code hands back, by what `Header::read` answers
-pub metadata_told : (file : List ℕ) (read told : HeaderOutcome) → read ≡ told → header_said read ≡ header_of file
-    → metadata_in (header_said told) ≡ metadata_part file
+pub metadata_told : (file : List ℕ) (read told : Result Header Fault) → read ≡ told → said_at 0 read ≡ header_of file
+    → metadata_in (said_at 0 told) ≡ metadata_part file
 unfolding metadata_part
-metadata_told file read told same e = ap metadata_in (ap header_said (sym same) ∙ e)
+metadata_told file read told same e = ap metadata_in (ap (said_at 0) (sym same) ∙ e)
 
 -- a sound header: the part lies within the file, and its bytes are those that the metadata rule is about
 pub metadata_sound : (file : List ℕ) (h : Header) → header_of file ≡ answer h → HoldsMetadata file (metadata_part file)

@@ -3,7 +3,7 @@ use Rattle.std.specs.Prelude.{ℕ, ◌+◌, ◌-◌, ◌^◌, Bool, not, ◌&&�
 use Rattle.byte_string.specs.Order.{begins}
 use Rattle.endian.specs.FixedWidth.{little_endian}
 use Rattle.crc64.specs.Crc64.{crc64}
-use Rattle.outcome.specs.Outcome.{Outcome, answer, refused, ◌>>◌, must}
+use Rattle.outcome.specs.Outcome.{Outcome, answer, ◌>>◌, must}
 use Rattle.part.specs.Part.{part}
 use Rattle.header.specs.Metadata.{is_metadata}
 use Rattle.header.specs.declared.Header.{Header}

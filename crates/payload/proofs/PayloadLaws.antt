@@ -7,24 +7,43 @@ use native.Mathlib.Omega.{arith}
 use lib.Dec.{leb}
 use lib.ListN.{length}
 use borrow.Author.Tests.{le-leb, lt-leb, leb-true}
+use Rattle.std.specs.Prelude.{Result}
+use Rattle.std.specs.Result.{IsErrAnd}
+use Rattle.std.proofs.lemmas.Result.{err_from_is_err_and}
+use Rattle.outcome.specs.declared.Fault.{Fault}
+use Rattle.outcome.specs.Fault.{number}
 use Rattle.outcome.specs.Outcome.{answer, refused}
+use Rattle.part.specs.declared.Part.{Part}
 use Rattle.items.specs.declared.Step.{Step}
 use Rattle.outcome.proofs.OutcomeLaws.{answer_injective, kept, broken, kept⁻¹, bind_answer, bind_refused, bind⁻¹}
 use Rattle.part.proofs.PartLaws.{length_part}
 use Rattle.framing.specs.Frame.{number_at}
 use Rattle.payload.specs.Payload.{Text, Entry, text_at, entry_at, entry_sized}
-use Rattle.payload.specs.declared.EntryOutcome.{EntryOutcome}
-use Rattle.payload.specs.declared.EntryOutcome.TheVariants.{Answer as AnEntry}
-use Rattle.part.specs.declared.Part.{Part}
-use Rattle.payload.specs.Answers.{text_in, KeyWithin}
+use Rattle.payload.specs.declared.Entry.{Entry as Found}
+use Rattle.payload.specs.Answers.{text_in, text_said, entry_said, KeyWithin}
 use Rattle.framing.proofs.FrameLaws.{Numbered, numbered}
+
+-- ---- a fault that is handed on
+
+pub text_fault : (place : ℕ) (s : List ℕ) (r : Result Part Fault) (f : Fault) → IsErrAnd r (λ x. x ≡ f) → text_said place s r ≡ refused (number f) place
+unfolding text_said
+text_fault place s r f h = let p = err_from_is_err_and r h in rw (p.1, p.2)
+
+pub entry_fault : (place : ℕ) (s : List ℕ) (r : Result (Step Found) Fault) (f : Fault) → IsErrAnd r (λ x. x ≡ f) → entry_said place s r ≡ refused (number f) place
+unfolding entry_said
+entry_fault place s r f h = let p = err_from_is_err_and r h in rw (p.1, p.2)
+
+-- it names no key
+pub no_key : (s : List ℕ) (r : Result (Step Found) Fault) (f : Fault) → IsErrAnd r (λ x. x ≡ f) → KeyWithin s r
+unfolding KeyWithin
+no_key s r f h = let p = err_from_is_err_and r h in rw p.1 tt
 
 module _ (place : ℕ) (s : List ℕ) (at : ℕ) where
   -- ---- a number and that many bytes
 
-  pub text_refused : (number p : ℕ) → number_at 15 place s at ≡ refused number p → text_at place s at ≡ refused number p
+  pub text_refused : (n p : ℕ) → number_at 15 place s at ≡ refused n p → text_at place s at ≡ refused n p
   unfolding text_at
-  text_refused number p e = bind_refused (number_at 15 place s at) _ number p e
+  text_refused n p e = bind_refused (number_at 15 place s at) _ n p e
 
   pub text_short : (n : Step ℕ) → number_at 15 place s at ≡ answer n → length s < n.next + n.item → text_at place s at ≡ refused 15 place
   unfolding text_at
@@ -72,18 +91,29 @@ module _ (place : ℕ) (s : List ℕ) (at : ℕ) where
 
   -- ---- entries
 
-  pub entry_keyless : (number p : ℕ) → text_at place s at ≡ refused number p → entry_at place s at ≡ refused number p
+  pub entry_keyless : (n p : ℕ) → text_at place s at ≡ refused n p → entry_at place s at ≡ refused n p
   unfolding entry_at
-  entry_keyless number p e = bind_refused (text_at place s at) _ number p e
+  entry_keyless n p e = bind_refused (text_at place s at) _ n p e
 
-  pub entry_refused : (key : Step Text) (number p : ℕ) → text_at place s at ≡ answer key → number_at 15 place s key.next ≡ refused number p → entry_at place s at ≡ refused number p
+  pub entry_refused : (key : Step Text) (n p : ℕ) → text_at place s at ≡ answer key → number_at 15 place s key.next ≡ refused n p → entry_at place s at ≡ refused n p
   unfolding entry_at
-  entry_refused key number p e q = bind_answer (text_at place s at) _ key e ∙ bind_refused (number_at 15 place s key.next) _ number p q
+  entry_refused key n p e q = bind_answer (text_at place s at) _ key e ∙ bind_refused (number_at 15 place s key.next) _ n p q
 
   pub entry_read : (key : Step Text) (offset : Step ℕ) → text_at place s at ≡ answer key → number_at 15 place s key.next ≡ answer offset
       → entry_at place s at ≡ entry_sized place s key.item offset.item offset.next
   unfolding entry_at
   entry_read key offset e q = bind_answer (text_at place s at) _ key e ∙ bind_answer (number_at 15 place s key.next) _ offset q
+
+  pub entry_sizeless : (key : Step Text) (offset : Step ℕ) (n p : ℕ) → text_at place s at ≡ answer key → number_at 15 place s key.next ≡ answer offset
+      → number_at 15 place s offset.next ≡ refused n p → entry_at place s at ≡ refused n p
+  unfolding entry_sized
+  entry_sizeless key offset n p e q r = entry_read key offset e q ∙ bind_refused (number_at 15 place s offset.next) _ n p r
+
+  pub entry_found : (key : Step Text) (offset size : Step ℕ) → text_at place s at ≡ answer key → number_at 15 place s key.next ≡ answer offset
+      → number_at 15 place s offset.next ≡ answer size
+      → entry_at place s at ≡ answer (record { item = record { key = key.item; offset = offset.item; size = size.item }; next = size.next })
+  unfolding entry_sized
+  entry_found key offset size e q r = entry_read key offset e q ∙ bind_answer (number_at 15 place s offset.next) _ size r
 
   -- where an entry that was read lies
   pub record Entered (e : Step Entry) : Type 0 where
@@ -129,8 +159,3 @@ entry⇒Entered place s at e h = go (entry⁻¹ place s at e h)
           forward = let ends = key.ends in let forward = key.forward in let n₁ = offset.forward in let n₂ = size.forward in omega arith;
           within = size.within;
         })
-
--- the key of an entry that an answer names
-pub within_told : (s : List ℕ) (r : EntryOutcome) (key : Part) (offset size next : ℕ) → r ≡ AnEntry key offset size next → KeyWithin s r → key.offset + key.length ≤ length s
-unfolding KeyWithin
-within_told s r key offset size next told h = subst (KeyWithin s) told h

@@ -10,7 +10,7 @@ ghost use Rattle.payload.specs.Payload as payloads;
 ghost use Rattle.payload.specs.Answers as answers;
 
 use byte_string::Comparison;
-use framing::number_at;
+use framing::number_or;
 use items::Step;
 use outcome::Fault;
 use part::Part;
@@ -37,7 +37,7 @@ pub fn text_at(s: &[u8], at: usize) -> Result<Part, Fault>
 fn text_by_number(s: &[u8], at: usize) -> Result<Part, Fault>
     ensures { (place : ℕ) → answers.text_said place s.now result ≡ payloads.text_at place s.now at }
 {
-    let number = number_at(s, at, Fault::Payload)?;
+    let number = number_or(s, at, Fault::Payload)?;
     if ((s.len() - number.next) as u64) < number.item {
         return Err(Fault::Payload);
     }
@@ -61,8 +61,8 @@ pub fn entry_at(s: &[u8], at: usize) -> Result<Step<Entry>, Fault>
     ensures key_within { answers.KeyWithin s.now result }
 {
     let key = text_by_number(s, at)?;
-    let offset = number_at(s, key.end(), Fault::Payload)?;
-    let size = number_at(s, offset.next, Fault::Payload)?;
+    let offset = number_or(s, key.end(), Fault::Payload)?;
+    let size = number_or(s, offset.next, Fault::Payload)?;
     Ok(Step {
         item: Entry {
             key,

@@ -2,7 +2,7 @@
 #![tactic(auto)]
 
 ghost use Rattle.std.specs.Prelude.{◌≡◌};
-ghost use Rattle.query.specs.Query.{before, matches};
+ghost use Rattle.query.specs.Query.{query_of, before, matches};
 ghost use Rattle.query.specs.Opening.{may_match, reaches, up_to, admits_prefix};
 ghost use Rattle.query.specs.Asked.{asked, lent};
 
@@ -15,7 +15,21 @@ pub struct Query<'a> {
 }
 
 impl<'a> Query<'a> {
+    // The query of a call from C. Where no stop is given, the bytes of `stop` have no influence.
+    #[tactic(auto, unfolding(crate::specs::Query::query_of, crate::specs::Query::given, crate::specs::Asked::asked, crate::specs::Asked::lent))]
+    pub fn new(start: &'a [u8], stop_given: bool, stop: &'a [u8], prefix: &'a [u8]) -> Query<'a>
+        ensures { asked result ≡ query_of start.now stop_given stop.now prefix.now }
+    {
+        let stop = if stop_given { Some(stop) } else { None };
+        Query {
+            start,
+            stop,
+            prefix,
+        }
+    }
+
     // Whether a byte string matches.
+    #[tactic(auto, unfolding(crate::specs::Query::matches, crate::specs::Asked::asked), using(byte_string::proofs::ComparisonLaws::compared))]
     pub fn matches(self, x: &[u8]) -> bool
         ensures { result ≡ matches (asked self.entry) x.now }
     {
@@ -25,6 +39,7 @@ impl<'a> Query<'a> {
     }
 
     // The opening test: whether any byte string from `lower` to `upper`, both included, matches.
+    #[tactic(auto, unfolding(crate::specs::Opening::may_match, crate::specs::Asked::asked))]
     pub fn may_match(self, lower: &[u8], upper: Option<&[u8]>) -> bool
         ensures { result ≡ may_match lower.now (lent upper.entry) (asked self.entry) }
     {
@@ -37,6 +52,7 @@ impl<'a> Query<'a> {
 }
 
 // Whether x is less than the stop, where there is one.
+#[tactic(auto, unfolding(crate::specs::Query::before, crate::specs::Asked::lent), using(byte_string::proofs::ComparisonLaws::compared))]
 fn before(x: &[u8], stop: Option<&[u8]>) -> bool
     ensures { result ≡ before x.now (lent stop.entry) }
 {
@@ -47,6 +63,7 @@ fn before(x: &[u8], stop: Option<&[u8]>) -> bool
 }
 
 // Whether x is at most the upper bound, where there is one.
+#[tactic(auto, unfolding(crate::specs::Opening::up_to, crate::specs::Asked::lent), using(byte_string::proofs::ComparisonLaws::compared))]
 fn up_to(x: &[u8], upper: Option<&[u8]>) -> bool
     ensures { result ≡ up_to x.now (lent upper.entry) }
 {
@@ -57,6 +74,7 @@ fn up_to(x: &[u8], upper: Option<&[u8]>) -> bool
 }
 
 // Whether x is neither past the upper bound nor at or past the stop.
+#[tactic(auto, unfolding(crate::specs::Opening::reaches))]
 fn reaches(x: &[u8], upper: Option<&[u8]>, stop: Option<&[u8]>) -> bool
     ensures { result ≡ reaches x.now (lent upper.entry) (lent stop.entry) }
 {
@@ -64,6 +82,7 @@ fn reaches(x: &[u8], upper: Option<&[u8]>, stop: Option<&[u8]>) -> bool
 }
 
 // Whether some byte string from `from` on begins with the prefix.
+#[tactic(auto, unfolding(crate::specs::Opening::admits_prefix), using(byte_string::proofs::ComparisonLaws::compared))]
 fn admits_prefix(from: &[u8], prefix: &[u8]) -> bool
     ensures { result ≡ admits_prefix from.now prefix.now }
 {

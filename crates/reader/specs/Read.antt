@@ -1,5 +1,7 @@
 -- Reading a file front to back under a query.
 use Rattle.std.specs.Prelude.{ℕ, List, leb, length}
+use Rattle.outcome.specs.declared.Refusal.{Refusal}
+use Rattle.outcome.specs.Fault.{number}
 use Rattle.outcome.specs.Outcome.{Outcome, answer, ◌>>=◌, ◌>>◌, must, number_of, place_of, count_of, list_of}
 use Rattle.header.specs.declared.Header.{Header}
 use Rattle.header.specs.Header.{header_of, blocks_from}
@@ -28,3 +30,11 @@ read_answer o = record { number = number_of o; place = place_of o; matches = cou
 
 unfoldable pub read_list : ℕ → Outcome (List Text) → List ℕ
 read_list room o = list_of numbers_of room o
+
+-- what it answers after this refusal
+unfoldable pub refused_answer : Refusal → ReadAnswer
+refused_answer r = record { number = number r.fault; place = r.place; matches = 0 }
+
+-- how many records match
+unfoldable pub counted : Outcome (List Text) → Outcome ℕ
+counted o = o >>= λ ms. answer (length ms)

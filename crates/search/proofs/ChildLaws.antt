@@ -1,5 +1,9 @@
 -- Laws of the block that an entry names: reading an entry and the key of the next, and the opening test on parts of the file.
 -- Assumes nothing.
+use Rattle.std.specs.Prelude.{Some, None, Result, Ok, Err}
+use Rattle.std.specs.Prelude.{Option as Given}
+use Rattle.outcome.specs.Fault.{number, said}
+use Rattle.items.specs.declared.Step.{Step}
 use mathlib.Core.Path.{◌≡◌, refl, sym, ap, ap₂, ◌∙◌, subst}
 use mathlib.Core.Bool.{Bool, true}
 use mathlib.Core.List.{List, [], ◌∷◌}
@@ -10,7 +14,6 @@ use lib.Seq.{length-take-le}
 use Rattle.outcome.specs.Outcome.{Outcome, answer, refused}
 use Rattle.outcome.proofs.OutcomeLaws.{answer_injective, refused_not_answer}
 use Rattle.items.specs.Items.{items_from}
-use Rattle.items.specs.declared.Step.{Step}
 use Rattle.items.proofs.ItemsLaws.{Row, row_end, row_more, items⇒row, row⇒items}
 use Rattle.part.specs.declared.Part.{Part}
 use Rattle.part.proofs.PartLaws.{part-take, lent_part}
@@ -21,10 +24,9 @@ use Rattle.payload.proofs.PayloadLaws.{text⇒Placed, entry⇒Entered, entry⁻�
 use Rattle.payload.proofs.ReadLaws.{payload⁻¹, entry_forward}
 use Rattle.block.specs.Block.{Block, block_in}
 use Rattle.block.proofs.BlockLaws.{inside_index}
-use Rattle.query.specs.Query.{Query, given}
+use Rattle.query.specs.Query.{Query}
 use Rattle.query.specs.Opening.{may_match}
 use Rattle.search.specs.declared.opening.Named.{Named}
-use Rattle.search.specs.declared.child.Bound.{Bound}
 use Rattle.search.specs.declared.child.Child.{Child}
 use Rattle.search.specs.Search.{next_key, child_named}
 use Rattle.search.specs.Steps.{PartWithin, bound_of, admitted, entries_from, ChildWithin, IsChild}
@@ -90,7 +92,7 @@ module _ (file : List ℕ) (f : Frame) where
   abbrev text_of : Part → Step Text
   text_of p = record { item = text_in (take f.end file) p.offset p.length; next = p.offset + p.length }
 
-  module _ (next : ℕ) (above : Bound) where
+  module _ (next : ℕ) (above : Given Part) where
     -- no key can be read: no entry is left
     pub next_refused : (number place : ℕ) → key_in next ≡ refused number place
         → (es : List Entry) → entries_from file f next ≡ answer es → bound_of file above ≡ next_key es (bound_of file above)
@@ -118,15 +120,15 @@ module _ (file : List ℕ) (f : Frame) where
       next_within = let ends = key_ends.1 in omega arith
 
       pub next_found : (es : List Entry) → entries_from file f next ≡ answer es
-          → bound_of file (record { given = true; key = key }) ≡ next_key es (bound_of file above)
-      unfolding next_key bound_of given text_in
+          → bound_of file (Some key) ≡ next_key es (bound_of file above)
+      unfolding next_key bound_of text_in
       next_found es e = go es (in_row next es e)
         where
-          go : (l : List Entry) → Entries next l → bound_of file (record { given = true; key = key }) ≡ next_key l (bound_of file above)
+          go : (l : List Entry) → Entries next l → bound_of file (Some key) ≡ next_key l (bound_of file above)
           go l (row_end past) = let bounds = key_ends in let forward = bounds.0 in let ends = bounds.1 in absurd (omega arith)
           go l (row_more x more h entered rest) =
               let r = entry⁻¹ f.start (take f.end file) next x entered in
-              ap (given true)
+              ap some
               (sym (part-take file f.end key.offset key.length key_ends.1)
               ∙ ap (λ (k : Step Text). k.item.bytes) (answer_injective (text_of key) r.key (sym read ∙ r.key_read))
               ∙ ap (λ (y : Step Entry). y.item.key.bytes) r.entry_is)
@@ -137,14 +139,14 @@ module _ (file : List ℕ) (f : Frame) where
   abbrev entry_of : Part → (offset size : ℕ) → Entry
   entry_of key offset size = record { key = text_in (take f.end file) key.offset key.length; offset = offset; size = size }
 
-  module _ (at : ℕ) (above : Bound) (inside : f.end ≤ length file) (key : Part) (offset size next : ℕ)
+  module _ (at : ℕ) (above : Given Part) (inside : f.end ≤ length file) (key : Part) (offset size next : ℕ)
       (read : entry_in at ≡ answer (record { item = entry_of key offset size; next = next }))
-      (keyed : key.offset + key.length ≤ length (take f.end file)) (upper : Bound) (named : Named) where
+      (keyed : key.offset + key.length ≤ length (take f.end file)) (upper : Given Part) (named : Named) where
     abbrev child : Child
     child = record { key = key; upper = upper; named = named }
 
     module _ (names : named ≡ child_named f.start (f.level - 1) offset size) where
-      pub child_within : PartWithin file upper.key → ChildWithin file f at child next
+      pub child_within : BoundWithin file upper → ChildWithin file f at child next
       unfolding PartWithin child_named
       child_within bounded =
           let entered = entry⇒Entered f.start (take f.end file) at _ read in
@@ -180,13 +182,9 @@ module _ (file : List ℕ) (f : Frame) where
 
 -- ---- the opening test
 
--- on parts as code lends them
-pub admits_lent : (file : List ℕ) (q : Query) (c : Child) (r : Bool)
-    → r ≡ may_match (take (c.key.offset + c.key.length - c.key.offset) (drop c.key.offset file))
-    (given c.upper.given (take (c.upper.key.offset + c.upper.key.length - c.upper.key.offset) (drop c.upper.key.offset file))) q
-    → r ≡ admitted file q c
-unfolding admitted bound_of
-admits_lent file q c r e =
-    e
-    ∙ ap₂ (λ (lower bound : List ℕ). may_match lower (given c.upper.given bound) q)
-    (lent_part file c.key.offset c.key.length) (lent_part file c.upper.key.offset c.upper.key.length)
+-- on the bounds that code lends
+pub admits_lent : (file : List ℕ) (q : Query) (c : Child) (upper : Option (List ℕ)) → upper ≡ bound_of file c.upper
+    → (lower : List ℕ) → lower ≡ part file c.key.offset c.key.length
+    → (r : Bool) → r ≡ may_match lower upper q → r ≡ admitted file q c
+unfolding admitted
+admits_lent file q c upper above lower below r e = e ∙ ap₂ (λ (l : List ℕ) (u : Option (List ℕ)). may_match l u q) below above

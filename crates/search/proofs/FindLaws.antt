@@ -1,5 +1,12 @@
 -- Laws of putting the matching records of a data block on the result list.
 -- Assumes nothing.
+use Rattle.std.specs.Prelude.{Some, None, Result, Ok, Err}
+use Rattle.std.specs.Prelude.{Option as Given}
+use Rattle.outcome.specs.Fault.{number, said}
+use Rattle.items.specs.declared.Step.{Step}
+use Rattle.outcome.specs.declared.Fault.TheVariants.{ResultRoom}
+use Rattle.outcome.specs.declared.Refusal.{Refusal}
+use Rattle.part.specs.declared.Part.{Part}
 use mathlib.Core.Path.{◌≡◌, refl, sym, ap, ap₂, ◌∙◌, subst}
 use mathlib.Core.Bool.{Bool, true, false}
 use mathlib.Core.List.{List, [], ◌∷◌, ◌++◌, append-nil}
@@ -20,10 +27,7 @@ use Rattle.matching.specs.Matching.{matching, records_from}
 use Rattle.matching.specs.ResultList.{room_for, numbers_of, Stored, put_all}
 use Rattle.matching.proofs.ResultListLaws.{room_for_mono, stored-after, count_put_all, length_put_all}
 use Rattle.matching.proofs.FrameRecordsLaws.{inside⇒records}
-use Rattle.search.specs.declared.child.Bound.{Bound}
 use Rattle.search.specs.declared.walk.Progress.{Progress}
-use Rattle.search.specs.declared.walk.WalkOutcome.{WalkOutcome}
-use Rattle.search.specs.declared.walk.WalkOutcome.TheVariants.{Answer as Going, Refused as Stopped}
 use Rattle.search.specs.Search.{Walked, with_match, add_matches, walk_of}
 use Rattle.search.specs.Steps.{bound_of, StaysWithin, FindAsks, ListsHold, Reaches, WalkSaid}
 
@@ -69,16 +73,16 @@ add_matches_27 room (r ∷ rs) s few many = go (leb (room_for (length s.matches 
 module _ (q : Query) (first : List ℕ) {file : List ℕ} {f : Frame} {p : Progress} {many : ℕ} {list : List ℕ} (asks : FindAsks file f p (length first))
     (is : (place : ℕ) → ◌≡◌ {A = Stored} (record { count = many; list = list })
     (put_all (record { count = p.found; list = first }) (matching q (records_from place (take f.end file) (f.body + 1)))))
-    (opened_list : List ℕ) (from : ℕ) (above : Bound) (used : p.used ≤ length opened_list) where
+    (opened_list : List ℕ) (from : ℕ) (above : Given Part) (used : p.used ≤ length opened_list) where
   -- the list is as long as before
   list_long : length list ≡ length first
   list_long = ap (λ (t : Stored). length t.list) (is 0) ∙ length_put_all (record { count = p.found; list = first }) _
 
-  abbrev Said : WalkOutcome → Type 0
+  abbrev Said : Result Progress Refusal → Type 0
   Said r = WalkSaid file q from f above p opened_list first r opened_list list
 
   -- what is said of adding the matches is said of the walk
-  leaf_said : (r : WalkOutcome) → StaysWithin r (length opened_list) (length first)
+  leaf_said : (r : Result Progress Refusal) → StaysWithin r (length opened_list) (length first)
       → ((b : Block) (s : Walked) → block_in file f ≡ answer b → ListsHold opened_list first p s
       → Reaches r opened_list list (add_matches (length first) (matching q b.records) s))
       → Said r
@@ -133,14 +137,14 @@ module _ (q : Query) (first : List ℕ) {file : List ℕ} {f : Frame} {p : Progr
         )
 
   -- there is no room for all
-  pub find_overflow : leb (room_for many) (length list) ≡ false → Said (Stopped (record { number = 27; place = 0 }))
+  pub find_overflow : leb (room_for many) (length list) ≡ false → Said (Err (record { fault = ResultRoom; place = 0 }))
   unfolding StaysWithin Reaches
-  find_overflow full = leaf_said (Stopped (record { number = 27; place = 0 })) tt (λ b s e h. reaches_27 b s e h (leb-false (room_for many) (length list) full))
+  find_overflow full = leaf_said (Err (record { fault = ResultRoom; place = 0 })) tt (λ b s e h. reaches_27 b s e h (leb-false (room_for many) (length list) full))
 
   -- there is
-  pub find_fit : leb (room_for many) (length list) ≡ true → Said (Going (record { used = p.used; found = many }))
+  pub find_fit : leb (room_for many) (length list) ≡ true → Said (Ok (record { used = p.used; found = many }))
   unfolding StaysWithin Reaches
   find_fit fits =
       let few = leb-true (room_for many) (length list) fits in
       let long = list_long in
-      leaf_said (Going (record { used = p.used; found = many })) (record { opened = used; found = omega arith }) (λ b s e h. reaches_all b s e h few)
+      leaf_said (Ok (record { used = p.used; found = many })) (record { opened = used; found = omega arith }) (λ b s e h. reaches_all b s e h few)

@@ -1,5 +1,12 @@
 -- The loop over the entries of an index block: going on from here gives what going through all of them gives.
 -- Assumes nothing.
+use Rattle.std.specs.Prelude.{Some, None, Result, Ok, Err}
+use Rattle.std.specs.Prelude.{Option as Given}
+use Rattle.outcome.specs.Fault.{number, said}
+use Rattle.items.specs.declared.Step.{Step}
+use Rattle.outcome.specs.declared.Refusal.{Refusal}
+use Rattle.part.specs.declared.Part.{Part}
+use Rattle.search.specs.declared.child.Child.{Child}
 use mathlib.Core.Path.{◌≡◌, refl, ap, ◌∙◌, subst}
 use mathlib.Core.List.{List}
 use Prim.Native.Nat.{ℕ, ◌+◌}
@@ -9,12 +16,7 @@ use Rattle.outcome.specs.Outcome.{Outcome, answer}
 use Rattle.framing.specs.declared.Frame.{Frame}
 use Rattle.payload.specs.Payload.{Entry}
 use Rattle.query.specs.Query.{Query}
-use Rattle.search.specs.declared.child.Bound.{Bound}
-use Rattle.search.specs.declared.child.ChildOutcome.{ChildOutcome}
-use Rattle.search.specs.declared.child.ChildOutcome.TheVariants.{None as NoEntry}
 use Rattle.search.specs.declared.walk.Progress.{Progress}
-use Rattle.search.specs.declared.walk.WalkOutcome.{WalkOutcome}
-use Rattle.search.specs.declared.walk.WalkOutcome.TheVariants.{Answer as Going}
 use Rattle.search.specs.Search.{Walked}
 use Rattle.search.specs.Steps.{bound_of, entries_from, IndexWithin, ChildSaid, HasRoom, StaysWithin, WalkAsks, ListsHold, Reaches, WalkSaid}
 use Rattle.search.proofs.WalkLaws.{through, through_none, walk_said}
@@ -27,7 +29,7 @@ pub record Walking : Type 0 where
   pub query : Query
   pub from : ℕ
   pub frame : Frame
-  pub above : Bound
+  pub above : Given Part
   pub opened : List ℕ
   pub results : List ℕ
   pub before : Progress
@@ -48,11 +50,11 @@ module _ (w : Walking) where
   Entries at es = entries_from w.file w.frame at ≡ answer es
 
   -- what reading the next of them says
-  abbrev pub Reads : ℕ → ChildOutcome → Type 0
+  abbrev pub Reads : ℕ → Given (Step Child) → Type 0
   Reads at o = (es : List Entry) → Entries at es → ChildSaid w.file w.frame w.above o es
 
   -- what the walk says
-  abbrev pub Said : WalkOutcome → (opened_now resultsNow : List ℕ) → Type 0
+  abbrev pub Said : Result Progress Refusal → (opened_now resultsNow : List ℕ) → Type 0
   Said r opened_now resultsNow =
       WalkSaid w.file w.query w.from w.frame w.above w.before w.opened w.results r opened_now resultsNow
 
@@ -92,14 +94,14 @@ module _ {w : Walking} {opened_now resultsNow : List ℕ} {at : ℕ} {p : Progre
   pub onward_index : IndexWithin w.file w.frame w.above
   onward_index = let some = on.index in record { index = omega arith; end = on.asks.frame.end; bound = on.asks.bound }
 
-  pub onward_end : {o : ChildOutcome} → Reads w at o → o ≡ NoEntry → Said w (Going p) opened_now resultsNow
+  pub onward_end : {o : Given (Step Child)} → Reads w at o → o ≡ None → Said w (Ok p) opened_now resultsNow
   unfolding ChildSaid Reaches StaysWithin
   onward_end read told = walk_said on.asks on.index on.fits (λ all s row h. go all s (on.led all s row h))
     where
       go : (all : List Entry) (s : Walked) → Led w opened_now resultsNow at p all s
           → (t : Walked) × (Gives w all s ≡ answer t) × ListsHold opened_now resultsNow p t
       go all s l =
-          let none = subst (λ (r : ChildOutcome). ChildSaid w.file w.frame w.above r l.left) told (read l.left l.entries) in (
+          let none = subst (λ (r : Given (Step Child)). ChildSaid w.file w.frame w.above r l.left) told (read l.left l.entries) in (
             l.found,
             l.leads
                 ∙ ap (λ (es : List Entry). Gives w es l.found) none

@@ -1,5 +1,9 @@
 -- Laws of opening a block: the ways out of its tests, and what is known of a block that passed them.
 -- Assumes nothing.
+use Rattle.std.specs.Prelude.{Some, None, Result, Ok, Err}
+use Rattle.std.specs.Prelude.{Option as Given}
+use Rattle.outcome.specs.Fault.{number, said}
+use Rattle.items.specs.declared.Step.{Step}
 use mathlib.Core.Path.{◌≡◌, refl, sym, ap, ◌∙◌, subst}
 use mathlib.Core.Bool.{Bool, true, false, ◌&&◌}
 use mathlib.Core.List.{List, []}
@@ -44,7 +48,7 @@ frame_within file at f e = let bounds = frame_bounds file at f e in record { bod
 
 -- the refusal for a wrong offset, size or level
 abbrev pub misfit : Named → Outcome Frame
-misfit n = refused n.refusal.number n.refusal.place
+misfit n = refused (number n.refusal.fault) n.refusal.place
 
 -- ---- size and level
 

@@ -1,5 +1,10 @@
 -- Laws of the search: from the header to the root, from the root down, and what is answered.
 -- Assumes nothing.
+use Rattle.std.specs.Prelude.{Some, None, Result, Ok, Err}
+use Rattle.std.specs.Prelude.{Option as Given}
+use Rattle.outcome.specs.Fault.{number, said}
+use Rattle.items.specs.declared.Step.{Step}
+use Rattle.part.specs.declared.Part.{Part}
 use mathlib.Core.Path.{◌≡◌, refl, sym, ap, ap₂, ◌∙◌, subst}
 use mathlib.Core.List.{List, [], ◌∷◌}
 use mathlib.Core.Option.{Option, none}
@@ -20,14 +25,9 @@ use Rattle.matching.specs.ResultList.{numbers_of}
 use Rattle.matching.proofs.ResultListLaws.{room_for_none, numbers_none}
 use Rattle.search.specs.declared.Found.{Found}
 use Rattle.search.specs.declared.opening.Named.{Named}
-use Rattle.search.specs.declared.opening.OpenOutcome.{OpenOutcome}
-use Rattle.search.specs.declared.opening.OpenOutcome.TheVariants.{Answer as Sound, Refused as NoBlock}
-use Rattle.search.specs.declared.child.Bound.{Bound}
 use Rattle.search.specs.declared.walk.Progress.{Progress}
-use Rattle.search.specs.declared.walk.WalkOutcome.{WalkOutcome}
-use Rattle.search.specs.declared.walk.WalkOutcome.TheVariants.{Answer as Going, Refused as Stopped}
 use Rattle.search.specs.Search.{Walked, nothing, with_opened, root_named, open_block, walk_of, walk_from, search_of, search_answer, opened_list, result_list}
-use Rattle.search.specs.Steps.{opening_said, frame_of, PartWithin, bound_of, WalkAsks, ListsHold, Reaches, WalkSaid, ListsClear}
+use Rattle.search.specs.Steps.{frame_of, BoundWithin, bound_of, WalkAsks, ListsHold, Reaches, WalkSaid, ListsClear}
 use Rattle.search.proofs.OpeningLaws.{IsOpened, said⇒IsOpened, said⇒refused}
 
 -- ---- the root
@@ -51,20 +51,20 @@ module _ (file : List ℕ) (q : Query) (from root rootsize : ℕ) (openedFirst r
     root_first = ap (λ (m : Named). open_block file (length openedFirst) from m nothing >>= Down) (sym names)
 
     -- what the opening of the root says
-    module _ {r : OpenOutcome}
-        (said : (s : Walked) → 0 ≡ length s.opened → opening_said r ≡ frame_of (open_block file (length openedFirst) from n s)) where
-      pub root_refused : {u : Refusal} → r ≡ NoBlock u → (opened_now resultsNow : List ℕ) → Reaches (Stopped u) opened_now resultsNow walked
-      unfolding Reaches opening_said nothing
+    module _ {r : Result Frame Refusal}
+        (tells : (s : Walked) → 0 ≡ length s.opened → said r ≡ frame_of (open_block file (length openedFirst) from n s)) where
+      pub root_refused : {u : Refusal} → r ≡ Err u → (opened_now resultsNow : List ℕ) → Reaches (Err u) opened_now resultsNow walked
+      unfolding Reaches said nothing
       root_refused {u} told opened_now resultsNow =
           root_first
-          ∙ bind_refused (open_block file (length openedFirst) from n nothing) Down u.number u.place
-          (said⇒refused file (length openedFirst) from n u.number u.place nothing (sym (ap opening_said told) ∙ said nothing refl))
+          ∙ bind_refused (open_block file (length openedFirst) from n nothing) Down (number u.fault) u.place
+          (said⇒refused file (length openedFirst) from n (number u.fault) u.place nothing (sym (ap said told) ∙ tells nothing refl))
 
       -- it is opened, and its offset goes on the list
-      module _ {f : Frame} (told : r ≡ Sound f) {opened_now : List ℕ} (stored : opened_now ≡ with_number openedFirst 0 n.offset) where
+      module _ {f : Frame} (told : r ≡ Ok f) {opened_now : List ℕ} (stored : opened_now ≡ with_number openedFirst 0 n.offset) where
         is_opened_lem : IsOpened file (length openedFirst) from n 0 f
-        unfolding opening_said
-        is_opened_lem = said⇒IsOpened file (length openedFirst) from n 0 f (λ s many. sym (ap opening_said told) ∙ said s many)
+        unfolding said
+        is_opened_lem = said⇒IsOpened file (length openedFirst) from n 0 f (λ s many. sym (ap said told) ∙ tells s many)
 
         now_long : length opened_now ≡ length openedFirst
         now_long = ap length stored ∙ length_with_number openedFirst 0 n.offset
@@ -86,7 +86,7 @@ module _ (file : List ℕ) (q : Query) (from root rootsize : ℕ) (openedFirst r
             }
 
         -- what the walk down from it asks
-        module _ {bound : Bound} (unbounded : PartWithin file bound.key × (bound_of file bound ≡ none)) where
+        module _ {bound : Given Part} (unbounded : BoundWithin file bound × (bound_of file bound ≡ none)) where
           pub root_asks : length file ≤ 2 ^ 30 → WalkAsks file f bound begun (length opened_now) (length results)
           unfolding root_named
           root_asks small =
@@ -102,7 +102,7 @@ module _ (file : List ℕ) (q : Query) (from root rootsize : ℕ) (openedFirst r
               }
 
           -- what it says
-          pub root_walked : ListsClear openedFirst results → {w : WalkOutcome} {openedThen resultsThen : List ℕ}
+          pub root_walked : ListsClear openedFirst results → {w : Result Progress Refusal} {openedThen resultsThen : List ℕ}
               → WalkSaid file q from f bound begun opened_now results w openedThen resultsThen → Reaches w openedThen resultsThen walked
           unfolding nothing
           root_walked clear {w} {openedThen} {resultsThen} down =
@@ -120,12 +120,12 @@ module _ (file : List ℕ) (q : Query) (from root rootsize : ℕ) (openedFirst r
 -- ---- the header
 
 module _ (file : List ℕ) (q : Query) (places room : ℕ) (opened_now results : List ℕ) where
-  pub header_refuses : (u : Refusal) → header_of file ≡ refused u.number u.place → Reaches (Stopped u) opened_now results (search_of file q places room)
+  pub header_refuses : (u : Refusal) → header_of file ≡ refused (number u.fault) u.place → Reaches (Err u) opened_now results (search_of file q places room)
   unfolding search_of Reaches
-  header_refuses u e = bind_refused (header_of file) _ u.number u.place e
+  header_refuses u e = bind_refused (header_of file) _ (number u.fault) u.place e
 
   pub header_accepts : {h : Header} → header_of file ≡ answer h
-      → (r : WalkOutcome) → Reaches r opened_now results (walk_from file q places room (blocks_from h) h.root h.rootsize)
+      → (r : Result Progress Refusal) → Reaches r opened_now results (walk_from file q places room (blocks_from h) h.root h.rootsize)
       → Reaches r opened_now results (search_of file q places room)
   unfolding search_of
   header_accepts {h} e r walked = subst (Reaches r opened_now results) (sym (bind_answer (header_of file) _ h e)) walked
@@ -155,7 +155,7 @@ module _ (file : List ℕ) (q : Query) (opened₀ results₀ : List ℕ) where
   )
 
   answered_refused : (u : Refusal) (opened_now results : List ℕ) → opened_now ≡ zeros (length opened₀) → results ≡ zeros (length results₀)
-      → searched ≡ refused u.number u.place → Answered (record { number = u.number; place = u.place; matches = 0; opened = 0 }) opened_now results
+      → searched ≡ refused (number u.fault) u.place → Answered (record { number = (number u.fault); place = u.place; matches = 0; opened = 0 }) opened_now results
   unfolding search_answer opened_list result_list number_of place_of count_of list_of
   answered_refused u opened_now results clear clean e =
       (sym (ap search_answer e), (clear ∙ sym (ap (opened_list (length opened₀)) e), clean ∙ sym (ap (result_list (length results₀)) e)))
@@ -172,29 +172,29 @@ module _ (file : List ℕ) (q : Query) (opened₀ results₀ : List ℕ) where
     lists_clear = record { opens = clear.0 ∙ ap zeros (sym first_long); finds = clear.1 ∙ ap zeros (sym first_wide) }
 
     -- and are as long after it
-    module _ {r : WalkOutcome} (openedThen resultsThen : List ℕ)
+    module _ {r : Result Progress Refusal} (openedThen resultsThen : List ℕ)
         (reached : Reaches r openedThen resultsThen (search_of file q (length openedFirst) (length resultsFirst)))
         (long : length openedThen ≡ length openedFirst) (wide : length resultsThen ≡ length resultsFirst) where
-      told : (k : WalkOutcome) → r ≡ k → Reaches k openedThen resultsThen searched
+      told : (k : Result Progress Refusal) → r ≡ k → Reaches k openedThen resultsThen searched
       told k is =
-          subst (λ (o : WalkOutcome). Reaches o openedThen resultsThen searched) is
+          subst (λ (o : Result Progress Refusal). Reaches o openedThen resultsThen searched) is
           (subst (λ (n : ℕ). Reaches r openedThen resultsThen (search_of file q (length opened₀) n)) first_wide
           (subst (λ (n : ℕ). Reaches r openedThen resultsThen (search_of file q n (length resultsFirst))) first_long reached))
 
-      pub search_went : {p : Progress} → r ≡ Going p
+      pub search_went : {p : Progress} → r ≡ Ok p
           → Answered (record { number = 0; place = 0; matches = p.found; opened = p.used }) openedThen resultsThen
       unfolding Reaches
-      search_went {p} is = go (told (Going p) is)
+      search_went {p} is = go (told (Ok p) is)
         where
           go : (s : Walked) × (searched ≡ answer s) × ListsHold openedThen resultsThen p s
               → Answered (record { number = 0; place = 0; matches = p.found; opened = p.used }) openedThen resultsThen
           go (s, e, h) = answered_found p openedThen resultsThen (long ∙ first_long) (wide ∙ first_wide) s e h
 
       -- after a refusal they are cleared again
-      pub search_stopped : {u : Refusal} → r ≡ Stopped u
+      pub search_stopped : {u : Refusal} → r ≡ Err u
           → {openedLast resultsLast : List ℕ} → (openedLast ≡ zeros (length openedThen)) × (resultsLast ≡ zeros (length resultsThen))
-          → Answered (record { number = u.number; place = u.place; matches = 0; opened = 0 }) openedLast resultsLast
+          → Answered (record { number = (number u.fault); place = u.place; matches = 0; opened = 0 }) openedLast resultsLast
       unfolding Reaches
       search_stopped {u} is {openedLast} {resultsLast} cleared =
           answered_refused u openedLast resultsLast (cleared.0 ∙ ap zeros (long ∙ first_long)) (cleared.1 ∙ ap zeros (wide ∙ first_wide))
-          (told (Stopped u) is)
+          (told (Err u) is)

@@ -1,5 +1,9 @@
 -- One step of the loop over the entries of an index block: an entry's block is passed, refused, or opened and walked down from.
 -- Assumes nothing.
+use Rattle.std.specs.Prelude.{Some, None, Result, Ok, Err}
+use Rattle.std.specs.Prelude.{Option as Given}
+use Rattle.outcome.specs.Fault.{number, said}
+use Rattle.items.specs.declared.Step.{Step}
 use mathlib.Core.Path.{◌≡◌, refl, sym, ap, ap₂, ◌∙◌, subst}
 use mathlib.Core.Bool.{Bool, true, false, cond}
 use mathlib.Core.List.{List, [], ◌∷◌, ◌++◌}
@@ -16,30 +20,31 @@ use Rattle.framing.specs.declared.Frame.{Frame}
 use Rattle.payload.specs.Payload.{Entry}
 use Rattle.query.specs.Opening.{may_match}
 use Rattle.search.specs.declared.opening.Named.{Named}
-use Rattle.search.specs.declared.opening.OpenOutcome.{OpenOutcome}
-use Rattle.search.specs.declared.opening.OpenOutcome.TheVariants.{Answer as Sound, Refused as NoBlock}
 use Rattle.search.specs.declared.child.Child.{Child}
-use Rattle.search.specs.declared.child.ChildOutcome.{ChildOutcome}
-use Rattle.search.specs.declared.child.ChildOutcome.TheVariants.{Answer as Next}
 use Rattle.search.specs.declared.walk.Progress.{Progress}
-use Rattle.search.specs.declared.walk.WalkOutcome.{WalkOutcome}
-use Rattle.search.specs.declared.walk.WalkOutcome.TheVariants.{Answer as Going, Refused as Stopped}
 use Rattle.search.specs.Search.{Walked, with_opened, next_key, child_named, open_block, walk_of}
-use Rattle.search.specs.Steps.{opening_said, frame_of, bound_of, admitted, ChildWithin, ChildStays, IsChild, ChildSaid}
+use Rattle.search.specs.Steps.{frame_of, bound_of, admitted, ChildWithin, ChildStays, IsChild, ChildSaid}
 use Rattle.search.specs.Steps.{HasRoom, StaysWithin, WalkAsks, ListsHold, Reaches, WalkSaid}
 use Rattle.search.proofs.OpeningLaws.{IsOpened, said⇒IsOpened, said⇒refused}
 use Rattle.search.proofs.WalkLaws.{down_from, through_next, walk_said}
 use Rattle.search.proofs.OnwardLaws.{Walking, places, room, Gives, Entries, Reads, Said, Led, Onward}
 
 -- what is known of an entry that was read
-pub told_within : {file : List ℕ} {f : Frame} {at : ℕ} {o : ChildOutcome} {c : Child} {next : ℕ} → o ≡ Next c next → ChildStays file f at o
-    → ChildWithin file f at c next
+pub told_within : {file : List ℕ} {f : Frame} {at : ℕ} {o : Given (Step Child)} {step : Step Child} → o ≡ Some step → ChildStays file f at o
+    → ChildWithin file f at step.item step.next
 unfolding ChildStays
 told_within {file} {f} {at} told stays = subst (ChildStays file f at) told stays
 
 -- an entry was read: its block, and where the next entry begins
 module _ {w : Walking} {opened_now resultsNow : List ℕ} {at : ℕ} {p : Progress} (on : Onward w opened_now resultsNow at p)
-    {o : ChildOutcome} (read : Reads w at o) {c : Child} {next : ℕ} (told : o ≡ Next c next) (stays : ChildStays w.file w.frame at o) where
+    {o : Given (Step Child)} (read : Reads w at o) {step : Step Child} (told : o ≡ Some step) (stays : ChildStays w.file w.frame at o) where
+  -- its block, and where the next entry begins
+  abbrev c : Child
+  c = step.item
+
+  abbrev next : ℕ
+  next = step.next
+
   within : ChildWithin w.file w.frame at c next
   within = told_within told stays
 
@@ -83,7 +88,7 @@ module _ {w : Walking} {opened_now resultsNow : List ℕ} {at : ℕ} {p : Progre
           }
 
       go : Led w opened_now resultsNow at p all s → AtEntry all s
-      go l = there l (subst (λ (r : ChildOutcome). ChildSaid w.file w.frame w.above r l.left) told (read l.left l.entries))
+      go l = there l (subst (λ (r : Given (Step Child)). ChildSaid w.file w.frame w.above r l.left) told (read l.left l.entries))
 
   -- its bounds admit no match
   pub onward_passed : {a : Bool} → a ≡ admitted w.file w.query c → a ≡ false → Onward w opened_now resultsNow next p
@@ -119,27 +124,27 @@ module _ {w : Walking} {opened_now resultsNow : List ℕ} {at : ℕ} {p : Progre
       ∙ bind_refused (Down x.found) (Gives w x.after) number place e
 
   -- what the opening says, and the opened list with the block's offset
-  module _ {a : Bool} (tested : a ≡ admitted w.file w.query c) (yes : a ≡ true) {opening : OpenOutcome} {list : List ℕ}
-      (said : (s : Walked) → p.used ≡ length s.opened → opening_said opening ≡ frame_of (open_block w.file (length opened_now) w.from c.named s))
+  module _ {a : Bool} (tested : a ≡ admitted w.file w.query c) (yes : a ≡ true) {opening : Result Frame Refusal} {list : List ℕ}
+      (tells : (s : Walked) → p.used ≡ length s.opened → said opening ≡ frame_of (open_block w.file (length opened_now) w.from c.named s))
       (stored : list ≡ with_number opened_now p.used c.named.offset) where
     -- it is refused
-    pub onward_unopened : {r : Refusal} {openedThen resultsThen : List ℕ} → opening ≡ NoBlock r → Said w (Stopped r) openedThen resultsThen
-    unfolding opening_said down_from Reaches StaysWithin
+    pub onward_unopened : {r : Refusal} {openedThen resultsThen : List ℕ} → opening ≡ Err r → Said w (Err r) openedThen resultsThen
+    unfolding said down_from Reaches StaysWithin
     onward_unopened {r} is = walk_said on.asks on.index tt (λ all s row h. go all s (at_entry all s row h))
       where
-        go : (all : List Entry) (s : Walked) → AtEntry all s → Gives w all s ≡ refused r.number r.place
+        go : (all : List Entry) (s : Walked) → AtEntry all s → Gives w all s ≡ refused (number r.fault) r.place
         go all s x =
-            down_refused (sym tested ∙ yes) all s x r.number r.place
-            (bind_refused (open_block w.file (places w) w.from c.named x.found) _ r.number r.place
+            down_refused (sym tested ∙ yes) all s x (number r.fault) r.place
+            (bind_refused (open_block w.file (places w) w.from c.named x.found) _ (number r.fault) r.place
             (ap (λ (k : ℕ). open_block w.file k w.from c.named x.found) (sym on.long)
-            ∙ said⇒refused w.file (length opened_now) w.from c.named r.number r.place x.found
-            (sym (ap opening_said is) ∙ said x.found x.held.many)))
+            ∙ said⇒refused w.file (length opened_now) w.from c.named (number r.fault) r.place x.found
+            (sym (ap said is) ∙ tells x.found x.held.many)))
 
     -- it is opened
-    module _ {g : Frame} (is : opening ≡ Sound g) where
+    module _ {g : Frame} (is : opening ≡ Ok g) where
       is_opened_lem : IsOpened w.file (length opened_now) w.from c.named p.used g
-      unfolding opening_said
-      is_opened_lem = said⇒IsOpened w.file (length opened_now) w.from c.named p.used g (λ s many. sym (ap opening_said is) ∙ said s many)
+      unfolding said
+      is_opened_lem = said⇒IsOpened w.file (length opened_now) w.from c.named p.used g (λ s many. sym (ap said is) ∙ tells s many)
 
       list_long : length list ≡ length opened_now
       list_long = ap length stored ∙ length_with_number opened_now p.used c.named.offset
@@ -200,7 +205,7 @@ module _ {w : Walking} {opened_now resultsNow : List ℕ} {at : ℕ} {p : Progre
           }
 
       -- what the walk down from it says
-      module _ {r : WalkOutcome} {openedThen resultsThen : List ℕ}
+      module _ {r : Result Progress Refusal} {openedThen resultsThen : List ℕ}
           (walked : WalkSaid w.file w.query w.from g c.upper one_more list resultsNow r openedThen resultsThen) where
         down : (t : Walked) → ListsHold opened_now resultsNow p t → Reaches r openedThen resultsThen (Down t)
         unfolding down_from
@@ -220,19 +225,19 @@ module _ {w : Walking} {opened_now resultsNow : List ℕ} {at : ℕ} {p : Progre
             (walked.reaches x.block s x.inside (with_child t h))
 
         -- it stops
-        pub onward_stopped : {u : Refusal} → r ≡ Stopped u → Said w r openedThen resultsThen
+        pub onward_stopped : {u : Refusal} → r ≡ Err u → Said w r openedThen resultsThen
         unfolding Reaches StaysWithin
         onward_stopped {u} stop =
-            subst (λ (k : WalkOutcome). Said w k openedThen resultsThen) (sym stop)
+            subst (λ (k : Result Progress Refusal). Said w k openedThen resultsThen) (sym stop)
             (walk_said on.asks on.index tt (λ all s row h. go all s (at_entry all s row h)))
           where
-            go : (all : List Entry) (s : Walked) → AtEntry all s → Gives w all s ≡ refused u.number u.place
+            go : (all : List Entry) (s : Walked) → AtEntry all s → Gives w all s ≡ refused (number u.fault) u.place
             go all s x =
-                down_refused (sym tested ∙ yes) all s x u.number u.place
-                (subst (λ (k : WalkOutcome). Reaches k openedThen resultsThen (Down x.found)) stop (down x.found x.held))
+                down_refused (sym tested ∙ yes) all s x (number u.fault) u.place
+                (subst (λ (k : Result Progress Refusal). Reaches k openedThen resultsThen (Down x.found)) stop (down x.found x.held))
 
         -- it goes on
-        pub onward_more : {p₁ : Progress} → r ≡ Going p₁ → length openedThen ≡ length list → length resultsThen ≡ length resultsNow
+        pub onward_more : {p₁ : Progress} → r ≡ Ok p₁ → length openedThen ≡ length list → length resultsThen ≡ length resultsNow
             → Onward w openedThen resultsThen next p₁
         unfolding Reaches StaysWithin
         onward_more {p₁} went long wide =
@@ -241,7 +246,7 @@ module _ {w : Walking} {opened_now resultsNow : List ℕ} {at : ℕ} {p : Progre
               asks = on.asks;
               long = long ∙ list_long ∙ on.long;
               wide = wide ∙ on.wide;
-              fits = fit (subst (λ (k : WalkOutcome). StaysWithin k (length list) (length resultsNow)) went walked.stays);
+              fits = fit (subst (λ (k : Result Progress Refusal). StaysWithin k (length list) (length resultsNow)) went walked.stays);
               led = λ all s row h. go all s (at_entry all s row h);
             }
           where
@@ -271,4 +276,4 @@ module _ {w : Walking} {opened_now resultsNow : List ℕ} {at : ℕ} {p : Progre
 
             go : (all : List Entry) (s : Walked) → AtEntry all s → Led w openedThen resultsThen next p₁ all s
             go all s x =
-                led all s x (subst (λ (k : WalkOutcome). Reaches k openedThen resultsThen (Down x.found)) went (down x.found x.held))
+                led all s x (subst (λ (k : Result Progress Refusal). Reaches k openedThen resultsThen (Down x.found)) went (down x.found x.held))

@@ -1,5 +1,12 @@
 -- Laws of the walk down from an index block: it is a way through its entries.
 -- Assumes nothing.
+use Rattle.std.specs.Prelude.{Some, None, Result, Ok, Err}
+use Rattle.std.specs.Prelude.{Option as Given}
+use Rattle.outcome.specs.Fault.{number, said}
+use Rattle.items.specs.declared.Step.{Step}
+use Rattle.outcome.specs.declared.Refusal.{Refusal}
+use Rattle.part.specs.declared.Part.{Part}
+use Rattle.search.specs.declared.child.Child.{Child}
 use mathlib.Core.Path.{◌≡◌, refl, sym, ap, ◌∙◌, subst}
 use mathlib.Core.Bool.{cond}
 use mathlib.Core.List.{List, [], ◌∷◌}
@@ -14,9 +21,7 @@ use Rattle.block.specs.Block.{Block, block_in}
 use Rattle.query.specs.Query.{Query}
 use Rattle.query.specs.Opening.{may_match}
 use Rattle.search.specs.declared.opening.Named.{Named}
-use Rattle.search.specs.declared.child.Bound.{Bound}
 use Rattle.search.specs.declared.walk.Progress.{Progress}
-use Rattle.search.specs.declared.walk.WalkOutcome.{WalkOutcome}
 use Rattle.search.specs.Search.{Walked, with_opened, next_key, child_named, open_block, walk_over, walk_of}
 use Rattle.search.specs.Steps.{bound_of, entries_from, StaysWithin, WalkAsks, ListsHold, Reaches, WalkSaid}
 use Rattle.search.proofs.ChildLaws.{block_frame, block_entries_lem}
@@ -63,8 +68,8 @@ module _ (file : List ℕ) (q : Query) (places room from : ℕ) where
       walk_suc f.level b above s index ∙ ap (λ (g : Frame). over g.start (f.level - 1) above b.entries s) (block_frame file f b e index ordinary)
 
 -- what a way through its entries says is what the walk down from an index block says
-pub walk_said : {file : List ℕ} {q : Query} {from : ℕ} {f : Frame} {above : Bound} {p₀ : Progress} {opened₀ results₀ : List ℕ}
-    {r : WalkOutcome} {opened_now resultsNow : List ℕ}
+pub walk_said : {file : List ℕ} {q : Query} {from : ℕ} {f : Frame} {above : Given Part} {p₀ : Progress} {opened₀ results₀ : List ℕ}
+    {r : Result Progress Refusal} {opened_now resultsNow : List ℕ}
     → WalkAsks file f above p₀ (length opened₀) (length results₀) → (f.level ≡ 0 → ⊥) → StaysWithin r (length opened₀) (length results₀)
     → ((all : List Entry) (s : Walked) → entries_from file f (f.body + 1) ≡ answer all → ListsHold opened₀ results₀ p₀ s
     → Reaches r opened_now resultsNow (through file q (length opened₀) (length results₀) from f (bound_of file above) all s))

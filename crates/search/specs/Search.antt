@@ -2,6 +2,9 @@
 use Rattle.std.specs.Prelude.{ℕ, zero, suc, ◌+◌, ◌&&◌, cond, List, [], ◌∷◌, ◌++◌, leb, ltb, eqb, length}
 use Rattle.std.proofs.Math.Option.{Option, none, some}
 use Rattle.outcome.specs.Outcome.{Outcome, answer, ◌>>=◌, ◌>>◌, must, number_of, place_of, count_of, list_of}
+use Rattle.outcome.specs.declared.Fault.TheVariants.{Root, EntryTarget}
+use Rattle.outcome.specs.declared.Refusal.{Refusal}
+use Rattle.outcome.specs.Fault.{number}
 use Rattle.header.specs.Header.{header_of, blocks_from}
 use Rattle.framing.specs.declared.Frame.{Frame}
 use Rattle.framing.specs.Frame.{sound_frame_at}
@@ -39,22 +42,22 @@ next_key (next ∷ after) above = some next.key.bytes
 
 -- the root is an index block, else 17
 unfoldable pub root_named : (root rootsize : ℕ) → Named
-root_named root rootsize = record { offset = root; size = rootsize; least = 1; most = 63; refusal = record { number = 17; place = 0 } }
+root_named root rootsize = record { offset = root; size = rootsize; least = 1; most = 63; refusal = record { fault = Root; place = 0 } }
 
 -- the block of an entry has this level, one less than the index block at `place`, else 19
 unfoldable pub child_named : (place level offset size : ℕ) → Named
-child_named place level offset size = record { offset = offset; size = size; least = level; most = level; refusal = record { number = 19; place = place } }
+child_named place level offset size = record { offset = offset; size = size; least = level; most = level; refusal = record { fault = EntryTarget; place = place } }
 
 -- the block of a sound frame: size and level, then the payload
 unfoldable pub fitting_block : (file : List ℕ) → Named → Frame → Outcome Block
 fitting_block file n f =
-    must (eqb f.size n.size && (leb n.least f.level && leb f.level n.most)) n.refusal.number n.refusal.place >> block_in file f
+    must (eqb f.size n.size && (leb n.least f.level && leb f.level n.most)) (number n.refusal.fault) n.refusal.place >> block_in file f
 
 -- The block that is named, with every test of one block: the offset lies from `from`, where blocks begin, to before the file's end;
 -- number, 13, 10, 14; size and level; payload, 16 or 21.
 unfoldable pub named_block : (file : List ℕ) (from : ℕ) → Named → Outcome Block
 named_block file from n = do
-  must (leb from n.offset && ltb n.offset (length file)) n.refusal.number n.refusal.place
+  must (leb from n.offset && ltb n.offset (length file)) (number n.refusal.fault) n.refusal.place
   f ← sound_frame_at file n.offset
   fitting_block file n f
 
@@ -104,3 +107,7 @@ opened_list places o = list_of (λ s. s.opened) places o
 
 unfoldable pub result_list : ℕ → Outcome Walked → List ℕ
 result_list room o = list_of (λ s. numbers_of s.matches) room o
+
+-- what it answers after this refusal
+unfoldable pub refused_answer : Refusal → Found
+refused_answer r = record { number = number r.fault; place = r.place; matches = 0; opened = 0 }

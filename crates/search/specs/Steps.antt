@@ -1,34 +1,27 @@
 -- What the steps of the code say, in the terms of the definitions.
 use Rattle.std.specs.Prelude.{ℕ, ◌+◌, ◌-◌, ◌^◌, ◌≤◌, ◌<◌, ◌≡◌, Bool, List, [], ◌∷◌, length, take}
-use Rattle.std.proofs.Math.Option.{Option}
+use Rattle.std.specs.Prelude.{Some, None, Result, Ok, Err}
+use Rattle.std.specs.Prelude.{Option as Given}
+use Rattle.std.proofs.Math.Option.{Option, none, some}
 use Rattle.output_list.specs.OutputList.{padded, zeros}
 use Rattle.outcome.specs.Outcome.{Outcome, answer, refused, ◌>>=◌}
+use Rattle.outcome.specs.declared.Refusal.{Refusal}
+use Rattle.outcome.specs.Fault.{number}
 use Rattle.items.specs.Items.{items_from}
+use Rattle.items.specs.declared.Step.{Step}
 use Rattle.part.specs.declared.Part.{Part}
 use Rattle.part.specs.Part.{part}
 use Rattle.framing.specs.declared.Frame.{Frame}
 use Rattle.payload.specs.Payload.{Entry, entry_at}
 use Rattle.block.specs.Block.{Block, block_in}
-use Rattle.query.specs.Query.{Query, given}
+use Rattle.query.specs.Query.{Query}
 use Rattle.query.specs.Opening.{may_match}
 use Rattle.matching.specs.ResultList.{room_for, numbers_of}
-use Rattle.search.specs.declared.opening.OpenOutcome.{OpenOutcome}
-use Rattle.search.specs.declared.opening.OpenOutcome.TheVariants.{Answer as Sound, Refused as NoBlock}
-use Rattle.search.specs.declared.child.Bound.{Bound}
 use Rattle.search.specs.declared.child.Child.{Child}
-use Rattle.search.specs.declared.child.ChildOutcome.{ChildOutcome}
-use Rattle.search.specs.declared.child.ChildOutcome.TheVariants.{Answer as Next, None as NoEntry}
 use Rattle.search.specs.declared.walk.Progress.{Progress}
-use Rattle.search.specs.declared.walk.WalkOutcome.{WalkOutcome}
-use Rattle.search.specs.declared.walk.WalkOutcome.TheVariants.{Answer as Going, Refused as Stopped}
 use Rattle.search.specs.Search.{Walked, next_key, child_named, walk_of}
 
 -- ---- openings
-
--- what an opening says: the frame of a block that passed every test, or the refusal
-unfoldable pub opening_said : OpenOutcome → Outcome Frame
-opening_said (Sound f) = answer f
-opening_said (NoBlock r) = refused r.number r.place
 
 -- the frame of a block
 unfoldable pub frame_of : Outcome Block → Outcome Frame
@@ -46,8 +39,14 @@ unfoldable pub PartWithin : List ℕ → Part → Type 0
 PartWithin file p = p.offset + p.length ≤ length file
 
 -- an upper bound that is a part of the file, or none
-unfoldable pub bound_of : List ℕ → Bound → Option (List ℕ)
-bound_of file b = given b.given (part file b.key.offset b.key.length)
+unfoldable pub bound_of : List ℕ → Given Part → Option (List ℕ)
+bound_of file None = none
+bound_of file (Some key) = some (part file key.offset key.length)
+
+-- it lies within the file
+unfoldable pub BoundWithin : List ℕ → Given Part → Type 0
+BoundWithin file None = Unit {0}
+BoundWithin file (Some key) = PartWithin file key
 
 -- the bounds of an entry's block admit a match
 unfoldable pub admitted : List ℕ → Query → Child → Bool
@@ -58,10 +57,10 @@ unfoldable pub entries_from : List ℕ → Frame → (at : ℕ) → Outcome (Lis
 entries_from file f at = items_from (entry_at f.start (take f.end file)) f.end (f.end - at) at
 
 -- an index block lies with its upper bound within the file
-pub record IndexWithin (file : List ℕ) (f : Frame) (above : Bound) : Type 0 where
+pub record IndexWithin (file : List ℕ) (f : Frame) (above : Given Part) : Type 0 where
   pub index : 0 < f.level
   pub end : f.end ≤ length file
-  pub bound : PartWithin file above.key
+  pub bound : BoundWithin file above
 
 module _ (file : List ℕ) (f : Frame) where
   -- the block of the entry at an offset: it is named as a block one level below, its bounds lie within the file, and the next entry begins
@@ -69,17 +68,17 @@ module _ (file : List ℕ) (f : Frame) where
   pub record ChildWithin (at : ℕ) (c : Child) (next : ℕ) : Type 0 where
     pub named : c.named ≡ child_named f.start (f.level - 1) c.named.offset c.named.size
     pub key : PartWithin file c.key
-    pub upper : PartWithin file c.upper.key
+    pub upper : BoundWithin file c.upper
     pub forward : at < next
     pub before : next ≤ f.end
 
   -- reading the entry at an offset stays within the file
-  unfoldable pub ChildStays : (at : ℕ) → ChildOutcome → Type 0
-  ChildStays at (Next c next) = ChildWithin at c next
-  ChildStays at NoEntry = Unit {0}
+  unfoldable pub ChildStays : (at : ℕ) → Given (Step Child) → Type 0
+  ChildStays at (Some e) = ChildWithin at e.item e.next
+  ChildStays at None = Unit {0}
 
   -- these entries are one, whose block is `c`, and those from `next` on; `above` is the index block's upper bound
-  pub record IsChild (above : Bound) (c : Child) (next : ℕ) (es : List Entry) : Type 0 where
+  pub record IsChild (above : Given Part) (c : Child) (next : ℕ) (es : List Entry) : Type 0 where
     pub entry : Entry
     pub after : List Entry
     pub split : es ≡ entry ∷ after
@@ -90,9 +89,9 @@ module _ (file : List ℕ) (f : Frame) where
     pub size : c.named.size ≡ entry.size
 
   -- what reading the next of these entries says
-  unfoldable pub ChildSaid : (above : Bound) → ChildOutcome → List Entry → Type 0
-  ChildSaid above (Next c next) es = IsChild above c next es
-  ChildSaid above NoEntry es = es ≡ []
+  unfoldable pub ChildSaid : (above : Given Part) → Given (Step Child) → List Entry → Type 0
+  ChildSaid above (Some e) es = IsChild above e.item e.next es
+  ChildSaid above None es = es ≡ []
 
 -- ---- the walk
 
@@ -102,17 +101,17 @@ pub record HasRoom (p : Progress) (places room : ℕ) : Type 0 where
   pub found : room_for p.found ≤ room
 
 -- an answer of the walk stays within the lists
-unfoldable pub StaysWithin : WalkOutcome → (places room : ℕ) → Type 0
-StaysWithin (Going p) places room = HasRoom p places room
-StaysWithin (Stopped r) places room = Unit {0}
+unfoldable pub StaysWithin : Result Progress Refusal → (places room : ℕ) → Type 0
+StaysWithin (Ok p) places room = HasRoom p places room
+StaysWithin (Err r) places room = Unit {0}
 
 -- what the walk down from a block asks: the block is ordinary and lies with its upper bound within a file that is not too long, and there
 -- is room for what was opened and found
-pub record WalkAsks (file : List ℕ) (f : Frame) (above : Bound) (p : Progress) (places room : ℕ) : Type 0 where
+pub record WalkAsks (file : List ℕ) (f : Frame) (above : Given Part) (p : Progress) (places room : ℕ) : Type 0 where
   pub small : length file ≤ 2 ^ 30
   pub frame : FrameWithin file f
   pub ordinary : f.level ≤ 63
-  pub bound : PartWithin file above.key
+  pub bound : BoundWithin file above
   pub fits : HasRoom p places room
 
 -- the same for a data block
@@ -130,13 +129,13 @@ pub record ListsHold (opened_list results : List ℕ) (p : Progress) (s : Walked
   pub matched : p.found ≡ length s.matches
 
 -- what an answer says: the walk goes on with what was opened and found, which the lists hold, or it stops with a refusal
-unfoldable pub Reaches : WalkOutcome → (opened_list results : List ℕ) → Outcome Walked → Type 0
-Reaches (Going p) opened_list results o = (s : Walked) × (o ≡ answer s) × ListsHold opened_list results p s
-Reaches (Stopped r) opened_list results o = o ≡ refused r.number r.place
+unfoldable pub Reaches : Result Progress Refusal → (opened_list results : List ℕ) → Outcome Walked → Type 0
+Reaches (Ok p) opened_list results o = (s : Walked) × (o ≡ answer s) × ListsHold opened_list results p s
+Reaches (Err r) opened_list results o = o ≡ refused (number r.fault) r.place
 
 -- what the walk down from a block says, with the lists as they were and as they are then
-pub record WalkSaid (file : List ℕ) (q : Query) (from : ℕ) (f : Frame) (above : Bound) (p : Progress) (opened₀ results₀ : List ℕ)
-    (r : WalkOutcome) (opened_now resultsNow : List ℕ) : Type 0 where
+pub record WalkSaid (file : List ℕ) (q : Query) (from : ℕ) (f : Frame) (above : Given Part) (p : Progress) (opened₀ results₀ : List ℕ)
+    (r : Result Progress Refusal) (opened_now resultsNow : List ℕ) : Type 0 where
   pub stays : StaysWithin r (length opened₀) (length results₀)
   pub reaches : (b : Block) (s : Walked) → block_in file f ≡ answer b → ListsHold opened₀ results₀ p s
       → Reaches r opened_now resultsNow (walk_of file q (length opened₀) (length results₀) from f.level b (bound_of file above) s)

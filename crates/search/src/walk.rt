@@ -1,13 +1,16 @@
 // The walk down from an opened block.
-ghost use Rattle.std.specs.Prelude.{ℕ, ◌≤◌, List, length};
-ghost use Rattle.query.specs.Query.{query_of};
+ghost use Rattle.std.specs.Prelude.{ℕ, ◌≤◌, List, Option, length};
+ghost use Rattle.part.specs.declared.Part.{Part};
+ghost use Rattle.query.specs.Asked.{asked};
 ghost use Rattle.search.specs.Steps as steps;
 
-use crate::child::{Bound, ChildOutcome, admits, child_at};
-use crate::opening::{OpenOutcome, open_block};
+use crate::child::{admits, child_at};
+use crate::opening::open_block;
 use framing::Frame;
 use matching::{collect_records, has_room};
-use outcome::Refusal;
+use outcome::{Fault, Refusal};
+use part::Part;
+use query::Query;
 
 // How many blocks were opened and how many matches were found.
 #[derive(Clone, Copy)]
@@ -16,106 +19,57 @@ pub struct Progress {
     pub found: usize,
 }
 
-#[derive(Clone, Copy)]
-pub enum WalkOutcome {
-    Answer(Progress),
-    Refused(Refusal),
-}
-
 // Walks down from an opened block with the upper bound `above`, after what was opened and found before. It calls itself on each block that
 // it opens, one level below.
 pub fn walk(
     file: &[u8],
     from: usize,
     f: Frame,
-    above: Bound,
-    start: &[u8],
-    stop_given: bool,
-    stop: &[u8],
-    prefix: &[u8],
+    above: Option<Part>,
+    query: Query<'_>,
     opened: &mut [u64],
     results: &mut [u64],
     p: Progress,
-) -> WalkOutcome
+) -> Result<Progress, Refusal>
     requires { steps.WalkAsks file.now f above p (length opened.old) (length results.old) }
-    ensures { steps.WalkSaid file.now (query_of start.now stop_given stop.now prefix.now)
+    ensures { steps.WalkSaid file.now (asked query.entry)
         from f above p opened.old results.old result opened.new results.new }
 {
     if f.level == 0 {
-        return find(file, f, start, stop_given, stop, prefix, results, p);
+        return find(file, f, query, results, p);
     }
     let mut at = f.body + 1;
     let mut so_far = p;
-    loop {
-        let entry = child_at(file, f, at, above);
-        let ChildOutcome::Answer { child, next } = entry else {
-            return WalkOutcome::Answer(so_far);
-        };
-        at = next;
-        if !admits(file, child, start, stop_given, stop, prefix) {
-            continue;
+    while let Some(entry) = child_at(file, f, at, above) {
+        let child = entry.item;
+        at = entry.next;
+        if admits(file, child, query) {
+            let c = open_block(file, from, child.named, opened, so_far.used)?;
+            so_far.used += 1;
+            so_far = walk(file, from, c, child.upper, query, opened, results, so_far)?;
         }
-        let opening = open_block(file, from, child.named, opened, so_far.used);
-        let c = match opening {
-            OpenOutcome::Answer(c) => c,
-            OpenOutcome::Refused(r) => return WalkOutcome::Refused(r),
-        };
-        so_far.used += 1;
-        let reached = walk(
-            file,
-            from,
-            c,
-            child.upper,
-            start,
-            stop_given,
-            stop,
-            prefix,
-            opened,
-            results,
-            so_far,
-        );
-        let WalkOutcome::Answer(p) = reached else {
-            return reached;
-        };
-        so_far = p;
     }
+    Ok(so_far)
 }
 
 // The same for a data block: puts its matching records on the result list; 27 where a match finds no room left.
 fn find(
     file: &[u8],
     f: Frame,
-    start: &[u8],
-    stop_given: bool,
-    stop: &[u8],
-    prefix: &[u8],
+    query: Query<'_>,
     results: &mut [u64],
     p: Progress,
-) -> WalkOutcome
+) -> Result<Progress, Refusal>
     requires { steps.FindAsks file.now f p (length results.old) }
-    ensures { (opened_list : List ℕ) (from : ℕ) (above : Bound) → p.used ≤ length opened_list
-        → steps.WalkSaid file.now (query_of start.now stop_given stop.now prefix.now)
+    ensures { (opened_list : List ℕ) (from : ℕ) (above : Option Part) → p.used ≤ length opened_list
+        → steps.WalkSaid file.now (asked query.entry)
         from f above p opened_list results.old result opened_list results.new }
 {
-    let first = f.body + 1;
-    let end = f.end;
-    let found = collect_records(
-        &file[..end],
-        first,
-        start,
-        stop_given,
-        stop,
-        prefix,
-        results,
-        p.found,
-    );
+    let found = collect_records(&file[..f.end], f.body + 1, query, results, p.found);
     if !has_room(results, found) {
-        return WalkOutcome::Refused(Refusal {
-            number: 27,
-            place: 0,
-        });
+        return Err(Fault::ResultRoom.into());
     }
-    WalkOutcome::Answer(Progress {
+    Ok(Progress {
         used: p.used,
         found,
     })

@@ -1,2 +1,1 @@
--- Laws of numbers below 0, for the sums that are printed.
-mod SignedLaws
+-- The driver has no laws of its own.

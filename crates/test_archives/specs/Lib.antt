@@ -1,2 +1,1 @@
--- What the contracts of the driver cite.
-pub mod Onward
+-- The driver has no definitions of its own.

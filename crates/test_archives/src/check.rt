@@ -15,7 +15,7 @@ fn answer(out: &mut impl Write, file: &[u8], work: &mut [u64]) -> io::Result<()>
     print::list(out, " work", work)
 }
 
-pub fn run(out: &mut impl Write, file: &[u8], case: Case) -> io::Result<()> {
+pub fn run(out: &mut impl Write, file: &[u8], case: Case<'_>) -> io::Result<()> {
     let mut work = [RUBBISH; 128];
     let places = room(case.other_places, &work);
     print::number(out, " check ", places as u64)?;

@@ -18,8 +18,7 @@ fn answer<'a>(
     print::number(out, " place ", answer.place)?;
     print::number(out, " which ", answer.which)?;
     print::number(out, " differences ", answer.differences)?;
-    let sum = answer.sum;
-    print::signed(out, " sum ", sum)?;
+    write!(out, " sum {}", answer.sum)?;
     print::list(out, " list", list)?;
     print::list(out, " work", work)
 }
@@ -29,7 +28,7 @@ pub fn run<'a>(
     first: &'a [u8],
     second: &'a [u8],
     name: &[u8],
-    case: Case,
+    case: Case<'_>,
 ) -> io::Result<()> {
     let mut work = [RUBBISH; 128];
     let mut list = [RUBBISH; 128];

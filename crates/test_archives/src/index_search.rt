@@ -1,5 +1,5 @@
 // Call 3: the index search.
-use crate::cases::{Case, string};
+use crate::cases::Case;
 use crate::lent::{RUBBISH, room};
 use crate::print;
 use std::io;
@@ -9,20 +9,12 @@ use std::io::Write;
 fn answer(
     out: &mut impl Write,
     file: &[u8],
-    stored: &[u8],
-    case: Case,
+    case: Case<'_>,
     opened: &mut [u64],
     results: &mut [u64],
 ) -> io::Result<()> {
-    let start_part = case.start;
-    let stop_part = case.stop;
-    let prefix_part = case.prefix;
-    let start = string(stored, start_part);
-    let stop = string(stored, stop_part);
-    let prefix = string(stored, prefix_part);
-    let stop_given = case.stop_given;
-    let answer = search::search(file, start, stop_given, stop, prefix, opened, results);
-    print::query(out, start, stop_given, stop, prefix)?;
+    let answer = search::search(file, case.query, opened, results);
+    print::query(out, case.query)?;
     print::number(out, ": number ", answer.number)?;
     print::number(out, " place ", answer.place)?;
     print::number(out, " matches ", answer.matches)?;
@@ -31,7 +23,7 @@ fn answer(
     print::list(out, " results", results)
 }
 
-pub fn run(out: &mut impl Write, file: &[u8], stored: &[u8], case: Case) -> io::Result<()> {
+pub fn run(out: &mut impl Write, file: &[u8], case: Case<'_>) -> io::Result<()> {
     let mut opened = [RUBBISH; 128];
     let mut results = [RUBBISH; 128];
     let opened_places = room(case.other_places, &opened);
@@ -40,7 +32,6 @@ pub fn run(out: &mut impl Write, file: &[u8], stored: &[u8], case: Case) -> io::
     answer(
         out,
         file,
-        stored,
         case,
         &mut opened[..opened_places],
         &mut results[..result_places],

@@ -1,31 +1,20 @@
 // The lists and outputs that the calls are lent.
 ghost use Rattle.std.specs.Prelude.{min, length, take, ◌≡◌, ◌≤◌};
 
-// What stands in each place before a call, so that a place that isn't cleared shows.
+// What stands in each place of a list, and in each byte of an output, before a call, so that a place that isn't cleared shows.
 pub const RUBBISH: u64 = 0x5a5a5a5a5a5a5a5a;
 
-// How many places of `list` are lent where a case asks for `places`. No case of the corpus asks for more than there are.
-pub fn room(places: u64, list: &[u64]) -> usize
-    ensures value { result ≡ min places (length list.now) }
-    ensures in_bounds { result ≤ length list.now }
-    ensures prefix_len { result ≡ length (take result list.now) }
-{
-    if places < list.len() as u64 {
-        places as usize
-    } else {
-        list.len()
-    }
-}
+pub const RUBBISH_BYTE: u8 = 0x5a;
 
-// How many bytes of `output` are lent where a case asks for `places`.
-pub fn output_room(places: u64, output: &[u8]) -> usize
-    ensures value { result ≡ min places (length output.now) }
-    ensures in_bounds { result ≤ length output.now }
-    ensures prefix_len { result ≡ length (take result output.now) }
+// How many places are lent where a case asks for `places`. No case of the corpus asks for more than there are.
+pub fn room<T>(places: u64, lent: &[T]) -> usize
+    ensures value { result ≡ min places (length lent.now) }
+    ensures in_bounds { result ≤ length lent.now }
+    ensures prefix_len { result ≡ length (take result lent.now) }
 {
-    if places < output.len() as u64 {
+    if places < lent.len() as u64 {
         places as usize
     } else {
-        output.len()
+        lent.len()
     }
 }

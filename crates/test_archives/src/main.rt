@@ -19,7 +19,7 @@ mod steps;
 mod store_part;
 mod write;
 
-use cases::{Case, CaseOutcome, case_at, string};
+use cases::{Case, case};
 use std::fs::File;
 use std::io;
 use std::io::{BufWriter, Read, Write};
@@ -71,11 +71,9 @@ fn answer_pair(
     rt: &(impl Files + Alloc + Eprint),
     out: &mut impl Write,
     first: &[u8],
-    stored: &[u8],
-    case: Case,
+    case: Case<'_>,
 ) -> io::Result<()> {
-    let name_part = case.start;
-    let name = string(stored, name_part);
+    let name = case.query.start;
     let mut space = [0u8; MOST];
     let Some(n) = contents(rt, name, &mut space)? else {
         return Ok(());
@@ -92,22 +90,19 @@ fn answer(
     rt: &(impl Files + Alloc + Eprint),
     out: &mut impl Write,
     file: &[u8],
-    stored: &[u8],
-    case: Case,
+    case: Case<'_>,
 ) -> io::Result<()> {
-    let name = case.name;
-    out.write_all(string(stored, name))?;
-    let call = case.call;
-    match call {
-        1 => read::run(out, file, stored, case)?,
+    out.write_all(case.name)?;
+    match case.call {
+        1 => read::run(out, file, case)?,
         2 => check::run(out, file, case)?,
-        3 => index_search::run(out, file, stored, case)?,
+        3 => index_search::run(out, file, case)?,
         4 => record_part::run(out, file, case)?,
-        5 => write::run(out, file, stored, case)?,
+        5 => write::run(out, file, case)?,
         6 => import_sim::run(out, file, case)?,
         7 => store_part::run(out, file, case)?,
-        8 | 9 => answer_pair(rt, out, file, stored, case)?,
-        _ => print::number(out, " unknown call ", call as u64)?,
+        8 | 9 => answer_pair(rt, out, file, case)?,
+        call => print::number(out, " unknown call ", call as u64)?,
     }
     writeln!(out)
 }
@@ -117,14 +112,12 @@ fn answer_any(
     rt: &(impl Files + Alloc + Eprint),
     out: &mut impl Write,
     file: &[u8],
-    stored: &[u8],
-    case: Case,
+    case: Case<'_>,
 ) -> io::Result<()> {
     if case.call == 10 {
-        let name = case.name;
-        session_steps::run(out, file, string(stored, name))
+        session_steps::run(out, file, case.name)
     } else {
-        answer(rt, out, file, stored, case)
+        answer(rt, out, file, case)
     }
 }
 
@@ -132,13 +125,11 @@ fn answer_any(
 fn run_case(
     rt: &(impl Files + Alloc + Eprint),
     out: &mut impl Write,
-    stored: &[u8],
-    case: Case,
+    case: Case<'_>,
 ) -> io::Result<()> {
-    let name = case.name;
     let mut space = [0u8; MOST];
-    match contents(rt, string(stored, name), &mut space)? {
-        Some(n) => answer_any(rt, out, &space[..n], stored, case),
+    match contents(rt, case.name, &mut space)? {
+        Some(n) => answer_any(rt, out, &space[..n], case),
         None => Ok(()),
     }
 }
@@ -149,19 +140,14 @@ fn run_all(
     out: &mut impl Write,
     stored: &[u8],
 ) -> io::Result<()> {
-    let mut at = 0;
-    while at < stored.len() {
-        let parsed = case_at(stored, at);
-        match parsed {
-            CaseOutcome::Cut => {
-                print::number(out, "cut case at ", at as u64)?;
-                return writeln!(out);
-            },
-            CaseOutcome::Answer(case) => {
-                run_case(rt, out, stored, case)?;
-                at = case.next;
-            },
-        }
+    let mut rest = stored;
+    while !rest.is_empty() {
+        let Some((next, after)) = case(rest) else {
+            let at = stored.len() - rest.len();
+            return writeln!(out, "cut case at {at}");
+        };
+        run_case(rt, out, next)?;
+        rest = after;
     }
     Ok(())
 }

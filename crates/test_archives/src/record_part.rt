@@ -5,7 +5,7 @@ use record::{is_within, record};
 use std::io;
 use std::io::Write;
 
-pub fn run(out: &mut impl Write, file: &[u8], case: Case) -> io::Result<()> {
+pub fn run(out: &mut impl Write, file: &[u8], case: Case<'_>) -> io::Result<()> {
     let offset = case.offset;
     let length = case.length;
     print::number(out, " record ", offset)?;

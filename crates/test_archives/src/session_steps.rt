@@ -1,9 +1,7 @@
 // Call 10: the steps of a session. The file of the case holds them.
-use crate::cases::string;
-use crate::lent::output_room;
+use crate::lent::{RUBBISH_BYTE, room};
 use crate::print;
-use crate::steps::{Step, StepOutcome, step_at};
-use crate::write::RUBBISH;
+use crate::steps::{Step, step};
 use session_value::{Session, Stepped, afresh, answered};
 use std::io;
 use std::io::Write;
@@ -14,15 +12,11 @@ const AFRESH: u8 = 1;
 const GROW: u8 = 6;
 
 // How many bytes of the output are lent from a step on.
-fn room_from(step: Step, room: u64) -> u64 {
-    let kind = step.kind;
-    if kind == AFRESH {
-        return step.first;
+fn room_from(step: Step<'_>, room: u64) -> u64 {
+    match step.kind {
+        AFRESH | GROW => step.first,
+        _ => room,
     }
-    if kind == GROW {
-        return step.first;
-    }
-    room
 }
 
 // Clears the bytes of the output by which it gets longer.
@@ -35,14 +29,11 @@ fn clear_more(output: &mut [u8], from: usize, to: usize) {
 }
 
 // Takes a step with all of `output` lent.
-fn take(stored: &[u8], step: Step, session: Session, output: &mut [u8]) -> Stepped {
-    let bytes_part = step.bytes;
-    let bytes = string(stored, bytes_part);
-    let kind = step.kind;
-    match kind {
+fn take(step: Step<'_>, session: Session, output: &mut [u8]) -> Stepped {
+    match step.kind {
         1 => answered(0, session::start_afresh(output)),
-        2 => session::begin(session, bytes, step.first, step.second, output),
-        3 => session::add(session, bytes, output),
+        2 => session::begin(session, step.bytes, step.first, step.second, output),
+        3 => session::add(session, step.bytes, output),
         4 => session::close_block(session, output),
         5 => session::finish(session, output),
         _ => answered(0, session),
@@ -77,14 +68,13 @@ fn print_answer(out: &mut impl Write, answer: Stepped, output: &[u8]) -> io::Res
 // Takes the step at a position with all of `output` lent, prints its line unless the output only grows, and answers the session after it.
 fn run_step(
     out: &mut impl Write,
-    stored: &[u8],
     name: &[u8],
     at: usize,
-    step: Step,
+    step: Step<'_>,
     session: Session,
     output: &mut [u8],
 ) -> io::Result<Session> {
-    let answer = take(stored, step, session, output);
+    let answer = take(step, session, output);
     let kind = step.kind;
     if kind != GROW {
         out.write_all(name)?;
@@ -98,45 +88,39 @@ fn run_step(
 // Lends the step so much of the output as it asks for, or as the step before was lent. Bytes by which the output gets longer are zeros.
 fn lend_step(
     out: &mut impl Write,
-    stored: &[u8],
     name: &[u8],
     at: usize,
-    step: Step,
+    step: Step<'_>,
     session: Session,
-    room: u64,
+    places: u64,
     output: &mut [u8],
 ) -> io::Result<Session> {
-    let more = room_from(step, room);
-    let from = output_room(room, output);
-    let to = output_room(more, output);
+    let more = room_from(step, places);
+    let from = room(places, output);
+    let to = room(more, output);
     clear_more(output, from, to);
-    let lent = output_room(more, output);
-    run_step(out, stored, name, at, step, session, &mut output[..lent])
+    let lent = room(more, output);
+    run_step(out, name, at, step, session, &mut output[..lent])
 }
 
 // Takes the steps one after the other.
 fn run_all(out: &mut impl Write, stored: &[u8], name: &[u8], output: &mut [u8]) -> io::Result<()> {
     let mut session = afresh();
-    let mut room = 0;
-    let mut at = 0;
-    while at < stored.len() {
-        let parsed = step_at(stored, at);
-        match parsed {
-            StepOutcome::Cut => {
-                print::number(out, "cut step at ", at as u64)?;
-                return writeln!(out);
-            },
-            StepOutcome::Answer(step) => {
-                session = lend_step(out, stored, name, at, step, session, room, output)?;
-                room = room_from(step, room);
-                at = step.next;
-            },
-        }
+    let mut places = 0;
+    let mut rest = stored;
+    while !rest.is_empty() {
+        let at = stored.len() - rest.len();
+        let Some((next, after)) = step(rest) else {
+            return writeln!(out, "cut step at {at}");
+        };
+        session = lend_step(out, name, at, next, session, places, output)?;
+        places = room_from(next, places);
+        rest = after;
     }
     Ok(())
 }
 
 pub fn run(out: &mut impl Write, stored: &[u8], name: &[u8]) -> io::Result<()> {
-    let mut output = [RUBBISH; 65536];
+    let mut output = [RUBBISH_BYTE; 65536];
     run_all(out, stored, name, &mut output)
 }

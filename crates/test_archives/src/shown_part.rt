@@ -11,7 +11,7 @@ pub fn run<'a>(
     first: &'a [u8],
     second: &'a [u8],
     name: &[u8],
-    case: Case,
+    case: Case<'_>,
 ) -> io::Result<()> {
     let which = case.result_places;
     let offset = case.offset;

@@ -1,52 +1,32 @@
 // The steps of a session, one after the other: what stands where is said in cli/reference/README.md.
-ghost use Rattle.std.specs.Prelude.{◌≤◌, length};
-ghost use Rattle.test_archives.specs.Onward.{StepOnward};
+ghost use Rattle.std.specs.Prelude.{IfSome, ◌<◌, length};
 
 use endian::le64_at;
-use part::Part;
 
 #[derive(Clone, Copy)]
-pub struct Step {
+pub struct Step<'a> {
     pub kind: u8,
     // Metadata or record.
-    pub bytes: Part,
+    pub bytes: &'a [u8],
     pub first: u64,
     pub second: u64,
-    // Where the next step begins.
-    pub next: usize,
-}
-
-#[derive(Clone, Copy)]
-pub enum StepOutcome {
-    Answer(Step),
-    // The stored bytes end within the step.
-    Cut,
 }
 
 // How many bytes a step has before its metadata or its record.
 const FIXED: usize = 19;
 
-// The step at a position.
-pub fn step_at(stored: &[u8], at: usize) -> StepOutcome
-    requires { at ≤ length stored.now }
-    ensures { StepOnward at result }
+// The step in front, and what follows it, unless the bytes end within it.
+pub fn step(stored: &[u8]) -> Option<(Step<'_>, &[u8])>
+    ensures { IfSome result (λ r. length r.1.now < length stored.now) }
 {
-    if stored.len() - at < FIXED {
-        return StepOutcome::Cut;
-    }
-    let offset = at + FIXED;
-    let size = le64_at(stored, at + 1) % 65536;
-    if ((stored.len() - offset) as u64) < size {
-        return StepOutcome::Cut;
-    }
-    StepOutcome::Answer(Step {
-        kind: stored[at],
-        bytes: Part {
-            offset,
-            length: size as usize,
-        },
-        first: le64_at(stored, at + 3),
-        second: le64_at(stored, at + 11),
-        next: offset + size as usize,
-    })
+    let (fixed, rest) = stored.split_at_checked(FIXED)?;
+    let size = le64_at(fixed, 1) % 65536;
+    let (bytes, rest) = rest.split_at_checked(size as usize)?;
+    let step = Step {
+        kind: fixed[0],
+        bytes,
+        first: le64_at(fixed, 3),
+        second: le64_at(fixed, 11),
+    };
+    Some((step, rest))
 }

@@ -4,7 +4,7 @@ use crate::print;
 use std::io;
 use std::io::Write;
 
-pub fn run(out: &mut impl Write, file: &[u8], case: Case) -> io::Result<()> {
+pub fn run(out: &mut impl Write, file: &[u8], case: Case<'_>) -> io::Result<()> {
     let i = case.offset;
     print::number(out, " store ", i)?;
     let found = stores::store(file, i);

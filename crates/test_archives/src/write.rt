@@ -1,13 +1,10 @@
 // Call 5: the writer. The file of the case holds the records.
-use crate::cases::{Case, string};
-use crate::lent::output_room;
+use crate::cases::Case;
+use crate::lent::{RUBBISH_BYTE, room};
 use crate::print;
 use std::io;
 use std::io::Write;
 use written::Written;
-
-// What stands in each byte of the output before the call, so that a byte that isn't written shows.
-pub const RUBBISH: u8 = 0x5a;
 
 // Prints the answer, and the hash of the whole output.
 pub fn print_answer(out: &mut impl Write, answer: Written, output: &[u8]) -> io::Result<()> {
@@ -22,12 +19,10 @@ pub fn print_answer(out: &mut impl Write, answer: Written, output: &[u8]) -> io:
 fn answer(
     out: &mut impl Write,
     records: &[u8],
-    stored: &[u8],
-    case: Case,
+    case: Case<'_>,
     output: &mut [u8],
 ) -> io::Result<()> {
-    let metadata_part = case.start;
-    let metadata = string(stored, metadata_part);
+    let metadata = case.query.start;
     let per_block = case.offset;
     let per_index = case.length;
     print::hex(out, " write ", metadata)?;
@@ -38,8 +33,8 @@ fn answer(
     print_answer(out, answer, output)
 }
 
-pub fn run(out: &mut impl Write, records: &[u8], stored: &[u8], case: Case) -> io::Result<()> {
-    let mut output = [RUBBISH; 65536];
-    let length = output_room(case.result_places, &output);
-    answer(out, records, stored, case, &mut output[..length])
+pub fn run(out: &mut impl Write, records: &[u8], case: Case<'_>) -> io::Result<()> {
+    let mut output = [RUBBISH_BYTE; 65536];
+    let length = room(case.result_places, &output);
+    answer(out, records, case, &mut output[..length])
 }

@@ -39,6 +39,7 @@ ghost use Rattle.theorems_compare.specs.ComparedByRules.{ComparedByRules};
 use checker::Checked;
 use comparer::Compared;
 use part::Part;
+use query::Query;
 use reader::ReadAnswer;
 use search::Found;
 use session_value::{Session, Stepped};
@@ -66,7 +67,8 @@ pub extern "C" fn zs_read(
         (query_of start.now stop_given stop.now prefix.now)
         (length results.old) result results.new }
 {
-    reader::read(file, start, stop_given, stop, prefix, results)
+    let query = Query::new(start, stop_given, stop, prefix);
+    reader::read(file, query, results)
 }
 
 // Checks the file (`checker::check`).
@@ -109,7 +111,8 @@ pub extern "C" fn zs_search(
         (query_of start.now stop_given stop.now prefix.now)
         (length opened.old) (length results.old) result opened.new results.new }
 {
-    search::search(file, start, stop_given, stop, prefix, opened, results)
+    let query = Query::new(start, stop_given, stop, prefix);
+    search::search(file, query, opened, results)
 }
 
 // Where the part of `length` bytes from `offset` on lies; offset and length 0 where it isn't within the file.
@@ -117,17 +120,7 @@ pub extern "C" fn zs_search(
 pub extern "C" fn zs_record(file: &[u8], offset: u64, length: u64) -> Part
     ensures { result ≡ record { offset = part_start file.now offset length; length = part_length file.now offset length } }
 {
-    if record::is_within(file, offset, length) {
-        Part {
-            offset: offset as usize,
-            length: length as usize,
-        }
-    } else {
-        Part {
-            offset: 0,
-            length: 0,
-        }
-    }
+    record::part_of(file, offset, length)
 }
 
 // Whether the part of `length` bytes from `offset` on lies within the file.

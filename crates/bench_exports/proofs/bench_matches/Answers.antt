@@ -1,7 +1,9 @@
 -- `bench_matches` meets its contract: all records of the payload, from an empty count. Assumes nothing.
-use mathlib.Core.Path.{◌∙◌}
+use mathlib.Core.Path.{ap, ◌∙◌}
 use native.Mathlib.Omega.{arith}
-use Rattle.query.specs.Query.{query_of}
+use Rattle.query.specs.Query.{Query, query_of}
+use Rattle.matching.specs.Matching.{matching, records_from}
+use Rattle.matching.specs.ResultList.{put_all}
 use Rattle.bench_exports.proofs.MatchesLaws.{matches_long, matches_short}
 use Rattle.bench_exports.proofs.bench_matches.Goals as goal
 
@@ -16,5 +18,6 @@ collect_records-requires c =
 
 pub returns : goal.returns
 returns c =
-    c.collect_records.ensures 0 ∙ matches_short (query_of c.args.start.now c.args.stop_given c.args.stop.now c.args.prefix.now) c.args.bytes.now
-    (omega arith) _
+    c.collect_records.ensures 0
+    ∙ ap (λ (q : Query). put_all (record { count = 0; list = c.args.results.now }) (matching q (records_from 0 c.args.bytes.now 0))) c.new-query.ensures
+    ∙ matches_short (query_of c.args.start.now c.args.stop_given c.args.stop.now c.args.prefix.now) c.args.bytes.now (omega arith) _

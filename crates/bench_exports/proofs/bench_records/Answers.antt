@@ -5,4 +5,4 @@ use Rattle.bench_exports.proofs.ItemsLaws.{number_counted}
 use Rattle.bench_exports.proofs.bench_records.Goals as goal
 
 pub returns : goal.returns
-returns c = c.refusal_number.ensures ∙ ap number_of (c.records_at.ensures 0) ∙ number_counted _
+returns c = c.fault_number.ensures ∙ ap number_of (c.records_at.ensures 0) ∙ number_counted _

@@ -1,6 +1,7 @@
 -- `fields` meets its contract: each return is one case of the definition, over parts that are lent.
 -- What it requires bounds the sums and the ends of the parts.
 -- Assumes nothing.
+use Rattle.outcome.specs.Fault.{said_at, number}
 use mathlib.Core.Path.{◌≡◌, sym, ◌∙◌}
 use mathlib.Core.Bool.{true}
 use Prim.Native.Nat.{◌+◌, ◌≤◌}
@@ -10,7 +11,7 @@ use Rattle.byte_string.specs.Order.{begins}
 use Rattle.byte_string.proofs.ComparisonLaws.{compared_begins}
 use Rattle.part.specs.Part.{part}
 use Rattle.header.specs.Metadata.{is_metadata}
-use Rattle.header.specs.Header.{H, M, codec_none, field_at, header_numbers, header_said}
+use Rattle.header.specs.Header.{H, M, codec_none, field_at, header_numbers}
 use Rattle.header.proofs.RuleLaws.{holds_header⁻¹, metadata_within, codec_lent, metadata_lent, fields_codec, fields_total, fields_metadata, fields_good}
 use Rattle.header.proofs.fields.Goals.{After-begins, After-is_metadata, Else-le64_at-file, Else-not-begins, Start}
 use Rattle.header.proofs.fields.Goals as goal
@@ -32,7 +33,7 @@ codec c =
     c.begins.ensures ∙ compared_begins _ _ _ c.compare.ensures ∙ codec_lent c.args.file.now
 
 pub returns-then-not-begins : goal.returns-then-not-begins
-unfolding header_said
+unfolding said_at number
 returns-then-not-begins c = sym (fields_codec _ (sym (codec ((goal.at.returns-then-not-begins c).After-begins)) ∙ c.if-not-begins.true))
 
 -- the codec is `none`
@@ -41,7 +42,7 @@ codec-none : (c : Else-not-begins) → c.begins.result ≡ begins codec_none (dr
 codec-none c tested = sym tested ∙ c.if-not-begins.false
 
 pub returns-then-le64_at-file : goal.returns-then-le64_at-file
-unfolding header_said field_at part
+unfolding said_at number field_at part
 returns-then-le64_at-file c = sym (fields_total _ (codec-none ((goal.at.returns-then-le64_at-file c).Else-not-begins)
     (codec ((goal.at.returns-then-le64_at-file c).After-begins))) (λ same. c.if-le64_at-file.true (c.le64_at.ensures ∙ same)))
 
@@ -71,7 +72,7 @@ metadata c =
     c.is_metadata.ensures ∙ metadata_lent c.args.file.now _ c.le64_at-metadata.ensures
 
 pub returns-then-not-is_metadata : goal.returns-then-not-is_metadata
-unfolding header_said
+unfolding said_at number
 returns-then-not-is_metadata c =
     sym (fields_metadata _ (codec-none ((goal.at.returns-then-not-is_metadata c).Else-not-begins)
     (codec ((goal.at.returns-then-not-is_metadata c).After-begins))) (total ((goal.at.returns-then-not-is_metadata c).Else-le64_at-file))
@@ -84,7 +85,7 @@ overflow_add-blocks c =
     omega arith
 
 pub returns : goal.returns
-unfolding header_said H M field_at part header_numbers
+unfolding said_at number H M field_at part header_numbers
 returns c =
     rw (c.le64_at-4.ensures, c.le64_at-3.ensures, c.le64_at-2.ensures, c.le64_at-metadata.ensures) (sym
     (fields_good _ (codec-none ((goal.at.returns c).Else-not-begins) (codec ((goal.at.returns c).After-begins)))

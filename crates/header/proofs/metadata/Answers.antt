@@ -1,15 +1,15 @@
 -- `metadata` meets its contract: what `Header::read` answers says which part it is. Assumes nothing.
-use Rattle.header.specs.Header.{header_said}
+use Rattle.outcome.specs.Fault.{said_at, number}
 use Rattle.header.specs.MetadataPart.{metadata_in}
 use Rattle.header.proofs.MetadataPartLaws.{metadata_told}
 use Rattle.header.proofs.metadata.Goals as goal
 
-pub returns-in-Answer : goal.returns-in-Answer
-unfolding header_said metadata_in
-returns-in-Answer c =
-    metadata_told c.args.file.now _ _ c.in-Answer.is c.read-outcome.ensures
+pub returns-in-Ok : goal.returns-in-Ok
+unfolding said_at number metadata_in
+returns-in-Ok c =
+    metadata_told c.args.file.now _ _ c.in-Ok.is c.read.ensures
 
-pub returns-in-Refused : goal.returns-in-Refused
-unfolding header_said metadata_in
-returns-in-Refused c =
-    metadata_told c.args.file.now _ _ c.in-Refused.is c.read-outcome.ensures
+pub returns-in-Err : goal.returns-in-Err
+unfolding said_at number metadata_in
+returns-in-Err c =
+    metadata_told c.args.file.now _ _ c.in-Err.is c.read.ensures
