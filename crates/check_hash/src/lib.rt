@@ -34,10 +34,11 @@ fn hash_right(file: &[u8], from: usize) -> bool
     requires { length file.now ≤ 2 ^ 30 }
     ensures { result ≡ begins (sha.sha256 (payloads file.now (laid_from file.now from))) (drop 40 file.now) }
 {
-    Header::HASH_AT <= file.len() && {
-        let digest = sha256::finish(hashed(file, from));
-        byte_string::compare(&digest, &file[Header::HASH_AT..]).begins(digest.len())
-    }
+    Header::HASH_AT <= file.len()
+        && {
+            let digest = sha256::finish(hashed(file, from));
+            byte_string::compare(&digest, &file[Header::HASH_AT..]).begins(digest.len())
+        }
 }
 
 // The state after all blocks from an offset on, up to the first place where no frame can be read. A data block's payload is absorbed, other

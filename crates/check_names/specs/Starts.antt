@@ -1,6 +1,6 @@
 -- The work list as starts: one word for each ordinary block in file order. A word is start + 2 ^ 30 * c, so the start is the
 -- word modulo 2 ^ 30.
-use Rattle.std.specs.Prelude.{ℕ, ◌%◌, ◌^◌, ◌≤◌, ◌<◌, ◌≡◌, List, map, length, get_or, Option, Some, None}
+use Rattle.std.specs.Prelude.{ℕ, ◌%◌, ◌^◌, ◌<◌, ◌≡◌, List, map, length, get_or, Option, Some, None}
 use Rattle.block.specs.Block.{Block}
 use Rattle.block.specs.Survey.{ordinary}
 

@@ -10,7 +10,6 @@ use Rattle.outcome.specs.Outcome.{answer}
 use Rattle.part.specs.Part.{part}
 use Rattle.payload.specs.Payload.{Text}
 use Rattle.block.specs.Block.{Block, block_at}
-use Rattle.payload.proofs.ReadLaws.{Stands}
 use Rattle.block.proofs.HeldLaws.{record_in_block, data_some}
 use Rattle.check_walk.specs.declared.keys.Span.{Span}
 use Rattle.check_walk.specs.Lookup.{no_part, bytes_in, records_in}

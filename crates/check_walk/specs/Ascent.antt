@@ -1,6 +1,6 @@
 -- The walk of 22 as it is made: down from a block of a level, with the least offset that the next data block may have.
 use Rattle.std.specs.Prelude.{ℕ, zero, suc, ◌+◌, ◌&&◌, List, [], ◌∷◌, leb, ltb, length}
-use Rattle.outcome.specs.Outcome.{Outcome, answer, refused, ◌>>=◌, ◌>>◌, must}
+use Rattle.outcome.specs.Outcome.{Outcome, answer, ◌>>=◌, ◌>>◌, must}
 use Rattle.payload.specs.Payload.{Entry}
 use Rattle.check_walk.specs.Lookup.{entries_in}
 

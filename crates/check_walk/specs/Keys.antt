@@ -1,5 +1,5 @@
 -- The walk of 23 and 24 as it is made: down from a block of a level, with what is known of the blocks met before.
-use Rattle.std.specs.Prelude.{ℕ, zero, suc, ◌+◌, ◌≤◌, Bool, ◌&&◌, ◌||◌, not, cond, List, [], ◌∷◌, ltb, eqb, length, Option, Some, None}
+use Rattle.std.specs.Prelude.{ℕ, zero, suc, ◌+◌, ◌≤◌, Bool, ◌&&◌, ◌||◌, not, cond, List, [], ◌∷◌, ltb, eqb, length, Some, None}
 use Rattle.std.specs.Option.{option_or, unwrap_or}
 use Rattle.byte_string.specs.Order.{at_most}
 use Rattle.part.specs.declared.Part.{Part}

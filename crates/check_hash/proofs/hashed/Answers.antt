@@ -41,8 +41,8 @@ unfolding said_at is_data part
 loop-frame-preserved c =
     passed_more c.args.file.now c.args.from c.loop-frame.at c.loop-frame.state c.loop-frame.invariant c.in-Ok.frame (sym c.in-Ok.ensures) _
     (elim c.if-frame-eq0.branch [
-      then-frame-eq0 w ↦ rw (eq-eqb _ _ w.if-frame-eq0.true) (w.state-is ∙ w.absorb-state.ensures)
-    | else-frame-eq0 w ↦ rw (ne_eqb _ _ w.if-frame-eq0.false) w.state-is
+      | then-frame-eq0 w ↦ rw (eq-eqb _ _ w.if-frame-eq0.true) (w.state-is ∙ w.absorb-state.ensures)
+      | else-frame-eq0 w ↦ rw (ne_eqb _ _ w.if-frame-eq0.false) w.state-is
     ])
 
 pub returns : goal.returns

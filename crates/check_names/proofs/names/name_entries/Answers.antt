@@ -1,5 +1,5 @@
 -- An entry more is marked, or names no fitting block; where no entry can be read, all are done.
-use mathlib.Core.Path.{sym, ap, ◌∙◌}
+use mathlib.Core.Path.{sym, ap}
 use native.Mathlib.Omega.{arith}
 use lib.ListN.{set}
 use Rattle.payload.specs.Answers.{entry_said}
@@ -20,8 +20,11 @@ pub loop-step-smaller : goal.loop-step-smaller
 unfolding entry_said
 loop-step-smaller c =
     let reads = sym (c.in-Ok.ensures.by_index c.args.frame.start) in
-    omega (arith, forward c.args.file.now c.args.frame c.args.work.now c.loop-step.work c.loop-step.at c.loop-step.invariant _ reads c.requires.1,
-      inside c.args.file.now c.args.frame c.args.work.now c.loop-step.work c.loop-step.at c.loop-step.invariant _ reads c.requires.1)
+    omega (
+      arith,
+      forward c.args.file.now c.args.frame c.args.work.now c.loop-step.work c.loop-step.at c.loop-step.invariant _ reads c.requires.1,
+      inside c.args.file.now c.args.frame c.args.work.now c.loop-step.work c.loop-step.at c.loop-step.invariant _ reads c.requires.1,
+    )
 
 pub loop-step-preserved : goal.loop-step-preserved
 unfolding entry_said Named

@@ -29,6 +29,6 @@ returns-else-frame-entry-clause-value c from seen s k =
     named_unfit c.args.file.now from seen c.args.work.now k (entry_in s c.args.entry) c.args.level c.in_ok-i.i c.in_ok-i.ensures.inside
     c.in_ok-i.ensures.located c.frame_at.result c.in_ok-frame.frame c.in_ok-frame.ensures.value c.frame_at.ensures
     (λ size lower. elim c.else-frame-entry.branch [
-      else-frame-entry-via-then-frame-entry+else-frame-level w ↦ w.if-frame-level.false lower
-    | else-frame-entry-via-else-frame-entry w ↦ w.if-frame-entry.false size
+      | else-frame-entry-via-then-frame-entry+else-frame-level w ↦ w.if-frame-level.false lower
+      | else-frame-entry-via-else-frame-entry w ↦ w.if-frame-entry.false size
     ])

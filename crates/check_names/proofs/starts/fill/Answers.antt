@@ -29,14 +29,14 @@ pub loop-frame-preserved : goal.loop-frame-preserved
 unfolding said_at
 loop-frame-preserved c =
     elim c.if-frame-le-LARGEST_LEVEL.branch [
-      then-frame-le-LARGEST_LEVEL w ↦
-        rw w.count-is
-        (hopped_ordinary c.args.file.now c.args.from c.args.work.now c.loop-frame.work c.loop-frame.at c.loop-frame.count c.loop-frame.invariant c.in-Ok.frame
-        (sym c.in-Ok.ensures) w.if-frame-le-LARGEST_LEVEL.true _ (w.work-is ∙ w.put.ensures.1))
-    | else-frame-le-LARGEST_LEVEL w ↦
-        rw (w.work-is, w.count-is)
-        (hopped_reserved c.args.file.now c.args.from c.args.work.now c.loop-frame.work c.loop-frame.at c.loop-frame.count c.loop-frame.invariant c.in-Ok.frame
-        (sym c.in-Ok.ensures) w.if-frame-le-LARGEST_LEVEL.false)
+      | then-frame-le-LARGEST_LEVEL w ↦
+          rw w.count-is
+          (hopped_ordinary c.args.file.now c.args.from c.args.work.now c.loop-frame.work c.loop-frame.at c.loop-frame.count c.loop-frame.invariant c.in-Ok.frame
+          (sym c.in-Ok.ensures) w.if-frame-le-LARGEST_LEVEL.true _ (w.work-is ∙ w.put.ensures.1))
+      | else-frame-le-LARGEST_LEVEL w ↦
+          rw (w.work-is, w.count-is)
+          (hopped_reserved c.args.file.now c.args.from c.args.work.now c.loop-frame.work c.loop-frame.at c.loop-frame.count c.loop-frame.invariant c.in-Ok.frame
+          (sym c.in-Ok.ensures) w.if-frame-le-LARGEST_LEVEL.false)
     ]
 
 pub returns-clause-value : goal.returns-clause-value

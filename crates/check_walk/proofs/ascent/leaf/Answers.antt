@@ -13,6 +13,6 @@ pub returns-else-least-at : goal.returns-else-least-at
 unfolding said number
 returns-else-least-at c =
     elim c.else-least-at.branch [
-      else-least-at-via-then-least-at+else-at-long w ↦ sym (leaf_past c.args.long c.args.at c.args.least w.if-least-at.true w.if-at-long.false)
-    | else-least-at-via-else-least-at w ↦ sym (leaf_low c.args.long c.args.at c.args.least w.if-least-at.false)
+      | else-least-at-via-then-least-at+else-at-long w ↦ sym (leaf_past c.args.long c.args.at c.args.least w.if-least-at.true w.if-at-long.false)
+      | else-least-at-via-else-least-at w ↦ sym (leaf_low c.args.long c.args.at c.args.least w.if-least-at.false)
     ]

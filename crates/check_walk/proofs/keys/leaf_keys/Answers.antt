@@ -17,19 +17,19 @@ part_at_most-requires c =
 pub returns-then-part_at_most : goal.returns-then-part_at_most
 returns-then-part_at_most c =
     elim c.if-before-ne0.branch [
-      then-before-ne0 w ↦ leaf_before c.args.file.now c.args.at c.args.before _ c.span_at-span.ensures w.if-before-ne0.true
-    | else-before-ne0 w ↦
-        leaf_ordered c.args.file.now c.args.at c.args.before _ c.span_at-span.ensures w.if-before-ne0.false _
-        (w.part_at_most.ensures ∙ ap (λ p. at_most (bytes_in c.args.file.now c.args.before.span.last) (bytes_in c.args.file.now p)) w.start.ensures)
-        (sym w.value-is ∙ c.if-part_at_most.true)
+      | then-before-ne0 w ↦ leaf_before c.args.file.now c.args.at c.args.before _ c.span_at-span.ensures w.if-before-ne0.true
+      | else-before-ne0 w ↦
+          leaf_ordered c.args.file.now c.args.at c.args.before _ c.span_at-span.ensures w.if-before-ne0.false _
+          (w.part_at_most.ensures ∙ ap (λ p. at_most (bytes_in c.args.file.now c.args.before.span.last) (bytes_in c.args.file.now p)) w.start.ensures)
+          (sym w.value-is ∙ c.if-part_at_most.true)
     ]
 
 pub returns-else-part_at_most : goal.returns-else-part_at_most
 returns-else-part_at_most c =
     elim c.if-before-ne0.branch [
-      then-before-ne0 w ↦ absurd (false≢true (sym c.if-part_at_most.false ∙ w.value-is ∙ ap not (ne_eqb _ _ w.if-before-ne0.true)))
-    | else-before-ne0 w ↦
-        leaf_unordered c.args.file.now c.args.at c.args.before _ c.span_at-span.ensures w.if-before-ne0.false _
-        (w.part_at_most.ensures ∙ ap (λ p. at_most (bytes_in c.args.file.now c.args.before.span.last) (bytes_in c.args.file.now p)) w.start.ensures)
-        (sym w.value-is ∙ c.if-part_at_most.false)
+      | then-before-ne0 w ↦ absurd (false≢true (sym c.if-part_at_most.false ∙ w.value-is ∙ ap not (ne_eqb _ _ w.if-before-ne0.true)))
+      | else-before-ne0 w ↦
+          leaf_unordered c.args.file.now c.args.at c.args.before _ c.span_at-span.ensures w.if-before-ne0.false _
+          (w.part_at_most.ensures ∙ ap (λ p. at_most (bytes_in c.args.file.now c.args.before.span.last) (bytes_in c.args.file.now p)) w.start.ensures)
+          (sym w.value-is ∙ c.if-part_at_most.false)
     ]

@@ -7,7 +7,7 @@ use Rattle.payload.specs.Answers.{text_said}
 use Rattle.payload.proofs.PayloadLaws.{text⇒Placed}
 use Rattle.check_walk.specs.Lookup.{no_part}
 use Rattle.check_walk.specs.Keys.{no_span}
-use Rattle.check_walk.proofs.LookupLaws.{end_of, going_over}
+use Rattle.check_walk.proofs.LookupLaws.{going_over}
 use Rattle.items.proofs.GoingLaws.{going_more}
 use Rattle.check_walk.proofs.KeyLaws.{over_records_start, over_record_read, over_records_end}
 use Rattle.check_walk.proofs.keys.span_at.Goals as goal
