@@ -9,6 +9,7 @@ ghost use Rattle.byte_string.specs.Order.{at_most};
 ghost use Rattle.sim.specs.Adn.{is_filled, pairs_length, plain_length, name_length, name_of, is_name, judged, record_at};
 
 use outcome::Fault;
+use std::cmp::Ordering;
 
 // How many bytes follow the name field.
 const REST: usize = 14;
@@ -158,10 +159,16 @@ impl<'a> Dump<'a> {
     {
         let s = self.record(a);
         let t = self.record(b);
-        s.name()
-            .iter()
-            .chain(s.rest)
-            .cmp(t.name().iter().chain(t.rest))
-            .is_le()
+        let x = s.name();
+        let y = t.name();
+        let n = x.len().min(y.len());
+        match x[..n].cmp(&y[..n]) {
+            Ordering::Equal => x[n..]
+                .iter()
+                .chain(s.rest)
+                .cmp(y[n..].iter().chain(t.rest))
+                .is_le(),
+            order => order.is_le(),
+        }
     }
 }
