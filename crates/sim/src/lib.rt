@@ -153,7 +153,8 @@ impl<'a> Dump<'a> {
         }
     }
 
-    // Whether our record of the one at offset a is at most our record of the one at b.
+    // Whether our record of the one at offset a is at most our record of the one at b: as many bytes of both names as the shorter has decide, and
+    // where these are equal, what follows them in our records.
     pub fn at_most(self, a: u64, b: u64) -> bool
         ensures { result ≡ at_most (record_at self.entry.name_length self.entry.bytes.now a) (record_at self.entry.name_length self.entry.bytes.now b) }
     {

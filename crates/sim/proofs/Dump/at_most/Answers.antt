@@ -1,5 +1,5 @@
 -- `at_most` meets its contract: the fronts of the two names decide, or what follows them does. Assumes nothing.
-use Rattle.std.proofs.Common.{ℕ, Bor, ◌≡◌, ◌++◌, refl, sym, ap, ap₂, arith, take, drop, ◌∙◌}
+use Rattle.std.proofs.Common.{ℕ, Bor, ◌≡◌, ◌++◌, refl, sym, ap, ap₂, arith, drop, ◌∙◌}
 use Rattle.std.specs.Ordering.{nat_cmp}
 use Rattle.std.specs.Slice.Iter.{iter_rest}
 use Rattle.std.proofs.lemmas.Iterator.{YieldsList-from_slice}
