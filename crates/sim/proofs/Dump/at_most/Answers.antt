@@ -1,5 +1,5 @@
 -- `at_most` meets its contract: the fronts of the two names decide, or what follows them does. Assumes nothing.
-use Rattle.std.proofs.Common.{ℕ, Bor, ◌≡◌, ◌++◌, refl, sym, ap, ap₂, arith, drop, ◌∙◌}
+use Rattle.std.proofs.Common.{◌≤◌, length, ℕ, Bor, ◌≡◌, ◌++◌, refl, sym, ap, ap₂, arith, drop, ◌∙◌}
 use Rattle.std.specs.Ordering.{nat_cmp}
 use Rattle.std.specs.Slice.Iter.{iter_rest}
 use Rattle.std.proofs.lemmas.Iterator.{YieldsList-from_slice}
@@ -23,6 +23,8 @@ pub returns-in-Equal : goal.returns-in-Equal
 unfolding order
 returns-in-Equal c =
     let n = c.min-n.result in
+    let h : n ≤ length c.name-x.result.now = omega arith in
+    let k : n ≤ length c.name-y.result.now = omega arith in
     let order =
     cmp_from_yields_List {v = λ (y : Bor ℕ). y.now} (λ x y. y ≡ x) _ nat_cmp _ c.cmp-in-Equal.ensures.ran
     (YieldsList-from_chain (YieldsList-from_slice (drop n c.name-x.result.now) (ap iter_rest c.chain.ensures.first ∙ c.iter.ensures.rest ∙ lent_drop c.name-x.result.now n))
@@ -32,7 +34,7 @@ returns-in-Equal c =
     (YieldsList-from_slice c.record-t.result.rest.now c.chain-in-Equal.ensures.second.0) c.chain-in-Equal.ensures.first_done
     c.chain-in-Equal.ensures.second_done))
     (λ x y. refl) in
-    c.is_le.ensures ∙ fronts_agree _ _ _ _ n (omega arith) (omega arith) _ (sym c.in-Equal.is ∙ c.cmp.ensures) order
+    c.is_le.ensures ∙ fronts_agree _ _ _ _ n h k _ (sym c.in-Equal.is ∙ c.cmp.ensures) order
     ∙ records (goal.at.returns-in-Equal c).After-cmp
 
 pub returns-in_default : goal.returns-in_default
