@@ -20,22 +20,13 @@ use Rattle.uleb128.proofs.NumberLaws.{number_used, number_lt, reading-cut, readi
 use Rattle.std.specs.Prelude.{Result, Err}
 use Rattle.std.specs.Result.{IsErrAnd}
 use Rattle.std.proofs.lemmas.Result.{err_from_is_err_and}
-use Rattle.outcome.specs.declared.Fault.{Fault}
-use Rattle.outcome.specs.Fault.{said_at}
-use Rattle.outcome.specs.Fault.{number as code}
 use Rattle.outcome.specs.Outcome.{answer, refused}
 use Rattle.items.specs.declared.Step.{Step}
-use Rattle.outcome.proofs.OutcomeLaws.{answer_injective, refused_not_answer, kept, broken, kept⁻¹, bind_answer, bind⁻¹}
+use Rattle.outcome.proofs.OutcomeLaws.{answer_injective, refused_not_answer, kept, broken, kept⁻¹, bind_answer, bind_refused, bind⁻¹}
+use Rattle.outcome.proofs.ResultLaws.{fault_on}
 use Rattle.part.proofs.PartLaws.{lent_drop}
 use Rattle.framing.specs.declared.Frame.{Frame}
 use Rattle.framing.specs.Frame.{read_as, number_at, framed, frame_at, crc_right, sound_frame_at}
-
--- ---- a fault that is handed on
-
--- what it says
-pub said_fault : {A : Type 0} (place : ℕ) (r : Result A Fault) (f : Fault) → IsErrAnd r (λ x. x ≡ f) → said_at place r ≡ refused (code f) place
-unfolding said_at
-said_fault place r f h = let p = err_from_is_err_and r h in rw (p.1, p.2)
 
 -- ---- numbers
 
@@ -174,6 +165,10 @@ pub sound_frame : (file : List ℕ) (at : ℕ) (f : Frame) → frame_at file at 
 unfolding sound_frame_at
 sound_frame file at f e right = bind_answer (frame_at file at) _ f e ∙ kept (crc_right file f.body f.end) 14 at _ right
 
+pub no_frame : (file : List ℕ) (at n p : ℕ) → frame_at file at ≡ refused n p → sound_frame_at file at ≡ refused n p
+unfolding sound_frame_at
+no_frame file at n p e = bind_refused (frame_at file at) _ n p e
+
 pub unsound_frame : (file : List ℕ) (at : ℕ) (f : Frame) → frame_at file at ≡ answer f → crc_right file f.body f.end ≡ false → sound_frame_at file at ≡ refused 14 at
 unfolding sound_frame_at
 unsound_frame file at f e wrong = bind_answer (frame_at file at) _ f e ∙ broken (crc_right file f.body f.end) 14 at _ wrong
@@ -196,3 +191,11 @@ frame_bounds file at f e =
 
 pub frame_start : (file : List ℕ) (at : ℕ) (f : Frame) → sound_frame_at file at ≡ answer f → f.start ≡ at
 frame_start file at f e = (frame⇒Framed file at f (sound_frame⁻¹ file at f e).0).starts
+
+-- ---- what the proofs of the code take: the cases of a frame, and the ways on after a result
+
+pub ruleset framed_cases = (framed_empty, framed_long, framed_found)
+
+pub ruleset chain = (bind_answer, bind_refused, fault_on)
+
+pub ruleset sound_cases = (sound_frame, unsound_frame, no_frame, fault_on)

@@ -1,20 +1,20 @@
 -- `block_in` meets its contract: the level says which tests a payload has. Assumes nothing.
 use mathlib.Core.Path.{sym, ◌∙◌}
+use Rattle.outcome.proofs.ResultLaws.{fault_on}
 use Rattle.outcome.specs.Fault.{said_at}
-use Rattle.framing.proofs.FrameLaws.{said_fault}
 use Rattle.block.proofs.BlockLaws.{data_sound, data_unsound, index_sound, index_unsound, reserved_sound}
 use Rattle.block.proofs.pass.block_in.Goals as goal
 
 pub returns-in_err-records : goal.returns-in_err-records
 unfolding said_at
 returns-in_err-records c =
-    said_fault _ _ _ c.from_residual.ensures.1
+    fault_on _ _ _ c.from_residual.ensures.1
     ∙ sym (data_unsound c.args.file.now c.args.f _ _ c.if-f-eq0.true (sym (c.in_err-records.ensures c.args.f.start)))
 
 pub returns-in_err-entries_at : goal.returns-in_err-entries_at
 unfolding said_at
 returns-in_err-entries_at c =
-    said_fault _ _ _ c.from_residual-in_err-entries_at.ensures.1
+    fault_on _ _ _ c.from_residual-in_err-entries_at.ensures.1
     ∙ sym (index_unsound c.args.file.now c.args.f _ _ c.if-f-eq0.false c.if-f-le-LARGEST_LEVEL.true (sym (c.in_err-entries_at.ensures c.args.f.start)))
 
 pub returns-in_ok-records : goal.returns-in_ok-records
