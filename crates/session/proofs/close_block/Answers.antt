@@ -1,6 +1,5 @@
 -- `close_block` meets its contract. Assumes nothing.
-use mathlib.Core.Path.{refl, sym, ◌∙◌}
-use mathlib.Core.List.{[], ◌∷◌}
+use mathlib.Core.Path.{sym, ◌∙◌}
 use native.Mathlib.Omega.{arith}
 use Rattle.lists.specs.Lists.{any}
 use Rattle.outcome.specs.Fault.{number}
@@ -14,7 +13,7 @@ unfolding any OneOf stepped number
 returns-then-not-is_begun c =
     record {
       step_taken = λ stage held. elim c.then-not-is_begun.branch [
-        then-not-is_begun-via-then-not-is_begun w ↦
+        | then-not-is_begun-via-then-not-is_begun w ↦
             close_early stage c.args.session c.args.output.now held (sym c.is_begun.ensures ∙ w.if-not-is_begun.true) c.stepped.ensures
         | then-not-is_begun-via-else-not-is_begun+then-session-eq0 w ↦
             close_empty stage c.args.session c.args.output.now held (sym c.is_begun.ensures ∙ w.if-not-is_begun.false)
