@@ -2,6 +2,8 @@ use mathlib.Core.Path.{◌≡◌, sym, ap, ◌∙◌}
 use Rattle.std.proofs.Common.{arith, rules}
 use Rattle.std.proofs.lemmas.Result.{err_from_is_err_and}
 use Rattle.outcome.specs.Fault.{said_at, said}
+use Rattle.std.specs.Int.{from_bool}
+use mathlib.Core.Bool.{Bool, ◌||◌}
 use Rattle.outcome.specs.Outcome.{answer}
 use Rattle.block.specs.Block.{is_ordinary, block_at}
 use Rattle.block.specs.Answers.{tallied}
@@ -38,7 +40,7 @@ lies c e = reported c.args.file.now c.loop-at.at _ _ (read c e)
 pub overflow_add-ordinary : goal.overflow_add-ordinary
 overflow_add-ordinary c =
     let r = lies ((goal.at.overflow_add-ordinary c).In_ok-block) (told ((goal.at.overflow_add-ordinary c).After-map_err)) in
-    let single = at_most_one c.one_if_ordinary-ordinary.result (is_ordinary c.in_ok-block.block.frame.level) c.one_if_ordinary-ordinary.ensures in
+    let single = at_most_one c.from-ordinary.result (is_ordinary c.in_ok-block.block.frame.level) (c.from-ordinary.ensures ∙ ap from_bool c.is_ordinary.ensures) in
     omega (arith, c.well_formed)
 
 pub overflow_add-records : goal.overflow_add-records
@@ -60,7 +62,8 @@ pub loop-at-preserved : goal.loop-at-preserved
 loop-at-preserved c =
     surveyed_more c.args.file.now c.args.from c.args.root c.args.rootsize _ _ _ _ c.loop-at.invariant c.loop-at-test.true _ _ _ _
     (read ((goal.at.loop-at-preserved c).In_ok-block) (told ((goal.at.loop-at-preserved c).After-map_err)))
-    c.one_if_ordinary-ordinary.ensures c.found_root-found.ensures
+    (c.from-ordinary.ensures ∙ ap from_bool c.is_ordinary.ensures)
+    (ap (λ (b : Bool). c.loop-at.found || b) c.is_root-found.ensures)
 
 pub returns : goal.returns
 unfolding said
