@@ -47,20 +47,20 @@ pub fn survey(file: &[u8], from: usize, root: u64, rootsize: u64) -> Result<Surv
     ensures { said result ≡ surveys.survey_of file.now from root rootsize }
 {
     let mut at = from;
-    let mut ordinary: usize = 0;
-    let mut records: usize = 0;
-    let mut found = false;
+    let mut seen = Survey {
+        blocks: 0,
+        records: 0,
+        root: false,
+    };
     while at < file.len() {
-        let place = at as u64;
-        let block = block_at(file, at).map_err(|fault| Refusal { fault, place })?;
-        ordinary += usize::from(block.frame.is_ordinary());
-        records += block.records;
-        found |= is_root(block.frame, root, rootsize);
+        let block = block_at(file, at).map_err(|fault| Refusal {
+            fault,
+            place: at as u64,
+        })?;
+        seen.blocks += usize::from(block.frame.is_ordinary());
+        seen.records += block.records;
+        seen.root |= is_root(block.frame, root, rootsize);
         at += block.frame.size;
     }
-    Ok(Survey {
-        blocks: ordinary,
-        records,
-        root: found,
-    })
+    Ok(seen)
 }
