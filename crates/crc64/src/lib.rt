@@ -3,9 +3,8 @@
 // The register is a number, and every public function is total, on any register; the law `register-append` says that
 // pieces absorbed one after the other give what they give joined.
 //
-// The bytes of a long piece go in by a table of 256 numbers, in eight lanes side by side. A constant array is written to the stack wherever
-// it is used, and lanes have to be joined, which would take longer than a short piece itself; so short pieces take eight one-bit steps for
-// each byte.
+// The bytes of a long piece go in by a table of 256 numbers, in eight lanes side by side. Lanes have to be joined, which would take longer
+// than a short piece itself; so short pieces take eight one-bit steps for each byte.
 #![tactic(auto)]
 
 ghost use Rattle.std.specs.Prelude.{◌≡◌};

@@ -1,16 +1,15 @@
 -- The register in eight lanes: words put in ahead of the steps, and the registers of the lanes joined.
 -- Assumes nothing.
 use mathlib.Core.Path.{◌≡◌, refl, sym, ap, ap₂, ◌∙◌}
-use mathlib.Core.Logic.{◌⊎◌, inl, inr}
 use mathlib.Core.List.{List, [], ◌∷◌, ◌++◌}
 use Prim.Native.Nat.{ℕ, zero, suc, ◌+◌, ◌-◌, ◌*◌, ◌^◌, ◌≤◌, ◌<◌}
-use native.Mathlib.Nat.{eq-or-lt_of_le, not-suc-le-zero, mul-le-mul_left, mul-one, mul-suc, mul-zero, zero-add}
+use native.Mathlib.Nat.{mul-le-mul_left, mul-one, mul-suc, mul-zero, zero-add}
 use native.Mathlib.Numerals.{add-one}
 use native.Mathlib.Omega.{arith}
 use lib.Bits.{bit_xor, xor_comm, xor_shifted, xor_zero_r}
 use lib.Dec.{lit<}
-use lib.ListN.{length, get_or, set, take, drop, length-set, length-take}
-use lib.Seq.{get_or-set_same, get_or-set_other, take_all}
+use lib.ListN.{length, get_or, take, drop, length-take}
+use lib.Seq.{take_all}
 use Rattle.lists.proofs.ListsLaws.{zeros_at}
 use Rattle.part.specs.Bytes.{AreBytes}
 use Rattle.part.proofs.BytesLaws.{bytes_take, bytes_drop}
@@ -58,30 +57,6 @@ pub word_within : (n j at : ℕ) → j < 8 → at + 8 ≤ n → n * j + at + 8 �
 word_within n j at h room =
     let most : n * suc j ≤ n * 8 = mul-le-mul_left n h in
     omega (arith, mul-suc n j, most)
-
--- ---- the loop over eight numbers
-
--- the first j numbers are there
-pub record Filled (f : ℕ → ℕ) (j : ℕ) (xs : List ℕ) : Type 0 where
-  pub within : j ≤ 8
-  pub long : length xs ≡ 8
-  pub holds : (k : ℕ) → k < j → get_or xs k 0 ≡ f k
-
-pub filled_none : (f : ℕ → ℕ) (xs : List ℕ) → length xs ≡ 8 → Filled f 0 xs
-filled_none f xs long = record { within = omega arith; long = long; holds = λ k h. absurd (not-suc-le-zero h) }
-
--- one number more
-pub filled_more : (f : ℕ → ℕ) (j : ℕ) (xs : List ℕ) (x : ℕ) → Filled f j xs → j < 8 → x ≡ f j → Filled f (j + 1) (set xs j x)
-filled_more f j xs x done h e =
-    record { within = omega arith; long = length-set xs j x ∙ done.long; holds = λ k below. go k (eq-or-lt_of_le (omega (arith, below))) }
-  where
-    go : (k : ℕ) → (k ≡ j) ⊎ (k < j) → get_or (set xs j x) k 0 ≡ f k
-    go k (inl same) = rw same (get_or-set_same xs j x 0 (omega (arith, done.long)) ∙ e)
-    go k (inr less) = get_or-set_other xs j k x 0 (λ same. omega arith) ∙ done.holds k less
-
-pub filled_all : (f : ℕ → ℕ) (j : ℕ) (xs : List ℕ) → Filled f j xs → 8 ≤ j → Eight f xs
-unfolding Eight
-filled_all f j xs done h k below = done.holds k (omega arith)
 
 -- ---- the loop over eight bytes
 

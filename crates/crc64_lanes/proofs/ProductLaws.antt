@@ -1,11 +1,10 @@
 -- The product of registers: with what m zero bits make of the highest bit, it takes a register through m zero bits.
 -- Assumes nothing.
 use mathlib.Core.Path.{◌≡◌, refl, sym, ap, ap₂, ◌∙◌}
-use mathlib.Core.Logic.{◌⊎◌, inl, inr}
-use mathlib.Core.Bool.{true, false, ◌&&◌, and-eq-true_iff, false≢true}
+use mathlib.Core.Bool.{true, ◌&&◌, and-eq-true_iff, false≢true}
 use mathlib.Core.List.{List, [], ◌∷◌}
 use Prim.Native.Nat.{ℕ, zero, suc, ◌+◌, ◌-◌, ◌*◌, ◌/◌, ◌%◌, ◌^◌, ◌≤◌, ◌<◌}
-use native.Mathlib.Nat.{add-mul, add-suc, div-add-mod', eq-or-lt_of_le, le_of_suc-le-suc, mul_assoc, mul_comm, mul-lt-mul_of_pos_right, mul-one}
+use native.Mathlib.Nat.{add-mul, add-suc, div-add-mod', le_of_suc-le-suc, mul_assoc, mul_comm, mul-lt-mul_of_pos_right, mul-one}
 use native.Mathlib.Nat.{not-suc-le-zero, one-mul, pow-suc, suc-add, zero-mul}
 use native.Mathlib.Numerals.{add-one}
 use native.Mathlib.Omega.{arith}
@@ -143,24 +142,9 @@ pub powered_none : (count r : ℕ) → count < 2 ^ 25 → r ≡ 2 ^ 63 → Power
 unfolding shifted bit_steps
 powered_none count r h e = record { gone = 0; within = omega arith; small = h; sum = omega arith; holds = e }
 
--- where some are to come, there is an entry
-pub powered_entry : (count k left r : ℕ) → Powered count k left r → 0 < left → k < 25
-powered_entry count k left r done some = go (eq-or-lt_of_le done.within)
-  where
-    go : (k ≡ 25) ⊎ (k < 25) → k < 25
-    go (inl h) =
-        let none : 25 - k ≡ 0 = omega arith in
-        let few : left < 1 = rw none at done.small in
-        absurd (omega arith)
-    go (inr h) = h
-
-module _ (count k left r : ℕ) (done : Powered count k left r) (some : 0 < left) where
-  below : k < 25
-  below = powered_entry count k left r done some
-
+module _ (count k left r : ℕ) (done : Powered count k left r) (below : k < 25) where
   halved : left / 2 < 2 ^ (25 - (k + 1))
   halved =
-      let below = below in
       let more : 25 - k ≡ suc (25 - (k + 1)) = omega arith in
       let twice : left < 2 ^ (25 - (k + 1)) * 2 = rw (more, pow-suc 2 (25 - (k + 1))) at done.small in
       omega (arith, twice)
@@ -173,7 +157,6 @@ module _ (count k left r : ℕ) (done : Powered count k left r) (some : 0 < left
   -- a bit 1: one entry more
   pub powered_one : (t : List ℕ) (next : ℕ) → are_powers t ≡ true → left % 2 ≡ 1 → next ≡ product (get_or t k 0) r → Powered count (k + 1) (left / 2) next
   powered_one t next right one e =
-      let below = below in
       let bits : 64 * done.gone + 64 * 2 ^ k ≡ 64 * (done.gone + left % 2 * 2 ^ k) = rw (one) (omega arith) in
       record {
         gone = done.gone + left % 2 * 2 ^ k;
@@ -186,7 +169,6 @@ module _ (count k left r : ℕ) (done : Powered count k left r) (some : 0 < left
   -- a bit 0: nothing
   pub powered_zero : (next : ℕ) → (left % 2 ≡ 1 → ⊥) → next ≡ r → Powered count (k + 1) (left / 2) next
   powered_zero next other e =
-      let below = below in
       let none : left % 2 ≡ 0 = omega arith in
       let same : done.gone ≡ done.gone + left % 2 * 2 ^ k = rw (none) (omega arith) in
       record {
@@ -197,8 +179,10 @@ module _ (count k left r : ℕ) (done : Powered count k left r) (some : 0 < left
         holds = e ∙ done.holds ∙ ap (λ (g : ℕ). shifted (64 * g)) same;
       }
 
-pub powered_all : (count k left r : ℕ) → Powered count k left r → left ≤ 0 → r ≡ shifted (64 * count)
+pub powered_all : (count k left r : ℕ) → Powered count k left r → 25 ≤ k → r ≡ shifted (64 * count)
 powered_all count k left r done h =
+    let gone : 25 - k ≡ 0 = omega (arith, done.within) in
+    let few : left < 1 = rw gone at done.small in
     let none : left ≡ 0 = omega arith in
     let all : done.gone ≡ count = omega (arith, rw none at done.sum, zero-mul (2 ^ k)) in
     done.holds ∙ ap (λ (g : ℕ). shifted (64 * g)) all

@@ -16,6 +16,7 @@ mod table;
 
 use crate::product::{product, shifted};
 use crate::table::{absorb_by_table, table, table_step};
+use std::array;
 
 // A lane has at most so many words of eight bytes: one less than 2^25. In a file of 2^30 bytes it has 2^24.
 const MOST_WORDS: usize = 33554431;
@@ -24,40 +25,33 @@ const MOST_WORDS: usize = 33554431;
 fn words_of(length: usize) -> usize
     ensures { (64 * result ≤ length) × (result < 2 ^ 25) }
 {
-    let words = length / 64;
-    if words < MOST_WORDS {
-        return words;
-    }
-    MOST_WORDS
+    (length / 64).min(MOST_WORDS)
 }
 
-// Eight bytes of each lane, from `at` on, are put into its register as a little-endian word.
+// The eight bytes from `from` on are put into a register as a little-endian word.
+fn put_word(register: u64, bytes: &[u8], from: usize) -> u64
+    requires { from + 8 ≤ length bytes.now }
+    ensures { result ≡ bit_xor register (little_endian (part bytes.now from 8)) }
+{
+    register ^ endian::le64(&bytes[from..from + 8])
+}
+
+// Eight bytes of each lane, from `at` on, are put into its register.
+#[tactic(auto, unfolding(crate::specs::Lanes::Eight))]
 fn put_words(registers: [u64; 8], bytes: &[u8], n: usize, at: usize) -> [u64; 8]
     requires { (at + 8 ≤ n) × (8 * n ≤ length bytes.now) }
     ensures { Eight (λ (j : ℕ). bit_xor (get_or registers j 0) (little_endian (part bytes.now (n * j + at) 8))) result }
 {
-    let mut next = registers;
-    let mut j: usize = 0;
-    while j < 8 {
-        let from = n * j + at;
-        next[j] = registers[j] ^ endian::le64(&bytes[from..from + 8]);
-        j += 1;
-    }
-    next
+    array::from_fn(|j| put_word(registers[j], bytes, n * j + at))
 }
 
 // Eight bits leave each register.
+#[tactic(auto, unfolding(crate::specs::Lanes::Eight))]
 fn byte_steps(table: &[u64; 256], registers: [u64; 8]) -> [u64; 8]
     requires { is_table table.now ≡ true }
     ensures { Eight (λ (j : ℕ). bit_steps 8 (get_or registers j 0)) result }
 {
-    let mut next = registers;
-    let mut j: usize = 0;
-    while j < 8 {
-        next[j] = table_step(table, registers[j]);
-        j += 1;
-    }
-    next
+    array::from_fn(|j| table_step(table, registers[j]))
 }
 
 // Sixty-four bits leave each register.
@@ -66,11 +60,9 @@ fn word_steps(table: &[u64; 256], registers: [u64; 8]) -> [u64; 8]
     ensures { Eight (λ (j : ℕ). bit_steps 64 (get_or registers j 0)) result }
 {
     let mut r = registers;
-    let mut i: usize = 0;
-    while i < 8 {
+    for _ in 0..8u8 {
         let next = byte_steps(table, r);
         r = next;
-        i += 1;
     }
     r
 }
@@ -82,11 +74,9 @@ fn registers_of(table: &[u64; 256], register: u64, bytes: &[u8], count: usize) -
 {
     let n = 8 * count;
     let mut r = [register, 0, 0, 0, 0, 0, 0, 0];
-    let mut i: usize = 0;
-    while i < count {
+    for i in 0..count {
         let next = word_steps(table, put_words(r, bytes, n, 8 * i));
         r = next;
-        i += 1;
     }
     r
 }
@@ -96,10 +86,8 @@ fn join(c: u64, registers: [u64; 8]) -> u64
     ensures { result ≡ joined c registers 7 }
 {
     let mut r = registers[0];
-    let mut j: usize = 0;
-    while j < 7 {
-        j += 1;
-        r = product(c, r) ^ registers[j];
+    for next in &registers[1..] {
+        r = product(c, r) ^ *next;
     }
     r
 }
@@ -110,7 +98,7 @@ pub fn absorb_by_lanes(register: u64, bytes: &[u8]) -> u64
 {
     let count = words_of(bytes.len());
     let table = table();
-    let registers = registers_of(&table, register, bytes, count);
+    let registers = registers_of(table, register, bytes, count);
     let r = join(shifted(count), registers);
-    absorb_by_table(&table, r, &bytes[64 * count..])
+    absorb_by_table(table, r, &bytes[64 * count..])
 }

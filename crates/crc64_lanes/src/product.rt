@@ -34,10 +34,10 @@ const POWERS: [u64; 25] = [
 ];
 
 // The powers, each right by one test over all of them.
-fn powers() -> [u64; 25]
-    ensures { products.are_powers result ≡ true }
+fn powers() -> &'static [u64; 25]
+    ensures { products.are_powers result.now ≡ true }
 {
-    POWERS
+    &POWERS
 }
 
 // The product of two registers.
@@ -46,11 +46,9 @@ pub fn product(a: u64, b: u64) -> u64
 {
     let mut r: u64 = 0;
     let mut left = b;
-    let mut i: usize = 0;
-    while i < 64 {
+    for _ in 0..64u8 {
         r = (r / 2) ^ (r % 2 * POLYNOMIAL) ^ (left % 2 * a);
         left /= 2;
-        i += 1;
     }
     r
 }
@@ -60,18 +58,13 @@ pub fn shifted(count: usize) -> u64
     requires { count < 2 ^ 25 }
     ensures { result ≡ products.shifted (64 * count) }
 {
-    let powers = powers();
     let mut r: u64 = 0x8000_0000_0000_0000;
     let mut left = count;
-    let mut k: usize = 0;
-    while 0 < left {
-        r = if left % 2 == 1 {
-            product(powers[k], r)
-        } else {
-            r
-        };
+    for power in powers() {
+        if left % 2 == 1 {
+            r = product(*power, r);
+        }
         left /= 2;
-        k += 1;
     }
     r
 }

@@ -264,11 +264,11 @@ const TABLE: [u64; 256] = [
     0xe0ad_a173_6467_3f59,
 ];
 
-// The table, for a local of the caller.
-pub fn table() -> [u64; 256]
-    ensures { is_table result ≡ true }
+// The table, right by one test over the whole.
+pub fn table() -> &'static [u64; 256]
+    ensures { is_table result.now ≡ true }
 {
-    TABLE
+    &TABLE
 }
 
 // Eight bits leave the register by one entry of the table.
@@ -284,11 +284,7 @@ pub fn absorb_by_table(table: &[u64; 256], register: u64, bytes: &[u8]) -> u64
     requires { is_table table.now ≡ true }
     ensures { result ≡ crc.register register bytes.now }
 {
-    let mut r = register;
-    let mut i = 0;
-    while i < bytes.len() {
-        r = table_step(table, r ^ (bytes[i] as u64));
-        i += 1;
-    }
-    r
+    bytes
+        .iter()
+        .fold(register, |r, b| table_step(table, r ^ (*b as u64)))
 }

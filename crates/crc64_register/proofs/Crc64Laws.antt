@@ -1,16 +1,15 @@
 -- Laws of the CRC-64 register and checksum.
 -- Assumes nothing.
-use mathlib.Core.Path.{◌≡◌, refl, sym, ap, ◌∙◌}
+use mathlib.Core.Path.{◌≡◌, refl, ap, ◌∙◌}
 use mathlib.Core.List.{List, [], ◌∷◌, ◌++◌}
-use Prim.Native.Nat.{ℕ, zero, suc, ◌+◌, ◌*◌, ◌/◌, ◌%◌, ◌^◌, ◌≤◌, ◌<◌}
+use Prim.Native.Nat.{ℕ, zero, suc, ◌+◌, ◌*◌, ◌/◌, ◌%◌, ◌^◌, ◌<◌}
 use native.Mathlib.Nat.{zero-mul}
 use native.Mathlib.Numerals.{add-one}
 use native.Mathlib.Omega.{arith}
 use Rattle.std.specs.List.{fold}
 use lib.Bits.{bit_xor, xor_lt, xor_zero_r}
 use lib.Dec.{lit<}
-use lib.ListN.{length, get_or, take, drop, take-append-drop}
-use lib.Seq.{take-suc, take_all}
+use lib.ListN.{take, drop, take-append-drop}
 use Rattle.part.specs.Bytes.{AreBytes}
 use Rattle.crc64_register.specs.Crc64.{reversed, polynomial, all_ones, bit_step, bit_steps, byte_step, register_start, register, crc_of, crc64}
 
@@ -60,11 +59,6 @@ unfolding register
 register_fold r [] = refl
 register_fold r (b ∷ s) = register_fold (byte_step r b) s
 
--- one byte more goes in
-pub register-take : (r : ℕ) (s : List ℕ) (i : ℕ) → i < length s → register r (take (i + 1) s) ≡ byte_step (register r (take i s)) (get_or s i 0)
-unfolding register
-register-take r s i h = rw (add-one i, take-suc s i 0, register-append)
-
 -- the string may be parted at any place
 pub register_split : (r : ℕ) (s : List ℕ) (i : ℕ) → register r s ≡ register (register r (take i s)) (drop i s)
 register_split r s i = rw (← register-append, take-append-drop)
@@ -73,26 +67,6 @@ register_split r s i = rw (← register-append, take-append-drop)
 pub crc64-append : (s t : List ℕ) → crc64 (s ++ t) ≡ crc_of (register (register register_start s) t)
 unfolding crc64
 crc64-append s t = ap crc_of (register-append register_start s t)
-
--- ---- the loop over the bytes
-
--- r is the register `start` with the first i bytes of s gone in
-pub record Taken (start : ℕ) (s : List ℕ) (i r : ℕ) : Type 0 where
-  pub within : i ≤ length s
-  pub holds : r ≡ register start (take i s)
-
--- at first no byte has gone in
-pub taken_none : (start : ℕ) (s : List ℕ) (i r : ℕ) → i ≡ 0 → r ≡ start → Taken start s i r
-unfolding register
-taken_none start s i r e h = record { within = omega arith; holds = rw (e, h) }
-
--- the next byte goes in
-pub taken_more : (start : ℕ) (s : List ℕ) (i r next : ℕ) → Taken start s i r → i < length s → next ≡ byte_step r (get_or s i 0) → Taken start s (i + 1) next
-taken_more start s i r next done h e = record { within = omega arith; holds = rw (e, done.holds) (sym (register-take start s i h)) }
-
--- with all bytes gone in, the register is the one after the string
-pub taken_all : (start : ℕ) (s : List ℕ) (i r : ℕ) → Taken start s i r → length s ≤ i → r ≡ register start s
-taken_all start s i r done h = done.holds ∙ rw (take_all i s h)
 
 -- ---- the three steps of the checksum
 

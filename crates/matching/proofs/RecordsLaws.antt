@@ -19,7 +19,7 @@ use Rattle.matching.specs.Matching.{matching, records_from}
 use Rattle.matching.specs.ResultList.{with_record, Stored, put, put_all}
 use Rattle.matching.proofs.MatchLaws.{matching_nil, matching_kept, matching_passed}
 use Rattle.matching.proofs.ResultListLaws.{length-with_record}
-use Rattle.matching.proofs.CollectLaws.{Collected, collected_more, collected_end, collected_refused}
+use Rattle.matching.proofs.CollectLaws.{Collected, collected_more, collected_stopped}
 
 -- where a byte string that was read lies
 pub text_bounds : (place : ℕ) (s : List ℕ) (at start n : ℕ) → text_at place s at ≡ answer (record { item = text_in s start n; next = start + n })
@@ -35,7 +35,7 @@ module _ (s : List ℕ) (from : ℕ) (q : Query) (first : Stored) where
   RecordsCollected at stored = Collected (λ place. text_at place s) (λ r. r ∷ []) q (length s) from first at stored
 
   -- the record at `at` was read: it begins at `start` and has n bytes
-  module _ (at : ℕ) (stored : Stored) (p : RecordsCollected at stored) (h : at < length s) (start n : ℕ)
+  module _ (at : ℕ) (stored : Stored) (p : RecordsCollected at stored) (start n : ℕ)
       (e : (place : ℕ) → text_at place s at ≡ answer (record { item = text_in s start n; next = start + n })) where
     -- a record that matches is put
     pub records_kept : matches q (part s start n) ≡ true
@@ -46,7 +46,8 @@ module _ (s : List ℕ) (from : ℕ) (q : Query) (first : Stored) where
         let b = text_bounds 0 s at start n (e 0) in
         let few = p.few in
         let forward = b.0 in
-        collected_more (λ place. text_at place s) (λ r. r ∷ []) q (length s) from first at stored p h
+        let within = b.1 in
+        collected_more (λ place. text_at place s) (λ r. r ∷ []) q (length s) from first at stored p (omega arith)
         (record { item = text_in s start n; next = start + n }) e (omega arith)
         (record { count = stored.count + 1; list = list })
         (ap (λ (l : List ℕ). record { count = stored.count + 1; list = l })
@@ -63,7 +64,8 @@ module _ (s : List ℕ) (from : ℕ) (q : Query) (first : Stored) where
         let b = text_bounds 0 s at start n (e 0) in
         let few = p.few in
         let forward = b.0 in
-        collected_more (λ place. text_at place s) (λ r. r ∷ []) q (length s) from first at stored p h
+        let within = b.1 in
+        collected_more (λ place. text_at place s) (λ r. r ∷ []) q (length s) from first at stored p (omega arith)
         (record { item = text_in s start n; next = start + n }) e (omega arith) stored
         (sym (ap (put_all stored) (matching_passed q (text_in s start n) [] m ∙ matching_nil q)))
         (omega arith)
@@ -76,12 +78,9 @@ module _ (s : List ℕ) (from : ℕ) (q : Query) (first : Stored) where
   unfolding records_from
   all_records place stored e = e ∙ ap (λ rs. put_all first (matching q rs)) (each-once (sound_from (text_at place s) (length s) (length s - from) from))
 
-  pub records_end : (at : ℕ) (stored : Stored) → RecordsCollected at stored → length s ≤ at → (place : ℕ)
+  -- nothing is left to put where no record can be read, at the end or before
+  pub records_end : (at : ℕ) (stored : Stored) → RecordsCollected at stored → (place number : ℕ) → text_at place s at ≡ refused number place
       → stored ≡ put_all first (matching q (records_from place s from))
-  records_end at stored p h place = all_records place stored (collected_end (λ place. text_at place s) (λ r. r ∷ []) q (length s) from first at stored p h place)
-
-  pub records_refused : (at : ℕ) (stored : Stored) → RecordsCollected at stored → at < length s
-      → (place number : ℕ) → text_at place s at ≡ refused number place → stored ≡ put_all first (matching q (records_from place s from))
-  records_refused at stored p h place number e =
+  records_end at stored p place number e =
       all_records place stored
-      (collected_refused (λ place. text_at place s) (λ r. r ∷ []) q (length s) from first at stored p h place number place e)
+      (collected_stopped (λ place. text_at place s) (λ r. r ∷ []) q (length s) from first at stored p place number place e)

@@ -3,6 +3,8 @@
 use mathlib.Core.Path.{◌≡◌, refl, sym, ap, ◌∙◌}
 use mathlib.Core.Bool.{Bool, true, false, cond}
 use mathlib.Core.List.{List, ◌++◌, append_assoc}
+use Rattle.std.specs.Prelude.{Option, Some, None}
+use Rattle.std.specs.Bool.{then_some}
 use Prim.Native.Nat.{ℕ, zero, suc, ◌+◌, ◌-◌, ◌≤◌, ◌<◌}
 use native.Mathlib.Nat.{add_assoc, sub-zero, zero-sub, suc-sub-suc}
 use native.Mathlib.Numerals.{add-one}
@@ -16,7 +18,7 @@ use Rattle.std.proofs.lemmas.Slice.{put_mid-paste}
 use Rattle.std.proofs.lemmas.List.Edits.{paste_all}
 use Rattle.output_list.specs.OutputList.{padded, zeros}
 use Rattle.output_list.proofs.OutputListLaws.{zeros-replicate, padded-append, length-padded, take-padded, drop-padded}
-use Rattle.output_bytes.specs.OutputBytes.{bytes_fit, stored, stored_length}
+use Rattle.output_bytes.specs.OutputBytes.{bytes_fit, stored, stored_length, stored_size}
 
 pub fits_some : (o : List ℕ) (at : ℕ) (s : List ℕ) → at + length s ≤ length o → bytes_fit o at s ≡ true
 unfolding bytes_fit
@@ -185,18 +187,18 @@ pub stored_whole : (o : List ℕ) (at : ℕ) (s : List ℕ) → at + length s �
 unfolding stored_length
 stored_whole o at s h e = rw (fits_some o at s h) at e
 
-pub stored_length_some : (o : List ℕ) (at : ℕ) (s : List ℕ) {n : ℕ} → n ≡ stored_length o at s → (n ≡ 0 → ⊥) → (n ≡ length s) × (at + length s ≤ length o)
-unfolding stored_length bytes_fit
-stored_length_some o at s {n} e some = go (leb (at + length s) (length o)) refl e
+pub stored_size_some : (o : List ℕ) (at : ℕ) (s : List ℕ) {n : ℕ} → Some n ≡ stored_size o at s → (n ≡ length s) × (at + length s ≤ length o)
+unfolding stored_size bytes_fit
+stored_size_some o at s {n} e = go (leb (at + length s) (length o)) refl e
   where
-    go : (b : Bool) → leb (at + length s) (length o) ≡ b → n ≡ cond b (length s) 0 → (n ≡ length s) × (at + length s ≤ length o)
-    go true t f = (f, leb-true (at + length s) (length o) t)
-    go false t f = absurd (some f)
+    go : (b : Bool) → leb (at + length s) (length o) ≡ b → Some n ≡ then_some b (length s) → (n ≡ length s) × (at + length s ≤ length o)
+    go true t f = (cc, leb-true (at + length s) (length o) t)
+    go false t f = cc
 
-pub stored_length_none : (o : List ℕ) (at : ℕ) (s : List ℕ) {n : ℕ} → n ≡ stored_length o at s → n ≡ 0 → 0 < length s → length o < at + length s
-unfolding stored_length bytes_fit
-stored_length_none o at s {n} e none some = go (leb (at + length s) (length o)) refl e
+pub stored_size_none : (o : List ℕ) (at : ℕ) (s : List ℕ) → None ≡ stored_size o at s → length o < at + length s
+unfolding stored_size bytes_fit
+stored_size_none o at s e = go (leb (at + length s) (length o)) refl e
   where
-    go : (b : Bool) → leb (at + length s) (length o) ≡ b → n ≡ cond b (length s) 0 → length o < at + length s
-    go true t f = absurd (omega arith)
+    go : (b : Bool) → leb (at + length s) (length o) ≡ b → None ≡ then_some b (length s) → length o < at + length s
+    go true t f = cc
     go false t f = leb-false (at + length s) (length o) t

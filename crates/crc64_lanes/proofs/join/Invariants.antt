@@ -1,12 +1,7 @@
--- `join` meets its contract. The loop's invariant: r is the registers 0 to j as one.
--- Assumes nothing.
-use mathlib.Core.Path.{◌≡◌}
-use Prim.Native.Nat.{◌≤◌, ◌-◌}
+-- The loop's invariant: r is the registers up to the index as one.
+use Rattle.std.proofs.Common.{◌≡◌}
 use Rattle.crc64_lanes.specs.Lanes.{joined}
 use Rattle.crc64_lanes.proofs.join.Given as goal
 
-abbrev pub invariant-loop-j : goal.invariant-loop-j
-invariant-loop-j l = (l.j ≤ 7) × (l.r ≡ joined l.c l.registers l.j)
-
-abbrev pub decreases-loop-j : goal.decreases-loop-j
-decreases-loop-j l = 7 - l.j
+abbrev pub invariant-loop-next : goal.invariant-loop-next
+invariant-loop-next l = l.r ≡ joined l.c l.fn.registers l.next-index

@@ -1,11 +1,6 @@
--- `product` meets its contract. The loop's invariant: with i bits of b gone, those that are left lead from r to the product.
--- Assumes nothing.
-use Prim.Native.Nat.{◌-◌}
+-- The loop's invariant: with as many bits of b gone as turns are made, those that are left lead from r to the product.
 use Rattle.crc64_lanes.proofs.ProductLaws.{Multiplied}
 use Rattle.crc64_lanes.proofs.product.product.Given as goal
 
-abbrev pub invariant-loop-i : goal.invariant-loop-i
-invariant-loop-i l = Multiplied l.a l.b l.i l.r l.left
-
-abbrev pub decreases-loop-i : goal.decreases-loop-i
-decreases-loop-i l = 64 - l.i
+abbrev pub invariant-loop : goal.invariant-loop
+invariant-loop l = Multiplied l.a l.b l.counter l.r l.left

@@ -1,16 +1,13 @@
-use Prim.Native.Nat.{◌-◌}
-use native.Mathlib.Omega.{arith}
-use Rattle.crc64_register.specs.Crc64.{byte_step}
-use Rattle.crc64_register.proofs.Crc64Laws.{taken_none, taken_more, taken_all}
+-- `absorb_by_table` meets its contract: `register` is the fold of the step over the bytes. Assumes nothing.
+use Rattle.std.proofs.Common.{rules, ◌≡◌, ◌∙◌, ℕ}
+use Rattle.std.specs.List.{fold}
+use lib.Bits.{bit_xor}
+use Rattle.crc64_register.specs.Crc64.{byte_step, bit_steps}
+use Rattle.crc64_register.proofs.Crc64Laws.{register_fold}
 use Rattle.crc64_lanes.proofs.table.absorb_by_table.Goals as goal
 
-pub loop-i-init : goal.loop-i-init
-loop-i-init c = taken_none _ _ _ _ (omega arith) (omega arith)
-
-pub loop-i-preserved : goal.loop-i-preserved
-unfolding byte_step
-loop-i-preserved c =
-    taken_more _ _ _ _ _ c.loop-i.invariant (omega arith) c.table_step-r.ensures
-
 pub returns : goal.returns
-returns c = taken_all _ _ _ _ c.loop-i.invariant (omega arith)
+unfolding byte_step
+returns c =
+    let folded : c.fold.result ≡ fold (λ (r b : ℕ). bit_steps 8 (bit_xor r b)) c.args.register c.args.bytes.now = search rules in
+    folded ∙ register_fold c.args.register c.args.bytes.now

@@ -3,7 +3,6 @@
 use mathlib.Core.Path.{sym}
 use native.Mathlib.Omega.{arith}
 use lib.Seq.{length-take-le}
-use Rattle.outcome.specs.Fault.{number}
 use Rattle.payload.specs.Answers.{entry_said, entry_in, KeyWithin}
 use Rattle.search.specs.Steps.{ChildStays, ChildSaid}
 use Rattle.search.proofs.ChildLaws.{entries_none, child_within, is_child}

@@ -1,7 +1,7 @@
 -- `fitting_block` meets its contract: size and level, then the block in the frame.
 -- Assumes nothing.
 use mathlib.Core.Path.{sym}
-use Rattle.outcome.specs.Fault.{number, said_at, said}
+use Rattle.outcome.specs.Fault.{said_at, said}
 use Rattle.search.proofs.OpeningLaws.{fitting_size, fitting_low, fitting_high, fitting_unsound, fitting_sound}
 use Rattle.search.proofs.opening.fitting_block.Goals as goal
 

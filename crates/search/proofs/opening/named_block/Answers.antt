@@ -1,7 +1,7 @@
 -- `named_block` meets its contract: the offset, the frame there, then the block in it.
 -- Assumes nothing.
 use mathlib.Core.Path.{sym}
-use Rattle.outcome.specs.Fault.{number, said_at, said}
+use Rattle.outcome.specs.Fault.{said_at, said}
 use Rattle.search.proofs.OpeningLaws.{frame_within, named_before, named_after, named_unsound, named_sound}
 use Rattle.search.proofs.opening.named_block.Goals as goal
 
