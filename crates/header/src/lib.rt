@@ -74,6 +74,30 @@ impl Header {
     }
 }
 
+// The number of 8 bytes at an offset.
+#[tactic(auto, unfolding(crate::specs::Header::field_at, part::specs::Part::part))]
+fn field(file: &[u8], at: usize) -> u64
+    ensures { result ≡ header.field_at file.now at }
+{
+    endian::le64_at(file, at)
+}
+
+// H, the length of the header data.
+#[tactic(auto, unfolding(crate::specs::Header::H))]
+fn extent(file: &[u8]) -> u64
+    ensures { result ≡ header.H file.now }
+{
+    field(file, Header::EXTENT_AT)
+}
+
+// M, the length of the metadata.
+#[tactic(auto, unfolding(crate::specs::Header::M))]
+fn metadata_length(file: &[u8]) -> u64
+    ensures { result ≡ header.M file.now }
+{
+    field(file, Header::METADATA_LENGTH_AT)
+}
+
 // Whether the file begins with the magic of an unfinished one.
 fn is_unfinished(file: &[u8]) -> bool
     ensures { result ≡ begins header.unfinished_magic file.now }
@@ -89,20 +113,20 @@ pub fn has_magic(file: &[u8]) -> bool
 }
 
 // Whether the header data and their CRC lie within the file.
-#[tactic(auto, unfolding(crate::specs::Header::H, crate::specs::Header::field_at, part::specs::Part::part), using(crate::proofs::RuleLaws::header_rules))]
+#[tactic(auto, using(crate::proofs::RuleLaws::header_rules))]
 pub fn holds_header(file: &[u8]) -> bool
     ensures { result ≡ header.holds_header file.now }
 {
-    Header::AROUND <= file.len() && endian::le64_at(file, Header::EXTENT_AT) <= (file.len() - Header::AROUND) as u64
+    Header::AROUND <= file.len() && extent(file) <= (file.len() - Header::AROUND) as u64
 }
 
 // The header, or the first of the refusals 5 to 9, which look at the header data.
-#[tactic(auto, unfolding(outcome::specs::Fault::said_at, outcome::specs::Fault::number, crate::specs::Header::H, crate::specs::Header::field_at, part::specs::Part::part), using(crate::proofs::RuleLaws::data_rules))]
+#[tactic(auto, unfolding(outcome::specs::Fault::said_at, outcome::specs::Fault::number), using(crate::proofs::RuleLaws::data_rules))]
 fn data(file: &[u8]) -> Result<Header, Fault>
     requires { header.holds_header file.now ≡ true }
     ensures { said_at 0 result ≡ header.data_of file.now }
 {
-    let end = Header::DATA_AT + endian::le64_at(file, Header::EXTENT_AT) as usize;
+    let end = Header::DATA_AT + extent(file) as usize;
     if !crc_right(file, Header::DATA_AT, end) {
         return Err(Fault::HeaderCrc);
     }
@@ -113,12 +137,12 @@ fn data(file: &[u8]) -> Result<Header, Fault>
 }
 
 // Whether the header data hold every field and the metadata.
-#[tactic(auto, unfolding(crate::specs::Header::H, crate::specs::Header::M, crate::specs::Header::field_at, part::specs::Part::part), using(crate::proofs::RuleLaws::room_rules))]
+#[tactic(auto, using(crate::proofs::RuleLaws::room_rules))]
 fn holds_metadata(file: &[u8]) -> bool
     ensures { result ≡ header.holds_metadata file.now }
 {
-    let extent = endian::le64_at(file, Header::EXTENT_AT);
-    Header::LEAST_EXTENT <= extent && endian::le64_at(file, Header::METADATA_LENGTH_AT) <= extent - Header::LEAST_EXTENT
+    let extent = extent(file);
+    Header::LEAST_EXTENT <= extent && metadata_length(file) <= extent - Header::LEAST_EXTENT
 }
 
 // The metadata rule: the first byte `{`, the last `}`, UTF-8, and one JSON object.
@@ -126,7 +150,10 @@ fn holds_metadata(file: &[u8]) -> bool
 pub fn is_metadata(bytes: &[u8]) -> bool
     ensures { result ≡ is_metadata bytes.now }
 {
-    bytes.starts_with(b"{") && bytes.ends_with(b"}") && utf8::is_utf8(bytes) && json_text::is_object(bytes)
+    bytes.starts_with(b"{")
+        && bytes.ends_with(b"}")
+        && utf8::is_utf8(bytes)
+        && json_text::is_object(bytes)
 }
 
 // Whether the rest of the file from the codec on begins with the codec `none`.
@@ -137,7 +164,7 @@ fn has_codec(rest: &[u8]) -> bool
 }
 
 // The header, or the first of the refusals 7 to 9.
-#[tactic(auto, unfolding(outcome::specs::Fault::said_at, outcome::specs::Fault::number, crate::specs::Header::H, crate::specs::Header::M, crate::specs::Header::field_at, crate::specs::Header::header_numbers, part::specs::Part::part), using(crate::proofs::RuleLaws::field_rules))]
+#[tactic(auto, unfolding(outcome::specs::Fault::said_at, outcome::specs::Fault::number), using(crate::proofs::RuleLaws::field_rules))]
 fn fields(file: &[u8]) -> Result<Header, Fault>
     requires { (header.holds_header file.now ≡ true) × (header.holds_metadata file.now ≡ true) }
     ensures { said_at 0 result ≡ header.fields_of file.now }
@@ -145,10 +172,10 @@ fn fields(file: &[u8]) -> Result<Header, Fault>
     if !has_codec(&file[Header::CODEC_AT..]) {
         return Err(Fault::Codec);
     }
-    if endian::le64_at(file, Header::TOTAL_AT) != file.len() as u64 {
+    if field(file, Header::TOTAL_AT) != file.len() as u64 {
         return Err(Fault::FileLength);
     }
-    let metadata = endian::le64_at(file, Header::METADATA_LENGTH_AT);
+    let metadata = metadata_length(file);
     let text = Part {
         offset: Header::METADATA_AT,
         length: metadata as usize,
@@ -156,16 +183,17 @@ fn fields(file: &[u8]) -> Result<Header, Fault>
     if !is_metadata(text.of(file)) {
         return Err(Fault::Metadata);
     }
-    let blocks = Header::AROUND + endian::le64_at(file, Header::EXTENT_AT) as usize;
+    let blocks = Header::AROUND + extent(file) as usize;
     Ok(Header {
         blocks,
-        root: endian::le64_at(file, Header::ROOT_AT),
-        rootsize: endian::le64_at(file, Header::ROOT_SIZE_AT),
+        root: field(file, Header::ROOT_AT),
+        rootsize: field(file, Header::ROOT_SIZE_AT),
         metadata,
     })
 }
 
 // Where the metadata lie: M bytes from 96 on where the header is sound, else no bytes at 0.
+#[tactic(auto, unfolding(outcome::specs::Fault::said_at, crate::specs::MetadataPart::metadata_in, crate::specs::MetadataPart::metadata_part))]
 pub fn metadata(file: &[u8]) -> Part
     ensures { result ≡ metadata_part file.now }
 {
