@@ -18,7 +18,8 @@ use Rattle.payload.specs.Payload.{Text, payload_at, records_at, entries_at}
 use Rattle.payload.proofs.ReadLaws.{payload⁻¹}
 use Rattle.block.specs.Block.{Block, is_data, is_ordinary, block_in, block_at}
 use Rattle.payload.specs.Answers.{counted}
-use Rattle.block.specs.Answers.{Tallied, tallied}
+use Rattle.block.specs.declared.Tallied.{Tallied}
+use Rattle.block.specs.Answers.{tallied}
 use Rattle.framing.proofs.FrameLaws.{Framed, frame⇒Framed, sound_frame⁻¹}
 
 -- ---- levels

@@ -8,6 +8,12 @@ use native.Mathlib.Omega.{arith}
 use lib.Dec.{leb}
 use lib.ListN.{length, length-append}
 use borrow.Author.Tests.{le-leb, lt-leb, eq-eqb, ne_eqb}
+use Rattle.std.specs.Prelude.{Result, Ok, Err}
+use Rattle.std.specs.Result.{MatchResult, IsErrAnd}
+use Rattle.std.proofs.lemmas.Result.{err_from_is_err_and}
+use Rattle.outcome.specs.declared.Fault.{Fault}
+use Rattle.outcome.specs.declared.Refusal.{Refusal}
+use Rattle.outcome.specs.Fault.{said_at, said}
 use Rattle.outcome.specs.Outcome.{answer, refused}
 use Rattle.lists.specs.Lists.{keep, any}
 use Rattle.outcome.proofs.OutcomeLaws.{answer_injective, bind_answer, bind_refused, bind⁻¹, map_refused⁻¹}
@@ -18,7 +24,8 @@ use Rattle.block.specs.declared.Survey.{Survey}
 use Rattle.payload.specs.Payload.{Text}
 use Rattle.block.specs.Block.{Block, is_ordinary, block_at, block_step, blocks_at}
 use Rattle.block.specs.Survey.{ordinary, records_of, is_root, surveyed, survey_of}
-use Rattle.block.specs.Answers.{Tallied, tallied}
+use Rattle.block.specs.declared.Tallied.{Tallied}
+use Rattle.block.specs.Answers.{tallied}
 use Rattle.framing.proofs.FrameLaws.{Framed}
 use Rattle.block.proofs.BlockLaws.{BlockRead, block⇒BlockRead}
 
@@ -70,6 +77,17 @@ at_most_one n true e = omega arith
 at_most_one n false e = omega arith
 
 -- ---- the pass
+
+-- a fault that gets its place
+pub placed : {A : Type 0} (Gives : Fault → Refusal → Type 0) (place : ℕ) (r : Result A Fault) (q : Result A Refusal)
+    → ((f : Fault) (x : Refusal) → Gives f x → x ≡ record { fault = f; place = place })
+    → MatchResult r (λ a. q ≡ Ok a) (λ f. IsErrAnd q (Gives f)) → said q ≡ said_at place r
+unfolding said said_at
+placed Gives place (Ok a) q given h = rw h
+placed Gives place (Err f) q given h =
+    let p = err_from_is_err_and q h in
+    let e = given f p.0 p.2 in
+    rw (p.1, e)
 
 -- a block whose tests were reported
 pub record Reported (file : List ℕ) (at : ℕ) (f : Frame) (n : ℕ) : Type 0 where

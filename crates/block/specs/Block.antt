@@ -4,15 +4,9 @@ use Rattle.outcome.specs.Outcome.{Outcome, answer, ◌>>=◌}
 use Rattle.items.specs.Items.{items_from}
 use Rattle.items.specs.declared.Step.{Step}
 use Rattle.framing.specs.declared.Frame.{Frame}
+unfoldable pub use Rattle.framing.specs.Frame.{is_data, is_ordinary}
 use Rattle.framing.specs.Frame.{sound_frame_at}
 use Rattle.payload.specs.Payload.{Text, Entry, records_at, entries_at}
-
--- level 0 is data, 1 to 63 index; both are ordinary, and higher levels are reserved
-unfoldable pub is_data : ℕ → Bool
-is_data level = eqb level 0
-
-unfoldable pub is_ordinary : ℕ → Bool
-is_ordinary level = leb level 63
 
 -- a block: its frame, and its records or its entries; a reserved block has neither, since its payload is ignored
 pub record Block : Type 0 where

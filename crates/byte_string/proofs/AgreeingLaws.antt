@@ -1,20 +1,27 @@
 -- The laws of `agreeing`: where two lists part, and what the answers are by what stands there.
 -- Assumes nothing.
-use Prim.Native.Nat.{Ordering}
-use Prim.Native.Nat.{ℕ, zero, suc, ◌+◌, ◌≤◌, ◌<◌, zero-le, suc-le-suc}
+use Prim.Native.Nat.{ℕ, zero, suc, ◌+◌, ◌-◌, ◌≤◌, ◌<◌, zero-le, suc-le-suc}
 use native.Mathlib.Nat.{zero-add, not-suc-le-zero}
 use native.Mathlib.Numerals.{add-one}
 use native.Mathlib.Omega.{arith}
 use mathlib.Core.Path.{◌≡◌, refl, sym, ap, ◌∙◌}
 use mathlib.Core.Logic.{◌⊎◌, inl, inr}
 use mathlib.Core.Bool.{◌&&◌}
-use mathlib.Core.List.{List, [], ◌∷◌}
-use lib.Dec.{eqb, leb, leb-zero, leb-suc-zero, leb-suc-suc}
-use lib.ListN.{length, get_or, take, drop, drop_of_length-le}
-use lib.Seq.{drop-cons, drop-drop, get_or-take}
+use mathlib.Core.List.{List, [], ◌∷◌, ◌++◌}
+use lib.Dec.{eqb, ltb, leb, leb-zero, leb-suc-zero, leb-suc-suc}
+use lib.ListN.{length, length-append, length-drop, get_or, take, drop, drop_of_length-le}
+use lib.Seq.{take_all, take-append_seam, drop-append_seam, drop-cons, drop-drop, get_or-take}
 use borrow.Author.Tests.{eq-eqb, ne_eqb}
+use Rattle.std.proofs.Common.{Less, Equal, Greater, Option, Some, None}
+use Rattle.std.specs.Option.{is_some, unwrap_or, option_map, option_cmp}
+use Rattle.std.specs.Borrow.{Bor}
+use Rattle.std.proofs.Common.{Bool, true, false, cond, take_while, zip, ◌==◌}
+use Rattle.std.specs.List.{prefix_len}
+use Rattle.std.proofs.lemmas.List.Folds.{length-prefix_len}
+use Rattle.std.specs.Ordering.{nat_cmp}
+use Rattle.std.proofs.lemmas.Bool.Decides.{nat_tests}
 use Rattle.byte_string.specs.Order.{order, begins, agreeing}
-use Rattle.byte_string.proofs.OrderLaws.{Ways, ways, order_below, order_same, order_above}
+use Rattle.byte_string.proofs.OrderLaws.{cmp_lt, cmp_gt, Ways, ways, order_below, order_same, order_above}
 
 -- A first element on both sides, and on one.
 
@@ -121,28 +128,35 @@ module _ (x y : List ℕ) (n : ℕ) (e : n ≡ agreeing x y) where
       let none : agreeing (drop n x) (drop n y) ≡ 0 = rw e (agreeing-drop x y) in
       omega (arith, agreeing_step x y n h k s)
 
-  pub order_both_ended : length x ≤ n → length y ≤ n → order x y ≡ Ordering.eq
+  pub order_both_ended : length x ≤ n → length y ≤ n → order x y ≡ Equal
   unfolding order
   order_both_ended h k = order_from ∙ rw (drop_of_length-le x h, drop_of_length-le y k)
 
-  pub order_left_ended : length x ≤ n → n < length y → order x y ≡ Ordering.lt
+  pub order_left_ended : length x ≤ n → n < length y → order x y ≡ Less
   unfolding order
   order_left_ended h k = order_from ∙ rw (drop_of_length-le x h, drop-cons y n 0 k)
 
-  pub order_right_ended : n < length x → length y ≤ n → order x y ≡ Ordering.gt
+  pub order_right_ended : n < length x → length y ≤ n → order x y ≡ Greater
   unfolding order
   order_right_ended h k = order_from ∙ rw (drop-cons x n 0 h, drop_of_length-le y k)
 
-  pub order_parted_below : n < length x → n < length y → get_or x n 0 < get_or y n 0 → order x y ≡ Ordering.lt
-  order_parted_below h k s = order_from ∙ rw (drop-cons x n 0 h, drop-cons y n 0 k) (order_below _ _ _ _ s)
-
-  pub order_parted_above : n < length x → n < length y → get_or y n 0 ≤ get_or x n 0 → order x y ≡ Ordering.gt
-  order_parted_above h k s = go (ways (get_or x n 0) (get_or y n 0))
+  -- where neither has ended, the elements decide
+  pub order_parted : n < length x → n < length y → order x y ≡ nat_cmp (get_or x n 0) (get_or y n 0)
+  order_parted h k = order_from ∙ rw (drop-cons x n 0 h, drop-cons y n 0 k) (go (ways (get_or x n 0) (get_or y n 0)))
     where
-      go : Ways (get_or x n 0) (get_or y n 0) → order x y ≡ Ordering.gt
-      go (inl w) = absurd (omega arith)
+      go : Ways (get_or x n 0) (get_or y n 0) → order (get_or x n 0 ∷ drop (suc n) x) (get_or y n 0 ∷ drop (suc n) y) ≡ nat_cmp (get_or x n 0) (get_or y n 0)
+      go (inl w) = order_below _ _ _ _ w ∙ sym (cmp_lt _ _ w)
       go (inr (inl w)) = absurd (parted h k w)
-      go (inr (inr w)) = order_from ∙ rw (drop-cons x n 0 h, drop-cons y n 0 k) (order_above _ _ _ _ w)
+      go (inr (inr w)) = order_above _ _ _ _ w ∙ sym (cmp_gt _ _ w)
+
+  -- what stands there in each, or nothing where it has ended
+  pub order_there : (r s : Option (Bor ℕ)) → is_some r ≡ ltb n (length x) → is_some s ≡ ltb n (length y)
+      → unwrap_or (option_map (λ b. b.now) r) 0 ≡ get_or x n 0 → unwrap_or (option_map (λ b. b.now) s) 0 ≡ get_or y n 0
+      → option_cmp (λ a b. nat_cmp a.now b.now) r s ≡ order x y
+  order_there None None p q e f = sym (order_both_ended (grind (arith, nat_tests)) (grind (arith, nat_tests)))
+  order_there None (Some b) p q e f = sym (order_left_ended (grind (arith, nat_tests)) (grind (arith, nat_tests)))
+  order_there (Some a) None p q e f = sym (order_right_ended (grind (arith, nat_tests)) (grind (arith, nat_tests)))
+  order_there (Some a) (Some b) p q e f = rw (e, f) (sym (order_parted (grind (arith, nat_tests)) (grind (arith, nat_tests))))
 
 -- x begins with p where they agree in all of p
 pub begins-agreeing : (p x : List ℕ) → begins p x ≡ leb (length p) (agreeing p x)
@@ -208,11 +222,52 @@ front_agreed (suc m) (a ∷ x) (b ∷ y) h = go (front_agreed m x y) (same_or_no
         omega (arith, agreeing-same a b x y e)
     go ih (inr n) = absurd (omega (arith, agreeing_differ a b (take m x) (take m y) n))
 
--- The loop that finds the place m elements at a time: k is how many of the m from n on agree.
+-- The loop that finds the place by chunks of eight: the next ones are a and b, of which the first k agree.
 
-pub agreed_parted : (x y : List ℕ) (n m k : ℕ) → k ≡ agreeing (take m (drop n x)) (take m (drop n y)) → k < m → Agreed x y n → n + k ≡ agreeing x y
-agreed_parted x y n m k e h i = omega (arith, front_parted m (drop n x) (drop n y) (rw e at h))
+-- a chunk is a front of what it comes from
+front_chunk : (a p z : List ℕ) → z ≡ a ++ p → length a ≡ 8 → take 8 z ≡ a
+front_chunk a p z e l = rw (e, ← l) (take-append_seam a p)
 
-pub agreed_front : (x y : List ℕ) (n m k : ℕ) → k ≡ agreeing (take m (drop n x)) (take m (drop n y)) → m ≤ k → Agreed x y n
-    → (next : ℕ) → next ≡ n + m → Agreed x y next
-agreed_front x y n m k e h i next s = rw (s, ← drop-drop m n x, ← drop-drop m n y) (omega (arith, front_agreed m (drop n x) (drop n y) (rw e at h)))
+-- it lies within
+pub chunk_within : (x a p : List ℕ) (n : ℕ) → n ≤ length x → drop n x ≡ a ++ p → length a ≡ 8 → n + 8 ≤ length x
+chunk_within x a p n h e l = omega (arith, ap length e, length-drop n x, length-append a p)
+
+-- what comes behind it
+pub behind_chunk : (x a p : List ℕ) (n : ℕ) → drop n x ≡ a ++ p → length a ≡ 8 → p ≡ drop (n + 8) x
+behind_chunk x a p n e l = sym (drop-append_seam a p) ∙ rw (l, ← e) (drop-drop 8 n x)
+
+module _ (x y : List ℕ) (n : ℕ) (a b p q : List ℕ) (ex : drop n x ≡ a ++ p) (ey : drop n y ≡ b ++ q) (la : length a ≡ 8) (lb : length b ≡ 8) where
+  chunks_agreeing : agreeing a b ≡ agreeing (take 8 (drop n x)) (take 8 (drop n y))
+  chunks_agreeing = rw (front_chunk a p (drop n x) ex la, front_chunk b q (drop n y) ey lb)
+
+  module _ (k : ℕ) (e : k ≡ agreeing a b) (i : Agreed x y n) where
+    pub chunk_parted : k < 8 → n + k ≡ agreeing x y
+    chunk_parted h = let c = chunks_agreeing in omega (arith, front_parted 8 (drop n x) (drop n y) (omega arith))
+
+    pub chunk_agreed : 8 ≤ k → Agreed x y (n + 8)
+    chunk_agreed h =
+        let c = chunks_agreeing in rw (← drop-drop 8 n x, ← drop-drop 8 n y) (omega (arith, front_agreed 8 (drop n x) (drop n y) (omega arith)))
+
+-- The pairs at the front whose parts are the same, counted.
+
+agreeing_pairs : (x y : List ℕ) → prefix_len (λ p. p.0 == p.1) (zip x y) ≡ agreeing x y
+unfolding agreeing
+agreeing_pairs [] y = refl
+agreeing_pairs (a ∷ x) [] = refl
+agreeing_pairs (a ∷ x) (b ∷ y) = rw (agreeing_pairs x y) (go (a == b))
+  where
+    go : (t : Bool) → cond t (1 + agreeing x y) 0 ≡ cond t (suc (agreeing x y)) 0
+    go true = omega arith
+    go false = refl
+
+pub agreeing_counted : (x y : List ℕ) → length (take_while (λ p. p.0 == p.1) (zip x y)) ≡ agreeing x y
+agreeing_counted x y = length-prefix_len (λ p. p.0 == p.1) (zip x y) ∙ agreeing_pairs x y
+
+-- the rests of both behind n elements that agree, as slices
+pub agreeing_rest : (x y : List ℕ) (n k : ℕ)
+    → k ≡ length (take_while (λ p. p.0 == p.1) (zip (take (length x - n) (drop n x)) (take (length y - n) (drop n y)))) → Agreed x y n → n + k ≡ agreeing x y
+agreeing_rest x y n k e i =
+    let rest-x : take (length x - n) (drop n x) ≡ drop n x = take_all _ _ (simp length-drop (omega arith)) in
+    let rest-y : take (length y - n) (drop n y) ≡ drop n y = take_all _ _ (simp length-drop (omega arith)) in
+    let whole : k ≡ agreeing (drop n x) (drop n y) = e ∙ rw (rest-x, rest-y) (agreeing_counted (drop n x) (drop n y)) in
+    omega arith

@@ -1,54 +1,45 @@
 -- The laws of `order`, `less` and `at_most`: a total order of lists of numbers, in which a proper beginning comes first.
 -- Assumes nothing.
-use Prim.Native.Nat.{ℕ, zero, suc, ◌<◌, compare, Ordering}
-use Prim.Native.Nat.compare
-use Prim.Native.Nat.{suc-le-suc, zero-le}
-use native.Mathlib.Nat.{not-suc-le-zero, le_of_suc-le-suc}
+use Prim.Native.Nat.{ℕ, zero, suc, ◌<◌, suc-le-suc, zero-le}
 use native.Mathlib.Omega.{arith}
 use mathlib.Core.Path.{◌≡◌, refl, sym, ap, ◌∙◌}
 use mathlib.Core.Logic.{◌⊎◌, inl, inr}
 use mathlib.Core.Bool.{Bool, true, false, not, false≢true}
 use mathlib.Core.List.{List, [], ◌∷◌, ◌++◌}
-use Rattle.byte_string.specs.Order.{or_else, order, is_less, is_more, less, at_most}
+use Rattle.std.proofs.Common.{Ordering, Less, Equal, Greater}
+use Rattle.std.specs.Ordering.{nat_cmp, is_lt, is_le, ordering_reverse}
+use Rattle.std.proofs.lemmas.Bool.Decides.{nat_tests}
+use Rattle.std.proofs.lemmas.Cmp.{nat_list_cmp_total, tied_itself}
+use Rattle.byte_string.specs.Order.{order, less, at_most}
 
 -- Three examples, computed.
 
 -- bytes are unsigned: 127 comes before 128
-pub unsigned : order (127 ∷ []) (128 ∷ []) ≡ Ordering.lt
-unfolding order or_else
+pub unsigned : order (127 ∷ []) (128 ∷ []) ≡ Less
+unfolding order
 unsigned = refl
 
 -- a proper beginning comes first
-pub beginning_first : order (97 ∷ []) (97 ∷ 98 ∷ []) ≡ Ordering.lt
-unfolding order or_else
+pub beginning_first : order (97 ∷ []) (97 ∷ 98 ∷ []) ≡ Less
+unfolding order
 beginning_first = refl
 
 -- the first difference decides, not the length
-pub difference_first : order (97 ∷ 98 ∷ []) (98 ∷ []) ≡ Ordering.lt
-unfolding order or_else
+pub difference_first : order (97 ∷ 98 ∷ []) (98 ∷ []) ≡ Less
+unfolding order
 difference_first = refl
 
 -- Two numbers.
 
--- `compare` goes by which of the two is below the other
-pub compare_lt : (a b : ℕ) → a < b → compare a b ≡ Ordering.lt
-compare_lt zero zero h = absurd (not-suc-le-zero h)
-compare_lt zero (suc b) h = compare.zero-suc b
-compare_lt (suc a) zero h = absurd (not-suc-le-zero h)
-compare_lt (suc a) (suc b) h = compare.suc-suc a b ∙ compare_lt a b (le_of_suc-le-suc h)
+-- `nat_cmp` goes by which of the two is below the other
+pub cmp_lt : (a b : ℕ) → a < b → nat_cmp a b ≡ Less
+cmp_lt a b h = grind (arith, nat_tests)
 
-compare_refl : (a : ℕ) → compare a a ≡ Ordering.eq
-compare_refl zero = compare.zero-zero
-compare_refl (suc a) = compare.suc-suc a a ∙ compare_refl a
+pub cmp_eq : (a b : ℕ) → a ≡ b → nat_cmp a b ≡ Equal
+cmp_eq a b e = grind (arith, nat_tests)
 
-pub compare_eq : (a b : ℕ) → a ≡ b → compare a b ≡ Ordering.eq
-compare_eq a b e = rw e (compare_refl b)
-
-pub compare_gt : (a b : ℕ) → b < a → compare a b ≡ Ordering.gt
-compare_gt zero zero h = absurd (not-suc-le-zero h)
-compare_gt zero (suc b) h = absurd (not-suc-le-zero h)
-compare_gt (suc a) zero h = compare.suc-zero a
-compare_gt (suc a) (suc b) h = compare.suc-suc a b ∙ compare_gt a b (le_of_suc-le-suc h)
+pub cmp_gt : (a b : ℕ) → b < a → nat_cmp a b ≡ Greater
+cmp_gt a b h = grind (arith, nat_tests)
 
 -- the first is below the second, is the second, or is above it
 abbrev pub Ways : ℕ → ℕ → Type 0
@@ -67,17 +58,17 @@ ways (suc a) (suc b) = go (ways a b)
 
 -- The three-way order, where both lists have a first element: it decides, or the rest does.
 
-pub order_below : (a b : ℕ) (x y : List ℕ) → a < b → order (a ∷ x) (b ∷ y) ≡ Ordering.lt
-unfolding order or_else
-order_below a b x y h = rw (compare_lt a b h)
+pub order_below : (a b : ℕ) (x y : List ℕ) → a < b → order (a ∷ x) (b ∷ y) ≡ Less
+unfolding order
+order_below a b x y h = rw (cmp_lt a b h)
 
 pub order_same : (a b : ℕ) (x y : List ℕ) → a ≡ b → order (a ∷ x) (b ∷ y) ≡ order x y
-unfolding order or_else
-order_same a b x y e = rw (compare_eq a b e)
+unfolding order
+order_same a b x y e = rw (cmp_eq a b e)
 
-pub order_above : (a b : ℕ) (x y : List ℕ) → b < a → order (a ∷ x) (b ∷ y) ≡ Ordering.gt
-unfolding order or_else
-order_above a b x y h = rw (compare_gt a b h)
+pub order_above : (a b : ℕ) (x y : List ℕ) → b < a → order (a ∷ x) (b ∷ y) ≡ Greater
+unfolding order
+order_above a b x y h = rw (cmp_gt a b h)
 
 -- a common beginning does not count
 pub order-append : (p x y : List ℕ) → order (p ++ x) (p ++ y) ≡ order x y
@@ -86,87 +77,52 @@ order-append (a ∷ p) x y = order_same a a (p ++ x) (p ++ y) refl ∙ order-app
 
 -- The three-way order is an order.
 
-pub order_refl : (x : List ℕ) → order x x ≡ Ordering.eq
+pub order_refl : (x : List ℕ) → order x x ≡ Equal
 unfolding order
-order_refl [] = refl
-order_refl (a ∷ x) = order_same a a x x refl ∙ order_refl x
+order_refl x = tied_itself nat_list_cmp_total x
 
 -- the answer for the operands swapped
-abbrev pub flip : Ordering → Ordering
-flip Ordering.lt = Ordering.gt
-flip Ordering.eq = Ordering.eq
-flip Ordering.gt = Ordering.lt
-
-pub order_flip : (x y : List ℕ) → order y x ≡ flip (order x y)
+pub order_flip : (x y : List ℕ) → order y x ≡ ordering_reverse (order x y)
 unfolding order
-order_flip [] [] = refl
-order_flip [] (b ∷ y) = refl
-order_flip (a ∷ x) [] = refl
-order_flip (a ∷ x) (b ∷ y) = go (order_flip x y) (ways a b)
-  where
-    go : order y x ≡ flip (order x y) → Ways a b → order (b ∷ y) (a ∷ x) ≡ flip (order (a ∷ x) (b ∷ y))
-    go ih (inl h) = order_above b a y x h ∙ ap flip (sym (order_below a b x y h))
-    go ih (inr (inl e)) = order_same b a y x (sym e) ∙ ih ∙ ap flip (sym (order_same a b x y e))
-    go ih (inr (inr h)) = order_below b a y x h ∙ ap flip (sym (order_above a b x y h))
+order_flip x y = nat_list_cmp_total.antisymm y x
 
 -- only equal lists compare as equal
-pub order_eq : (x y : List ℕ) → order x y ≡ Ordering.eq → x ≡ y
+pub order_eq : (x y : List ℕ) → order x y ≡ Equal → x ≡ y
 unfolding order
 order_eq [] [] e = refl
 order_eq [] (b ∷ y) e = cc
 order_eq (a ∷ x) [] e = cc
 order_eq (a ∷ x) (b ∷ y) e = go (order_eq x y) (ways a b)
   where
-    go : (order x y ≡ Ordering.eq → x ≡ y) → Ways a b → a ∷ x ≡ b ∷ y
+    go : (order x y ≡ Equal → x ≡ y) → Ways a b → a ∷ x ≡ b ∷ y
     go ih (inl h) = cc (order_below a b x y h)
     go ih (inr (inl s)) = rw (s, ih (sym (order_same a b x y s) ∙ e))
     go ih (inr (inr h)) = cc (order_above a b x y h)
 
 -- two comparisons in a row with the answer "less"
-order_trans_lt : (x y z : List ℕ) → order x y ≡ Ordering.lt → order y z ≡ Ordering.lt → order x z ≡ Ordering.lt
+order_trans_lt : (x y z : List ℕ) → order x y ≡ Less → order y z ≡ Less → order x z ≡ Less
 unfolding order
-order_trans_lt [] [] z p q = q
-order_trans_lt [] (b ∷ y) [] p q = cc
-order_trans_lt [] (b ∷ y) (c ∷ z) p q = refl
-order_trans_lt (a ∷ x) [] z p q = cc
-order_trans_lt (a ∷ x) (b ∷ y) [] p q = q
-order_trans_lt (a ∷ x) (b ∷ y) (c ∷ z) p q = go (order_trans_lt x y z) (ways a b) (ways b c)
-  where
-    go : (order x y ≡ Ordering.lt → order y z ≡ Ordering.lt → order x z ≡ Ordering.lt) → Ways a b → Ways b c → order (a ∷ x) (c ∷ z) ≡ Ordering.lt
-    go ih (inl h) (inl k) = order_below a c x z (omega arith)
-    go ih (inl h) (inr (inl k)) = order_below a c x z (omega arith)
-    go ih (inr (inl h)) (inl k) = order_below a c x z (omega arith)
-    go ih (inr (inl h)) (inr (inl k)) = order_same a c x z (h ∙ k) ∙ ih (sym (order_same a b x y h) ∙ p) (sym (order_same b c y z k) ∙ q)
-    go ih (inr (inr h)) w = cc (order_above a b x y h)
-    go ih (inl h) (inr (inr k)) = cc (order_above b c y z k)
-    go ih (inr (inl h)) (inr (inr k)) = cc (order_above b c y z k)
-
--- two comparisons in a row with one answer
-pub order_trans : (x y z : List ℕ) (o : Ordering) → order x y ≡ o → order y z ≡ o → order x z ≡ o
-order_trans x y z Ordering.lt p q = order_trans_lt x y z p q
-order_trans x y z Ordering.eq p q = rw (order_eq x y p) q
-order_trans x y z Ordering.gt p q =
-    order_flip z x ∙ ap flip (order_trans_lt z y x (order_flip y z ∙ ap flip q) (order_flip x y ∙ ap flip p))
+order_trans_lt x y z p q = nat_list_cmp_total.trans x y z p q
 
 -- `less` and `at_most`, each by the other.
 
 pub less_not_at_most : (x y : List ℕ) → less x y ≡ not (at_most y x)
-unfolding less at_most is_less is_more
+unfolding less at_most
 less_not_at_most x y = rw (order_flip x y) (go (order x y))
   where
-    go : (o : Ordering) → is_less o ≡ not (not (is_more (flip o)))
-    go Ordering.lt = refl
-    go Ordering.eq = refl
-    go Ordering.gt = refl
+    go : (o : Ordering) → is_lt o ≡ not (is_le (ordering_reverse o))
+    go Less = refl
+    go Equal = refl
+    go Greater = refl
 
 pub at_most_not_less : (x y : List ℕ) → at_most x y ≡ not (less y x)
-unfolding less at_most is_less is_more
+unfolding less at_most
 at_most_not_less x y = rw (order_flip x y) (go (order x y))
   where
-    go : (o : Ordering) → not (is_more o) ≡ not (is_less (flip o))
-    go Ordering.lt = refl
-    go Ordering.eq = refl
-    go Ordering.gt = refl
+    go : (o : Ordering) → is_le o ≡ not (is_lt (ordering_reverse o))
+    go Less = refl
+    go Equal = refl
+    go Greater = refl
 
 pub less_of_not_at_most : (x y : List ℕ) → at_most x y ≡ false → less y x ≡ true
 less_of_not_at_most x y e = less_not_at_most y x ∙ ap not e
@@ -182,37 +138,37 @@ not_at_most_of_less x y e = at_most_not_less y x ∙ ap not e
 
 -- `less` and `at_most` by the three-way order.
 
-pub less_of_lt : (x y : List ℕ) → order x y ≡ Ordering.lt → less x y ≡ true
-unfolding less is_less
+pub less_of_lt : (x y : List ℕ) → order x y ≡ Less → less x y ≡ true
+unfolding less
 less_of_lt x y e = rw e
 
-pub lt_of_less : (x y : List ℕ) → less x y ≡ true → order x y ≡ Ordering.lt
-unfolding less is_less
+pub lt_of_less : (x y : List ℕ) → less x y ≡ true → order x y ≡ Less
+unfolding less
 lt_of_less x y = go (order x y)
   where
-    go : (o : Ordering) → is_less o ≡ true → o ≡ Ordering.lt
-    go Ordering.lt e = refl
-    go Ordering.eq e = cc
-    go Ordering.gt e = cc
+    go : (o : Ordering) → is_lt o ≡ true → o ≡ Less
+    go Less e = refl
+    go Equal e = cc
+    go Greater e = cc
 
 pub at_most_of_less : (x y : List ℕ) → less x y ≡ true → at_most x y ≡ true
-unfolding at_most is_more
+unfolding at_most
 at_most_of_less x y e = rw (lt_of_less x y e)
 
 -- at most is before or the same
 pub at_most_cases : (x y : List ℕ) → at_most x y ≡ true → (less x y ≡ true) ⊎ (x ≡ y)
-unfolding at_most is_more
+unfolding at_most
 at_most_cases x y e = go (order x y) refl
   where
     go : (o : Ordering) → order x y ≡ o → (less x y ≡ true) ⊎ (x ≡ y)
-    go Ordering.lt p = inl (less_of_lt x y p)
-    go Ordering.eq p = inr (order_eq x y p)
-    go Ordering.gt p = absurd (false≢true (rw p at e))
+    go Less p = inl (less_of_lt x y p)
+    go Equal p = inr (order_eq x y p)
+    go Greater p = absurd (false≢true (rw p at e))
 
 -- `less` and `at_most` are orders.
 
 pub less_irrefl : (x : List ℕ) → less x x ≡ false
-unfolding less is_less
+unfolding less
 less_irrefl x = rw (order_refl x)
 
 pub less_trans : (x y z : List ℕ) → less x y ≡ true → less y z ≡ true → less x z ≡ true
@@ -233,7 +189,7 @@ at_most-less_trans x y z p q = go (at_most_cases x y p)
     go (inr e) = rw e q
 
 pub at_most_refl : (x : List ℕ) → at_most x x ≡ true
-unfolding at_most is_more
+unfolding at_most
 at_most_refl x = rw (order_refl x)
 
 pub at_most_antisym : (x y : List ℕ) → at_most x y ≡ true → at_most y x ≡ true → x ≡ y
@@ -260,7 +216,7 @@ at_most_total x y = go (less x y) refl
 -- The empty list.
 
 pub nil_at_most : (x : List ℕ) → at_most [] x ≡ true
-unfolding at_most order is_more
+unfolding at_most order
 nil_at_most [] = refl
 nil_at_most (a ∷ x) = refl
 
@@ -271,7 +227,7 @@ at_most_nil x e = at_most_antisym x [] e (nil_at_most x)
 
 -- what "at most" says of the first elements and the rests
 pub at_most_cons : (a b : ℕ) (x y : List ℕ) → at_most (a ∷ x) (b ∷ y) ≡ true → (a < b) ⊎ ((a ≡ b) × (at_most x y ≡ true))
-unfolding at_most is_more
+unfolding at_most
 at_most_cons a b x y e = go (ways a b)
   where
     go : Ways a b → (a < b) ⊎ ((a ≡ b) × (at_most x y ≡ true))

@@ -1,46 +1,22 @@
 -- The order of byte strings: unsigned bytes are compared one after the other, and a proper beginning comes first.
-use Prim.Native.Nat.{ℕ, suc, compare, Ordering}
-use Rattle.std.specs.Prelude.{Bool, true, false, not, ◌&&◌, cond, List, [], ◌∷◌, eqb, leb, ℤ, pos, negsuc}
-use Rattle.std.specs.Int.Signed.{lt_z, le_z}
+use Rattle.std.specs.Prelude.{ℕ, suc, Bool, true, false, ◌&&◌, cond, List, [], ◌∷◌, eqb, leb}
+use Rattle.std.specs.declared.cmp.Ordering.{Ordering}
+use Rattle.std.specs.Ordering.{nat_cmp, is_lt, is_le, is_eq}
+use Rattle.std.specs.Cmp.Lexicographic.{slice_cmp}
 use Rattle.byte_string.specs.declared.Comparison.{Comparison}
 unfoldable pub use Rattle.part.specs.Bytes.{AreBytes}
 
--- the first comparison decides; where it finds no difference, the second does
-unfoldable pub or_else : Ordering → Ordering → Ordering
-or_else Ordering.lt next = Ordering.lt
-or_else Ordering.eq next = next
-or_else Ordering.gt next = Ordering.gt
-
--- how x compares with y
+-- how x compares with y: the first comparison of two bytes that finds a difference decides
 unfoldable pub order : List ℕ → List ℕ → Ordering
-order [] [] = Ordering.eq
-order [] (y ∷ ys) = Ordering.lt
-order (x ∷ xs) [] = Ordering.gt
-order (x ∷ xs) (y ∷ ys) = or_else (compare x y) (order xs ys)
-
--- as a signed answer: minus one, zero or plus one
-unfoldable pub signed : Ordering → ℤ
-signed Ordering.lt = negsuc 0
-signed Ordering.eq = pos 0
-signed Ordering.gt = pos 1
-
-unfoldable pub is_less : Ordering → Bool
-is_less Ordering.lt = true
-is_less Ordering.eq = false
-is_less Ordering.gt = false
-
-unfoldable pub is_more : Ordering → Bool
-is_more Ordering.lt = false
-is_more Ordering.eq = false
-is_more Ordering.gt = true
+order x y = slice_cmp nat_cmp x y
 
 -- x comes before y
 unfoldable pub less : List ℕ → List ℕ → Bool
-less x y = is_less (order x y)
+less x y = is_lt (order x y)
 
 -- x comes before y or is y
 unfoldable pub at_most : List ℕ → List ℕ → Bool
-at_most x y = not (is_more (order x y))
+at_most x y = is_le (order x y)
 
 -- x begins with p
 unfoldable pub begins : List ℕ → List ℕ → Bool
@@ -54,23 +30,23 @@ agreeing [] y = 0
 agreeing (x ∷ xs) [] = 0
 agreeing (x ∷ xs) (y ∷ ys) = cond (eqb x y) (suc (agreeing xs ys)) 0
 
--- x compared with y: the sign, and how many leading bytes agree
+-- x compared with y: how they compare, and how many leading bytes agree
 unfoldable pub comparison : List ℕ → List ℕ → Comparison
-comparison x y = record { sign = signed (order x y); agreeing = agreeing x y }
+comparison x y = record { sign = order x y; agreeing = agreeing x y }
 
 -- What a comparison of x with y says.
 
 -- x comes before y
 unfoldable pub says_less : Comparison → Bool
-says_less c = lt_z c.sign (pos 0)
+says_less c = is_lt c.sign
 
 -- x comes before y or is y
 unfoldable pub says_at_most : Comparison → Bool
-says_at_most c = le_z c.sign (pos 0)
+says_at_most c = is_le c.sign
 
 -- x is y
 unfoldable pub says_equal : Comparison → Bool
-says_equal c = says_at_most c && not (says_less c)
+says_equal c = is_eq c.sign
 
 -- y begins with x, where x has so many bytes; x begins with y, where y has
 unfoldable pub says_begins : (count : ℕ) → Comparison → Bool

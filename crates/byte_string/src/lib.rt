@@ -3,41 +3,47 @@
 // `compare` is the one comparison: it answers the sign and how many leading bytes agree, and every yes or no is taken of that answer.
 #![tactic(auto)]
 
-ghost use Rattle.std.specs.Prelude.{◌+◌, ◌≤◌, ◌≡◌, length, drop};
+ghost use Rattle.std.specs.Prelude.{◌≡◌, ◌==◌, length, take_while, zip};
 ghost use Rattle.byte_string.specs.Order.{agreeing, comparison, says_less, says_at_most, says_equal, says_begins};
+
+use std::cmp::Ordering;
 
 // A byte string x compared with another, y.
 #[derive(Clone, Copy)]
 pub struct Comparison {
-    // Minus one where x comes before y, zero where they are equal, plus one where x comes after y.
-    pub sign: i8,
+    // `Less` where x comes before y.
+    pub sign: Ordering,
     // How many leading bytes agree.
     pub agreeing: usize,
 }
 
 impl Comparison {
     // Whether x comes before y.
+    #[tactic(auto, unfolding(crate::specs::Order::says_less))]
     pub fn less(self) -> bool
         ensures { result ≡ says_less self }
     {
-        self.sign < 0
+        self.sign.is_lt()
     }
 
     // Whether x comes before y or equals it.
+    #[tactic(auto, unfolding(crate::specs::Order::says_at_most))]
     pub fn at_most(self) -> bool
         ensures { result ≡ says_at_most self }
     {
-        self.sign <= 0
+        self.sign.is_le()
     }
 
     // Whether x equals y.
+    #[tactic(auto, unfolding(crate::specs::Order::says_equal))]
     pub fn equal(self) -> bool
         ensures { result ≡ says_equal self }
     {
-        self.sign == 0
+        self.sign.is_eq()
     }
 
     // Whether y begins with x, given how many bytes x has. Given how many y has, whether x begins with y.
+    #[tactic(auto, unfolding(crate::specs::Order::says_begins))]
     pub fn begins(self, count: usize) -> bool
         ensures { result ≡ says_begins count self }
     {
@@ -53,64 +59,43 @@ fn agreement_of_eight(x: &[u8], y: &[u8]) -> usize
     u64::trailing_zeros(endian::le64(x) ^ endian::le64(y)) as usize / 8
 }
 
-// How many leading bytes agree, where the first `from` do.
-fn agreement_by_bytes(x: &[u8], y: &[u8], from: usize) -> usize
-    requires { agreeing x.now y.now ≡ from + agreeing (drop from x.now) (drop from y.now) }
-    ensures { result ≡ agreeing x.now y.now }
+// How many leading bytes agree, looked at one by one.
+fn agreement_by_bytes(x: &[u8], y: &[u8]) -> usize
+    ensures { result ≡ length (take_while (λ p. p.0 == p.1) (zip x.now y.now)) }
 {
-    let mut n = from;
-    while n < x.len() {
-        if y.len() <= n {
-            return n;
-        }
-        if x[n] != y[n] {
-            return n;
-        }
-        n += 1;
-    }
-    n
+    x.iter().zip(y).take_while(|(a, b)| **a == **b).count()
 }
 
-// How many leading bytes agree, by eights while both have eight more. Both have at least `both` bytes.
-fn agreement_by_eights(x: &[u8], y: &[u8], both: usize) -> usize
-    requires { (both ≤ length x.now) × (both ≤ length y.now) }
+// How many leading bytes agree, by eights while both have eight more.
+fn agreement_by_eights(x: &[u8], y: &[u8]) -> usize
     ensures { result ≡ agreeing x.now y.now }
 {
     let mut n = 0;
-    while 8 <= both - n {
-        let more = agreement_of_eight(&x[n..n + 8], &y[n..n + 8]);
+    for (a, b) in x.chunks_exact(8).zip(y.chunks_exact(8)) {
+        let more = agreement_of_eight(a, b);
         if more < 8 {
             return n + more;
         }
         n += 8;
     }
-    agreement_by_bytes(x, y, n)
-}
-
-// The lesser of two lengths.
-fn lesser(a: usize, b: usize) -> usize
-    ensures { (result ≤ a) × (result ≤ b) }
-{
-    if a < b {
-        return a;
-    }
-    b
+    n + agreement_by_bytes(&x[n..], &y[n..])
 }
 
 // How many leading bytes agree. Often it is none, so that the first byte is looked at alone; fewer than eight bytes go one by one.
+#[tactic(auto, using(crate::proofs::AgreeingLaws::agreeing_counted))]
 fn agreement(x: &[u8], y: &[u8]) -> usize
     ensures { result ≡ agreeing x.now y.now }
 {
-    let both = lesser(x.len(), y.len());
+    let both = x.len().min(y.len());
     if 0 < both {
         if x[0] != y[0] {
             return 0;
         }
         if both < 8 {
-            return agreement_by_bytes(x, y, 1);
+            return agreement_by_bytes(x, y);
         }
     }
-    agreement_by_eights(x, y, both)
+    agreement_by_eights(x, y)
 }
 
 // Compares x with y.
@@ -118,17 +103,8 @@ pub fn compare(x: &[u8], y: &[u8]) -> Comparison
     ensures { result ≡ comparison x.now y.now }
 {
     let agreeing = agreement(x, y);
-    if x.len() <= agreeing {
-        if y.len() <= agreeing {
-            return Comparison { sign: 0, agreeing };
-        }
-        return Comparison { sign: -1, agreeing };
+    Comparison {
+        sign: x.get(agreeing).cmp(&y.get(agreeing)),
+        agreeing,
     }
-    if y.len() <= agreeing {
-        return Comparison { sign: 1, agreeing };
-    }
-    if x[agreeing] < y[agreeing] {
-        return Comparison { sign: -1, agreeing };
-    }
-    Comparison { sign: 1, agreeing }
 }

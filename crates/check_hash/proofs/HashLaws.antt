@@ -71,28 +71,37 @@ module _ (file : List ℕ) (from at : ℕ) (s : State) (p : Passed file from at 
   all_seen : laid_from file from ≡ p.seen → Holds (payloads file (laid_from file from)) s
   all_seen e = subst (λ (l : List Block). Holds (payloads file l) s) (sym e) p.holds
 
-  pub passed_end : length file ≤ at → Holds (payloads file (laid_from file from)) s
+  passed_end : length file ≤ at → Holds (payloads file (laid_from file from)) s
   unfolding laid_from
   passed_end h = all_seen (sound_progress_end (laid_at file) (length file) from at p.seen p.going h)
 
-  pub passed_refused : at < length file → (number place : ℕ) → frame_at file at ≡ refused number place → Holds (payloads file (laid_from file from)) s
+  passed_refused : at < length file → (number place : ℕ) → frame_at file at ≡ refused number place → Holds (payloads file (laid_from file from)) s
   unfolding laid_from
   passed_refused h number place e =
       all_seen (sound_progress_refused (laid_at file) (length file) from at p.seen p.going h number place (laid_refused file at number place e))
 
-  pub passed_more : at < length file → (f : Frame) → frame_at file at ≡ answer f → (next : State) → next ≡ state_after file s f
-      → Passed file from (at + f.size) next
+  -- where no frame can be read, all blocks are seen
+  pub passed_over : (number place : ℕ) → frame_at file at ≡ refused number place → Holds (payloads file (laid_from file from)) s
+  passed_over number place e = go (leb (length file) at) refl
+    where
+      go : (b : Bool) → leb (length file) at ≡ b → Holds (payloads file (laid_from file from)) s
+      go true p = passed_end (leb-true _ _ p)
+      go false p = passed_refused (leb-false _ _ p) number place e
+
+  -- a block more
+  pub passed_more : (f : Frame) → frame_at file at ≡ answer f → (next : State) → next ≡ state_after file s f → Passed file from (at + f.size) next
   unfolding laid_in
-  passed_more h f e next same =
+  passed_more f e next same =
       let l = frame⇒Framed file at f e in
       let number = l.number in
       let some = l.some in
       let sized = l.sized in
+      let within = l.within in
       let b = laid_in file f in
       record {
         seen = p.seen ++ (b ∷ []);
         going =
-            sound_progress_more (laid_at file) (length file) from at p.seen p.going (record { item = b; next = at + f.size }) h (laid_found file at f e)
+            sound_progress_more (laid_at file) (length file) from at p.seen p.going (record { item = b; next = at + f.size }) (omega arith) (laid_found file at f e)
             (omega arith);
         holds =
             subst (Holds (payloads file (p.seen ++ (b ∷ [])))) (sym same)

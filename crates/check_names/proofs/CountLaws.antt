@@ -6,10 +6,9 @@ use mathlib.Core.List.{List}
 use Prim.Native.Nat.{ℕ, zero, suc, ◌+◌, ◌/◌, ◌%◌, ◌^◌, ◌≤◌, ◌<◌}
 use native.Mathlib.Omega.{arith}
 use lib.Dec.{eqb}
-use lib.ListN.{get_or, drop}
+use lib.ListN.{length, get_or, drop}
 use borrow.Author.Tests.{eq-eqb, ne_eqb, leb-false}
-use Rattle.outcome.specs.Outcome.{refused}
-use Rattle.outcome.specs.Refusal.{refusal_of}
+use Rattle.outcome.specs.Outcome.{answer, refused}
 use Rattle.lists.proofs.RisingLaws.{flat_map_keep}
 use Rattle.payload.specs.Payload.{Entry}
 use Rattle.block.specs.Block.{Block, is_ordinary}
@@ -17,7 +16,6 @@ use Rattle.block.specs.Survey.{ordinary}
 use Rattle.block.specs.Laid.{laid_from}
 use Rattle.tree.specs.Tree.{namings}
 use Rattle.tree.specs.Stages.{each, named_rightly}
-use Rattle.outcome.proofs.OutcomeLaws.{fault_none}
 use Rattle.tree.proofs.StageLaws.{each_kept, each_broken, each_none}
 use Rattle.check_names.specs.Starts.{starts_of, start_at}
 use Rattle.check_names.specs.Names.{entries_of, times_named, up_to_two, WordsKept}
@@ -53,7 +51,7 @@ at_most_one false = omega arith
 
 -- ---- the pass
 
-module _ (work : List ℕ) (n root : ℕ) where
+module _ (work : List ℕ) (root : ℕ) where
   abbrev blocks : (file : List ℕ) (first : ℕ) → List Block
   blocks file first = ordinary (laid_from file first)
 
@@ -61,37 +59,36 @@ module _ (work : List ℕ) (n root : ℕ) where
   rule file first = named_rightly (laid_from file first) root
 
   -- the blocks so far are named rightly
-  pub record Counting (i : ℕ) : Type 0 where
-    pub within : i ≤ n
-    pub leads : (file : List ℕ) (first : ℕ) → WordsKept file first (entries_of (blocks file first)) work n
-        → each (rule file first) 20 (blocks file first) ≡ each (rule file first) 20 (drop i (blocks file first))
+  abbrev pub Counting : (i : ℕ) → Type 0
+  Counting i = (file : List ℕ) (first : ℕ) → WordsKept file first (entries_of (blocks file first)) work
+      → each (rule file first) 20 (blocks file first) ≡ each (rule file first) 20 (drop i (blocks file first))
 
   pub counting_start : Counting 0
-  counting_start = record { within = omega arith; leads = λ file first k. refl }
+  counting_start file first k = refl
 
   module _ (i : ℕ) (p : Counting i) where
-    pub counting_end : n ≤ i → (file : List ℕ) (first : ℕ) → WordsKept file first (entries_of (blocks file first)) work n
-        → refusal_of (record { number = 0; place = 0 }) ≡ each (rule file first) 20 (blocks file first)
+    pub counting_end : length work ≤ i → (file : List ℕ) (first : ℕ) → WordsKept file first (entries_of (blocks file first)) work
+        → answer tt ≡ each (rule file first) 20 (blocks file first)
     counting_end past file first k =
         let many = k.many in
         let long = length_starts (laid_from file first) in
-        fault_none _ refl ∙ sym (p.leads file first k ∙ each_none (rule file first) 20 i (blocks file first) (omega arith))
+        sym (p file first k ∙ each_none (rule file first) 20 i (blocks file first) (omega arith))
 
-    module _ (inside : i < n) (file : List ℕ) (first : ℕ) (k : WordsKept file first (entries_of (blocks file first)) work n) where
+    module _ (inside : i < length work) (file : List ℕ) (first : ℕ) (k : WordsKept file first (entries_of (blocks file first)) work) where
       its_block : AtIndex (blocks file first) i
-      its_block = kept_block file first (entries_of (blocks file first)) work n k i inside
+      its_block = kept_block file first (entries_of (blocks file first)) work k i inside
 
       abbrev start : ℕ
       start = its_block.block.frame.start
 
       its_start : start ≡ get_or work i 0 % 2 ^ 30
       unfolding start_at starts_of
-      its_start = sym its_block.starts ∙ sym (kept_start_at file first (entries_of (blocks file first)) work n k i inside)
+      its_start = sym its_block.starts ∙ sym (kept_start_at file first (entries_of (blocks file first)) work k i inside)
 
       its_count : get_or work i 0 / 2 ^ 30 ≡ up_to_two (namings (laid_from file first) start)
       unfolding namings times_named starts_of entries_of
       its_count =
-          kept_count file first (entries_of (blocks file first)) work n k i inside
+          kept_count file first (entries_of (blocks file first)) work k i inside
           ∙ ap (λ (at : ℕ). up_to_two (times_named (entries_of (blocks file first)) at)) its_block.starts
           ∙ ap (λ (l : List Entry). up_to_two (times_named l start)) (file_entries file first)
 
@@ -106,15 +103,15 @@ module _ (work : List ℕ) (n root : ℕ) where
           (eq-eqb _ _ (count_right (namings (laid_from file first) start) _ (at_most_one (eqb start root)) (sym its_count ∙ e ∙ sym its_wanted)))
 
       pub counting_broken : (get_or work i 0 / 2 ^ 30 ≡ cond (eqb (get_or work i 0 % 2 ^ 30) root) 0 1 → ⊥)
-          → refusal_of (record { number = 20; place = get_or work i 0 % 2 ^ 30 }) ≡ each (rule file first) 20 (blocks file first)
-      unfolding named_rightly refusal_of
+          → refused 20 (get_or work i 0 % 2 ^ 30) ≡ each (rule file first) 20 (blocks file first)
+      unfolding named_rightly
       counting_broken other =
           ap (refused 20) (sym its_start)
           ∙ sym
-          (p.leads file first k
+          (p file first k
           ∙ each_broken (rule file first) 20 (drop i (blocks file first)) (drop (i + 1) (blocks file first)) its_block.block its_block.rest
           (ne_eqb _ _
           (λ same. count_wrong (namings (laid_from file first) start) _ (λ e. other (its_count ∙ e ∙ its_wanted)) (at_most_one (eqb start root)) same)))
 
-    pub counting_more : i < n → get_or work i 0 / 2 ^ 30 ≡ cond (eqb (get_or work i 0 % 2 ^ 30) root) 0 1 → Counting (i + 1)
-    counting_more inside e = record { within = omega arith; leads = λ file first k. p.leads file first k ∙ counted_right inside file first k e }
+    pub counting_more : i < length work → get_or work i 0 / 2 ^ 30 ≡ cond (eqb (get_or work i 0 % 2 ^ 30) root) 0 1 → Counting (i + 1)
+    counting_more inside e file first k = p file first k ∙ counted_right inside file first k e

@@ -3,127 +3,122 @@
 use mathlib.Core.Path.{◌≡◌, refl, sym, ap, ◌∙◌, subst}
 use mathlib.Core.Bool.{Bool, true, false, ◌&&◌}
 use mathlib.Core.List.{List, [], ◌∷◌, ◌++◌, append-nil, append_assoc}
-use Prim.Native.Nat.{ℕ, ◌-◌, ◌≤◌, ◌<◌}
+use Prim.Native.Nat.{ℕ, ◌+◌, ◌≤◌, ◌<◌}
 use native.Mathlib.Omega.{arith}
-use lib.ListN.{length, get_or, set, take, length-set}
+use lib.Dec.{leb}
+use lib.ListN.{length, get_or, set, take}
+use lib.Seq.{length-take-le}
+use borrow.Author.Tests.{leb-true, leb-false}
 use Rattle.outcome.specs.Outcome.{Outcome, answer, refused}
-use Rattle.items.specs.Items.{sound_from}
+use Rattle.framing.specs.declared.Frame.{Frame}
 use Rattle.items.specs.declared.Step.{Step}
 use Rattle.items.proofs.GoingLaws.{SoundProgress, sound_progress_start, sound_progress_more, sound_progress_next, sound_progress_end, sound_progress_refused}
 use Rattle.lists.specs.Lists.{all}
 use Rattle.lists.proofs.ListsLaws.{all_append}
 use Rattle.payload.specs.Payload.{Entry, entry_at}
+use Rattle.payload.proofs.PayloadLaws.{entry⇒Entered}
 use Rattle.payload.proofs.ReadLaws.{entry_forward}
-use Rattle.block.specs.Laid.{laid_from}
+use Rattle.block.specs.Laid.{laid_from, laid_items}
 use Rattle.tree.specs.Tree.{names}
-use Rattle.check_names.specs.Names.{marked, WordsKept, Named, EntriesSeen}
+use Rattle.check_names.specs.Names.{marked, WordsKept, Leads, EntriesSeen}
 use Rattle.check_names.proofs.WordLaws.{kept_mark}
 
 -- no entries, nothing seen
-pub none_seen : (file : List ℕ) (from level : ℕ) (seen es : List Entry) (work : List ℕ) (n : ℕ) → WordsKept file from seen work n → es ≡ []
-    → EntriesSeen file from level seen es work n true
+pub none_seen : (file : List ℕ) (from level : ℕ) (seen es : List Entry) (work : List ℕ) → WordsKept file from seen work → es ≡ []
+    → EntriesSeen file from level seen es work true
 unfolding all
-none_seen file from level seen es work n k none =
-    subst (λ (l : List Entry). EntriesSeen file from level seen l work n true) (sym none)
-    (record { fit = refl; kept = λ t. subst (λ (l : List Entry). WordsKept file from l work n) (sym (append-nil seen)) k })
+none_seen file from level seen es work k none =
+    subst (λ (l : List Entry). EntriesSeen file from level seen l work true) (sym none)
+    (record { fit = refl; kept = λ t. subst (λ (l : List Entry). WordsKept file from l work) (sym (append-nil seen)) k })
 
 -- ---- the loop
 
-module _ (file : List ℕ) (level from end : ℕ) (work₀ : List ℕ) (n : ℕ) where
-  -- the entries of the payload, where a refusal has this place
-  abbrev step_at : (place : ℕ) → ℕ → Outcome (Step Entry)
-  step_at place = entry_at place (take end file)
-
-  abbrev entries : (place : ℕ) → List Entry
-  entries place = sound_from (step_at place) end (end - from) from
-
+module _ (file : List ℕ) (f : Frame) (work₀ : List ℕ) where
   -- some of the entries are done: each names a fitting block and is seen
-  pub record Marking (first place : ℕ) (seen : List Entry) (work : List ℕ) (at : ℕ) : Type 0 where
+  pub record Marking (first : ℕ) (seen : List Entry) (work : List ℕ) (at : ℕ) : Type 0 where
     pub done : List Entry
-    pub progress : SoundProgress (step_at place) end from at done
-    pub fit : all (names (laid_from file first) level) done ≡ true
-    pub kept : WordsKept file first (seen ++ done) work n
+    pub progress : SoundProgress (entry_at f.start (take f.end file)) f.end (f.body + 1) at done
+    pub fit : all (names (laid_from file first) f.level) done ≡ true
+    pub kept : WordsKept file first (seen ++ done) work
 
-  pub record Marked (work : List ℕ) (at : ℕ) : Type 0 where
-    pub long : length work ≡ length work₀
-    pub marking : (first place : ℕ) (seen : List Entry) → WordsKept file first seen work₀ n → Marking first place seen work at
+  abbrev pub Marked : (work : List ℕ) (at : ℕ) → Type 0
+  Marked work at = (first : ℕ) (seen : List Entry) → WordsKept file first seen work₀ → Marking first seen work at
 
-  pub marked_start : Marked work₀ from
+  abbrev step : ℕ → Outcome (Step Entry)
+  step = entry_at f.start (take f.end file)
+
+  pub marked_start : Marked work₀ (f.body + 1)
   unfolding all
-  marked_start =
+  marked_start first seen k =
       record {
-        long = refl;
-        marking = λ first place seen k.
-            record {
-              done = [];
-              progress = sound_progress_start (step_at place) end from;
-              fit = refl;
-              kept = subst (λ (l : List Entry). WordsKept file first l work₀ n) (sym (append-nil seen)) k;
-            };
+        done = [];
+        progress = sound_progress_start step f.end (f.body + 1);
+        fit = refl;
+        kept = subst (λ (l : List Entry). WordsKept file first l work₀) (sym (append-nil seen)) k;
       }
 
   module _ (work : List ℕ) (at : ℕ) (p : Marked work at) where
-    -- all entries are done
-    marked_all : (first place : ℕ) (seen : List Entry) (m : Marking first place seen work at) → entries place ≡ m.done
-        → EntriesSeen file first level seen (entries place) work n true
-    marked_all first place seen m whole =
-        subst (λ (l : List Entry). EntriesSeen file first level seen l work n true) (sym whole) (record { fit = sym m.fit; kept = λ t. m.kept })
+    -- where no entry can be read, all are done
+    pub marked_over : (number place : ℕ) → step at ≡ refused number place → (first : ℕ) (seen : List Entry) → WordsKept file first seen work₀
+        → EntriesSeen file first f.level seen (laid_items file entry_at f) work true
+    unfolding laid_items
+    marked_over number place e first seen k = go (leb f.end at) refl
+      where
+        m : Marking first seen work at
+        m = p first seen k
 
-    pub marked_end : end ≤ at → (first place : ℕ) (seen : List Entry) → WordsKept file first seen work₀ n
-        → EntriesSeen file first level seen (entries place) work n true
-    marked_end past first place seen k =
-        let m = p.marking first place seen k in
-        marked_all first place seen m (sound_progress_end (step_at place) end from at m.done m.progress past)
+        all_done : laid_items file entry_at f ≡ m.done → EntriesSeen file first f.level seen (laid_items file entry_at f) work true
+        all_done whole =
+            subst (λ (l : List Entry). EntriesSeen file first f.level seen l work true) (sym whole) (record { fit = sym m.fit; kept = λ t. m.kept })
 
-    pub marked_refused : at < end → (number : ℕ) → ((place : ℕ) → step_at place at ≡ refused number place)
-        → (first place : ℕ) (seen : List Entry) → WordsKept file first seen work₀ n → EntriesSeen file first level seen (entries place) work n true
-    marked_refused inside number refuses first place seen k =
-        let m = p.marking first place seen k in
-        marked_all first place seen m (sound_progress_refused (step_at place) end from at m.done m.progress inside number place (refuses place))
+        go : (b : Bool) → leb f.end at ≡ b → EntriesSeen file first f.level seen (laid_items file entry_at f) work true
+        go true q = all_done (sound_progress_end step f.end (f.body + 1) at m.done m.progress (leb-true _ _ q))
+        go false q = all_done (sound_progress_refused step f.end (f.body + 1) at m.done m.progress (leb-false _ _ q) number place e)
 
-    module _ (inside : at < end) (s : Step Entry) (reads : (place : ℕ) → step_at place at ≡ answer s) (i : ℕ)
-        (named : (first : ℕ) (seen : List Entry) → WordsKept file first seen work n → Named (laid_from file first) level s.item n i) where
-      forward : at < s.next
-      forward = entry_forward 0 (take end file) at s (reads 0)
+    module _ (s : Step Entry) (reads : step at ≡ answer s) (whole : f.end ≤ length file) where
+      pub forward : at < s.next
+      forward = entry_forward f.start (take f.end file) at s reads
+
+      pub inside : at < f.end
+      inside = let e = entry⇒Entered f.start (take f.end file) at s reads in omega (arith, forward, e.within, length-take-le f.end file whole)
 
       -- the entry names no fitting block
-      pub marked_unfit : n ≤ i → (first place : ℕ) (seen : List Entry) → WordsKept file first seen work₀ n
-          → EntriesSeen file first level seen (entries place) work n false
-      unfolding all
-      marked_unfit past first place seen k = go (p.marking first place seen k)
+      pub marked_unfit : ((first : ℕ) (seen : List Entry) → WordsKept file first seen work → names (laid_from file first) f.level s.item ≡ false)
+          → (first : ℕ) (seen : List Entry) → WordsKept file first seen work₀ → EntriesSeen file first f.level seen (laid_items file entry_at f) work false
+      unfolding all laid_items
+      marked_unfit unfit first seen k = go (p first seen k)
         where
           test : Entry → Bool
-          test = names (laid_from file first) level
+          test = names (laid_from file first) f.level
 
-          go : Marking first place seen work at → EntriesSeen file first level seen (entries place) work n false
+          go : Marking first seen work at → EntriesSeen file first f.level seen (laid_items file entry_at f) work false
           go m =
-              let next = sound_progress_next (step_at place) end from at m.done m.progress s inside (reads place) forward in
-              let bad = (named first (seen ++ m.done) m.kept).unfit past in
+              let next = sound_progress_next step f.end (f.body + 1) at m.done m.progress s inside reads forward in
+              let bad = unfit first (seen ++ m.done) m.kept in
               let parts = ap (all test) next.1 ∙ all_append test m.done (s.item ∷ next.0) in
               let wrong : (all test m.done && (test s.item && all test next.0)) ≡ false =
               ap (λ (b : Bool). b && (test s.item && all test next.0)) m.fit ∙ ap (λ (b : Bool). b && all test next.0) bad in
               record { fit = sym (parts ∙ wrong); kept = λ t. absurd (let z : ◌≡◌ {A = ℕ} 0 1 = cc in omega arith) }
 
       -- the entry names a fitting block, which is marked
-      pub marked_more : n ≤ length work → i < n → (later : List ℕ) → later ≡ set work i (marked (get_or work i 0)) → Marked later s.next
+      pub marked_more : (i : ℕ) → i < length work → ((first : ℕ) (seen : List Entry) → WordsKept file first seen work → Leads (laid_from file first) f.level s.item i)
+          → (later : List ℕ) → later ≡ set work i (marked (get_or work i 0)) → Marked later s.next
       unfolding all
-      marked_more room low later is =
-          record {
-            long = ap length is ∙ length-set work i (marked (get_or work i 0)) ∙ p.long;
-            marking = λ first place seen k. go first place seen (p.marking first place seen k);
-          }
+      marked_more i low leads later is first seen k = go (p first seen k)
         where
-          go : (first place : ℕ) (seen : List Entry) → Marking first place seen work at → Marking first place seen later s.next
-          go first place seen m =
-              let test = names (laid_from file first) level in
-              let good = named first (seen ++ m.done) m.kept in
+          test : Entry → Bool
+          test = names (laid_from file first) f.level
+
+          go : Marking first seen work at → Marking first seen later s.next
+          go m =
+              let good = leads first (seen ++ m.done) m.kept in
               let right : (all test m.done && (test s.item && true)) ≡ true =
-              ap (λ (b : Bool). b && (test s.item && true)) m.fit ∙ ap (λ (b : Bool). b && true) (good.fits low) in
+              ap (λ (b : Bool). b && (test s.item && true)) m.fit ∙ ap (λ (b : Bool). b && true) good.fits in
               record {
                 done = m.done ++ (s.item ∷ []);
-                progress = sound_progress_more (step_at place) end from at m.done m.progress s inside (reads place) forward;
+                progress = sound_progress_more step f.end (f.body + 1) at m.done m.progress s inside reads forward;
                 fit = all_append test m.done (s.item ∷ []) ∙ right;
                 kept =
-                    subst (λ (l : List Entry). WordsKept file first l later n) (append_assoc seen m.done (s.item ∷ []))
-                    (kept_mark file first (seen ++ m.done) work n m.kept room s.item i low (good.placed low) later is);
+                    subst (λ (l : List Entry). WordsKept file first l later) (append_assoc seen m.done (s.item ∷ []))
+                    (kept_mark file first (seen ++ m.done) work m.kept s.item i low good.placed later is);
               }

@@ -5,10 +5,10 @@ use mathlib.Core.Bool.{Bool, true, false}
 use mathlib.Core.List.{List, [], ◌∷◌, ◌++◌, append-nil}
 use Prim.Native.Nat.{ℕ, ◌+◌, ◌≤◌, ◌<◌}
 use native.Mathlib.Omega.{arith}
-use lib.Dec.{ltb}
+use lib.Dec.{ltb, leb}
 use lib.ListN.{length, get_or, set, length-append, get_or-append}
 use lib.Seq.{get_or-set_same, get_or-set_other, get_or-append_seam}
-use borrow.Author.Tests.{ltb-true, ltb-false}
+use borrow.Author.Tests.{ltb-true, ltb-false, leb-true, leb-false}
 use Rattle.lists.specs.Lists.{keep}
 use Rattle.output_list.specs.OutputList.{with_number}
 use Rattle.output_list.proofs.OutputListLaws.{place_some, length_with_number}
@@ -75,26 +75,27 @@ module _ (file : List ℕ) (from : ℕ) (work₀ : List ℕ) where
       λ room. subst (λ (bs : List Block). Begins work (starts_of bs)) (sym all) (p.begun room),
     )
 
-    pub hopped_end : length file ≤ at
+    -- where no frame can be read, all blocks are passed
+    pub hopped_over : (number place : ℕ) → frame_at file at ≡ refused number place
         → (count ≡ length (ordinary (laid_from file from))) × (count ≤ length work₀ → Begins work (starts_of (laid_from file from)))
     unfolding laid_from
-    hopped_end past = hopped_all (sound_progress_end (laid_at file) (length file) from at p.passed p.progress past)
-
-    pub hopped_refused : at < length file → (number place : ℕ) → frame_at file at ≡ refused number place
-        → (count ≡ length (ordinary (laid_from file from))) × (count ≤ length work₀ → Begins work (starts_of (laid_from file from)))
-    unfolding laid_from
-    hopped_refused inside number place e =
-        let refuses = laid_refused file at number place e in
-        hopped_all (sound_progress_refused (laid_at file) (length file) from at p.passed p.progress inside number place refuses)
+    hopped_over number place e = hopped_all (go (leb (length file) at) refl)
+      where
+        go : (b : Bool) → leb (length file) at ≡ b → laid_from file from ≡ p.passed
+        go true q = sound_progress_end (laid_at file) (length file) from at p.passed p.progress (leb-true _ _ q)
+        go false q =
+            sound_progress_refused (laid_at file) (length file) from at p.passed p.progress (leb-false _ _ q) number place (laid_refused file at number place e)
 
     -- the block whose frame was read is passed too
-    module _ (inside : at < length file) (f : Frame) (e : frame_at file at ≡ answer f) where
+    module _ (f : Frame) (e : frame_at file at ≡ answer f) where
       abbrev more : List Block
       more = p.passed ++ (laid_in file f ∷ [])
 
       progress_more : SoundProgress (laid_at file) (length file) from (at + f.size) more
       progress_more =
           let found = laid_found file at f e in
+          let l = frame⇒Framed file at f e in
+          let inside : at < length file = omega (arith, l.number, l.some, l.sized, l.within) in
           sound_progress_more (laid_at file) (length file) from at p.passed p.progress _ inside found (laid_forward file at _ found)
 
       starts_more : f.level ≤ 63 → starts_of more ≡ starts_of p.passed ++ (at ∷ [])

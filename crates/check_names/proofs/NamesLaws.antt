@@ -1,15 +1,15 @@
 -- Laws of 18, 19 and 20 as a whole: their ways out, and what they say of an accepted file.
 -- Assumes nothing.
-use mathlib.Core.Path.{◌≡◌, sym, ap, ◌∙◌}
-use mathlib.Core.Bool.{Bool, cond}
+use mathlib.Core.Path.{◌≡◌, refl, sym, ap, ◌∙◌}
 use mathlib.Core.List.{List}
 use Prim.Native.Nat.{ℕ, ◌^◌, ◌≤◌, ◌<◌}
 use lib.Dec.{leb}
 use lib.ListN.{length}
-use borrow.Author.Tests.{le-leb, lt-leb, eq-eqb, ne_eqb}
-use Rattle.outcome.specs.Outcome.{answer, refused, ◌>>◌, must}
+use borrow.Author.Tests.{le-leb, lt-leb}
+use Rattle.outcome.specs.Outcome.{Outcome, answer, refused, ◌>>◌, must}
 use Rattle.outcome.specs.declared.Refusal.{Refusal}
-use Rattle.outcome.specs.Refusal.{refusal_of}
+use Rattle.outcome.specs.Fault.{number, said}
+use Rattle.std.specs.Prelude.{Ok, Err}
 use Rattle.outcome.proofs.OutcomeLaws.{kept, broken, after_answer, after_refused}
 use Rattle.block.specs.Block.{Block, blocks_at}
 use Rattle.block.specs.Survey.{ordinary}
@@ -23,8 +23,8 @@ module _ (file : List ℕ) (from root places : ℕ) where
   bs = laid_from file from
 
   -- a file that is too long: 1
-  pub names_long : 2 ^ 30 < length file → refusal_of (record { number = 1; place = 0 }) ≡ names_of file from root places
-  unfolding names_of refusal_of
+  pub names_long : 2 ^ 30 < length file → refused 1 0 ≡ names_of file from root places
+  unfolding names_of
   names_long h = sym (broken (leb (length file) (2 ^ 30)) 1 0 _ (lt-leb (length file) (2 ^ 30) h))
 
   module _ (short : length file ≤ 2 ^ 30) where
@@ -41,8 +41,7 @@ module _ (file : List ℕ) (from root places : ℕ) where
 
     module _ (n : ℕ) (many : n ≡ length (ordinary bs)) where
       -- no room: 18
-      pub names_full : places < n → refusal_of (record { number = 18; place = 0 }) ≡ names_of file from root places
-      unfolding refusal_of
+      pub names_full : places < n → refused 18 0 ≡ names_of file from root places
       names_full few =
           sym (names_short ∙ broken (leb (length (ordinary bs)) places) 18 0 _ (ap (λ (k : ℕ). leb k places) (sym many) ∙ lt-leb n places few))
 
@@ -51,20 +50,16 @@ module _ (file : List ℕ) (from root places : ℕ) where
       names_room enough =
           names_short ∙ kept (leb (length (ordinary bs)) places) 18 0 _ (ap (λ (k : ℕ). leb k places) (sym many) ∙ le-leb n places enough)
 
-      module _ (enough : n ≤ places) (r : Refusal) (work : List ℕ) (s : AllSeen file from work n r) where
+      module _ (enough : n ≤ places) (work : List ℕ) where
         -- 19 decides
-        pub names_broken : (r.number ≡ 0 → ⊥) → refusal_of r ≡ names_of file from root places
-        unfolding naming_of refusal_of
-        names_broken other =
-            let told = ap (λ (b : Bool). cond b (answer tt) (refused r.number r.place)) (ne_eqb r.number 0 other) in
-            told ∙ sym (names_room enough ∙ after_refused (each (entries_fit bs) 19 (ordinary bs)) _ r.number r.place (sym s.fault ∙ told))
+        pub names_broken : (r : Refusal) → AllSeen file from work (Err r) → refused (number r.fault) r.place ≡ names_of file from root places
+        unfolding naming_of said
+        names_broken r s =
+            sym (names_room enough ∙ after_refused (each (entries_fit bs) 19 (ordinary bs)) _ (number r.fault) r.place (sym s.fault))
 
         -- 20 decides
-        pub names-counted : r.number ≡ 0 → (q : Refusal)
-            → (WordsKept file from (entries_of (ordinary bs)) work n → refusal_of q ≡ each (named_rightly bs root) 20 (ordinary bs))
-            → refusal_of q ≡ names_of file from root places
-        unfolding naming_of refusal_of
-        names-counted none q counted =
-            let told = ap (λ (b : Bool). cond b (answer tt) (refused r.number r.place)) (eq-eqb r.number 0 none) in
-            counted (s.kept none)
-            ∙ sym (names_room enough ∙ after_answer (each (entries_fit bs) 19 (ordinary bs)) _ tt (sym s.fault ∙ told))
+        pub names-counted : AllSeen file from work (Ok tt) → (o : Outcome (Unit {0}))
+            → (WordsKept file from (entries_of (ordinary bs)) work → o ≡ each (named_rightly bs root) 20 (ordinary bs)) → o ≡ names_of file from root places
+        unfolding naming_of said
+        names-counted s o counted =
+            counted (s.kept refl) ∙ sym (names_room enough ∙ after_answer (each (entries_fit bs) 19 (ordinary bs)) _ tt (sym s.fault))

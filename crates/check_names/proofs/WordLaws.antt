@@ -6,8 +6,8 @@ use mathlib.Core.List.{List, [], ◌∷◌, ◌++◌}
 use Prim.Native.Nat.{ℕ, zero, suc, ◌+◌, ◌*◌, ◌/◌, ◌%◌, ◌^◌, ◌≤◌, ◌<◌}
 use native.Mathlib.Omega.{arith}
 use lib.Dec.{ltb, eqb}
-use lib.ListN.{length, get_or, set, length-append}
-use lib.Seq.{get_or-set_same, get_or-set_other, set-get_or}
+use lib.ListN.{length, get_or, set, length-append, length-set, take}
+use lib.Seq.{length-take-le, get_or-take, get_or-set_same, get_or-set_other}
 use borrow.Author.Tests.{ltb-true, ltb-false, lt-ltb, le-ltb, eq-eqb, ne_eqb, eqb-true, eqb-false}
 use Rattle.lists.specs.Lists.{keep}
 use Rattle.lists.proofs.ListsLaws.{keep_append, ascending_at}
@@ -19,14 +19,6 @@ use Rattle.check_names.specs.Names.{times_named, up_to_two, word_of, marked, Wor
 use Rattle.check_names.proofs.StartsLaws.{AtIndex, at_index, length_starts, starts_ascend, ordinary_laid}
 
 -- ---- one word
-
-pub mark_more : (work : List ℕ) (i : ℕ) → get_or work i 0 / 2 ^ 30 < 2 → set work i (get_or work i 0 + 2 ^ 30) ≡ set work i (marked (get_or work i 0))
-unfolding marked
-mark_more work i h = rw (lt-ltb (get_or work i 0 / 2 ^ 30) 2 h)
-
-pub mark_same : (work : List ℕ) (i : ℕ) → 2 ≤ get_or work i 0 / 2 ^ 30 → work ≡ set work i (marked (get_or work i 0))
-unfolding marked
-mark_same work i h = rw (le-ltb (get_or work i 0 / 2 ^ 30) 2 h) (sym (set-get_or work i 0))
 
 two_at_most : (n : ℕ) → up_to_two n ≤ 2
 unfolding up_to_two
@@ -81,18 +73,27 @@ module _ (file : List ℕ) (from : ℕ) where
   starts = starts_of (laid_from file from)
 
   -- at first no entry was seen
-  pub kept_start : (work : List ℕ) (n : ℕ) → length file ≤ 2 ^ 30 → n ≡ length (ordinary (laid_from file from)) → Begins work starts → WordsKept file from [] work n
+  pub kept_start : (work : List ℕ) → length file ≤ 2 ^ 30 → length work ≡ length (ordinary (laid_from file from)) → Begins work starts → WordsKept file from [] work
   unfolding Begins word_of times_named keep up_to_two
-  kept_start work n short many begun =
-      let long : length starts ≡ n = length_starts (laid_from file from) ∙ sym many in
+  kept_start work short many begun =
+      let long : length starts ≡ length work = length_starts (laid_from file from) ∙ sym many in
       record { short = short; many = long; words = λ i h. begun i (omega arith) ∙ omega arith }
 
-  module _ (seen : List Entry) (work : List ℕ) (n : ℕ) (k : WordsKept file from seen work n) where
+  -- likewise of the front of a list, where the starts stand
+  pub kept_front : (list : List ℕ) (n : ℕ) → length file ≤ 2 ^ 30 → n ≡ length (ordinary (laid_from file from)) → n ≤ length list → Begins list starts
+      → WordsKept file from [] (take n list)
+  unfolding Begins
+  kept_front list n short many room begun =
+      let long : length starts ≡ n = length_starts (laid_from file from) ∙ sym many in
+      kept_start (take n list) short (length-take-le n list room ∙ many)
+      (λ i h. let low : i < n = omega arith in get_or-take n list i 0 low ∙ begun i h)
+
+  module _ (seen : List Entry) (work : List ℕ) (k : WordsKept file from seen work) where
     -- the block at an index
-    pub kept_block : (i : ℕ) → i < n → AtIndex (ordinary (laid_from file from)) i
+    pub kept_block : (i : ℕ) → i < length work → AtIndex (ordinary (laid_from file from)) i
     kept_block i h = let many = k.many in let long = length_starts (laid_from file from) in at_index (ordinary (laid_from file from)) i (omega arith)
 
-    pub kept_small : (i : ℕ) → i < n → get_or starts i 0 < 2 ^ 30
+    pub kept_small : (i : ℕ) → i < length work → get_or starts i 0 < 2 ^ 30
     unfolding starts_of
     kept_small i h =
         let b = kept_block i h in
@@ -101,17 +102,17 @@ module _ (file : List ℕ) (from : ℕ) where
         let its = b.starts in
         omega arith
 
-    pub kept_start_at : (i : ℕ) → i < n → start_at work i ≡ get_or starts i 0
+    pub kept_start_at : (i : ℕ) → i < length work → start_at work i ≡ get_or starts i 0
     unfolding start_at
     kept_start_at i h = ap (λ (w : ℕ). w % 2 ^ 30) (k.words i h) ∙ word_start seen (get_or starts i 0) (kept_small i h)
 
-    pub kept_count : (i : ℕ) → i < n → get_or work i 0 / 2 ^ 30 ≡ up_to_two (times_named seen (get_or starts i 0))
+    pub kept_count : (i : ℕ) → i < length work → get_or work i 0 / 2 ^ 30 ≡ up_to_two (times_named seen (get_or starts i 0))
     kept_count i h = ap (λ (w : ℕ). w / 2 ^ 30) (k.words i h) ∙ word_count seen (get_or starts i 0) (kept_small i h)
 
-    starts_rise : (p q : ℕ) → p < q → q < n → get_or starts p 0 < get_or starts q 0
+    starts_rise : (p q : ℕ) → p < q → q < length work → get_or starts p 0 < get_or starts q 0
     starts_rise p q less h = let many = k.many in ascending_at starts p q (starts_ascend file from) less (omega arith)
 
-    pub kept_rise : StartsRise work n
+    pub kept_rise : StartsRise work
     unfolding StartsRise
     kept_rise p q less h =
         let first = kept_start_at p (omega arith) in
@@ -119,7 +120,7 @@ module _ (file : List ℕ) (from : ℕ) where
         let rising = starts_rise p q less h in
         omega arith
 
-    starts_apart : (i j : ℕ) → i < n → j < n → (j ≡ i → ⊥) → get_or starts i 0 ≡ get_or starts j 0 → ⊥
+    starts_apart : (i j : ℕ) → i < length work → j < length work → (j ≡ i → ⊥) → get_or starts i 0 ≡ get_or starts j 0 → ⊥
     starts_apart i j h l different equal = by (ltb i j) refl
       where
         by : (b : Bool) → ltb i j ≡ b → ⊥
@@ -127,16 +128,19 @@ module _ (file : List ℕ) (from : ℕ) where
         by false x = let more = ltb-false i j x in let r = starts_rise j i (omega arith) h in omega arith
 
     -- one entry more: the word of the block it names is marked
-    pub kept_mark : n ≤ length work → (e : Entry) (i : ℕ) → i < n → get_or starts i 0 ≡ e.offset
-        → (later : List ℕ) → later ≡ set work i (marked (get_or work i 0)) → WordsKept file from (seen ++ (e ∷ [])) later n
-    kept_mark room e i h named later is =
-        subst (λ (l : List ℕ). WordsKept file from (seen ++ (e ∷ [])) l n) (sym is)
-        (record { short = k.short; many = k.many; words = λ j l. go j l (eqb j i) refl })
+    pub kept_mark : (e : Entry) (i : ℕ) → i < length work → get_or starts i 0 ≡ e.offset
+        → (later : List ℕ) → later ≡ set work i (marked (get_or work i 0)) → WordsKept file from (seen ++ (e ∷ [])) later
+    kept_mark e i h named later is =
+        subst (λ (l : List ℕ). WordsKept file from (seen ++ (e ∷ [])) l) (sym is)
+        (record { short = k.short; many = k.many ∙ sym long; words = λ j l. go j (omega (arith, long)) (eqb j i) refl })
       where
-        go : (j : ℕ) → j < n → (b : Bool) → eqb j i ≡ b → get_or (set work i (marked (get_or work i 0))) j 0 ≡ word_of (seen ++ (e ∷ [])) (get_or starts j 0)
+        long : length (set work i (marked (get_or work i 0))) ≡ length work
+        long = length-set work i (marked (get_or work i 0))
+
+        go : (j : ℕ) → j < length work → (b : Bool) → eqb j i ≡ b → get_or (set work i (marked (get_or work i 0))) j 0 ≡ word_of (seen ++ (e ∷ [])) (get_or starts j 0)
         go j l true same =
             subst (λ (m : ℕ). get_or (set work i (marked (get_or work i 0))) m 0 ≡ word_of (seen ++ (e ∷ [])) (get_or starts m 0)) (sym (eqb-true j i same))
-            (get_or-set_same work i (marked (get_or work i 0)) 0 (omega arith)
+            (get_or-set_same work i (marked (get_or work i 0)) 0 h
             ∙ ap marked (k.words i h)
             ∙ word_marked seen e (get_or starts i 0) (kept_small i h) (sym named))
         go j l false other =

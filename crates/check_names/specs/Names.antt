@@ -1,9 +1,10 @@
 -- Refusals 18, 19 and 20, and how the work list carries them: which entries were seen, as counts in the words.
 use Rattle.std.specs.Prelude.{ℕ, zero, suc, ◌+◌, ◌*◌, ◌/◌, ◌^◌, ◌≤◌, ◌<◌, ◌≡◌, Bool, true, false, cond, leb, ltb, eqb, length, get_or}
+use Rattle.std.specs.Prelude.{Option, Some, None, Result, Ok}
 use mathlib.Core.List.{List, ◌++◌, flat_map}
 use Rattle.outcome.specs.Outcome.{Outcome, ◌>>◌, must}
 use Rattle.outcome.specs.declared.Refusal.{Refusal}
-use Rattle.outcome.specs.Refusal.{refusal_of}
+use Rattle.outcome.specs.Fault.{said}
 use Rattle.lists.specs.Lists.{keep, all}
 use Rattle.payload.specs.Payload.{Entry}
 use Rattle.block.specs.Block.{Block}
@@ -44,26 +45,30 @@ word_of seen at = at + 2 ^ 30 * up_to_two (times_named seen at)
 unfoldable pub marked : ℕ → ℕ
 marked word = cond (ltb (word / 2 ^ 30) 2) (word + 2 ^ 30) word
 
--- the first n words are those of the file's ordinary blocks, where these entries were seen
-pub record WordsKept (file : List ℕ) (from : ℕ) (seen : List Entry) (work : List ℕ) (n : ℕ) : Type 0 where
+-- the words are those of the file's ordinary blocks, where these entries were seen
+pub record WordsKept (file : List ℕ) (from : ℕ) (seen : List Entry) (work : List ℕ) : Type 0 where
   pub short : length file ≤ 2 ^ 30
-  pub many : length (starts_of (laid_from file from)) ≡ n
-  pub words : (i : ℕ) → i < n → get_or work i 0 ≡ word_of seen (get_or (starts_of (laid_from file from)) i 0)
+  pub many : length (starts_of (laid_from file from)) ≡ length work
+  pub words : (i : ℕ) → i < length work → get_or work i 0 ≡ word_of seen (get_or (starts_of (laid_from file from)) i 0)
 
 -- ---- what the passes answer
 
--- for one entry: the index of the word whose block it names, or n where it names none that fits
-pub record Named (bs : List Block) (level : ℕ) (e : Entry) (n r : ℕ) : Type 0 where
-  pub fits : r < n → names bs level e ≡ true
-  pub placed : r < n → get_or (starts_of bs) r 0 ≡ e.offset
-  pub unfit : n ≤ r → names bs level e ≡ false
+-- the block whose start stands at the index is the one that an entry names, and it fits
+pub record Leads (bs : List Block) (level : ℕ) (e : Entry) (i : ℕ) : Type 0 where
+  pub fits : names bs level e ≡ true
+  pub placed : get_or (starts_of bs) i 0 ≡ e.offset
+
+-- for one entry: the index of the word whose block it names, where it names one that fits
+unfoldable pub Named : (bs : List Block) (level : ℕ) (e : Entry) → Option ℕ → Type 0
+Named bs level e (Some i) = Leads bs level e i
+Named bs level e None = names bs level e ≡ false
 
 -- for some entries of a block of this level: whether all name a fitting block; if so, all are seen
-pub record EntriesSeen (file : List ℕ) (from level : ℕ) (seen es : List Entry) (work : List ℕ) (n : ℕ) (r : Bool) : Type 0 where
+pub record EntriesSeen (file : List ℕ) (from level : ℕ) (seen es : List Entry) (work : List ℕ) (r : Bool) : Type 0 where
   pub fit : r ≡ all (names (laid_from file from) level) es
-  pub kept : r ≡ true → WordsKept file from (seen ++ es) work n
+  pub kept : r ≡ true → WordsKept file from (seen ++ es) work
 
 -- for all blocks: 19; if all fit, all entries are seen
-pub record AllSeen (file : List ℕ) (from : ℕ) (work : List ℕ) (n : ℕ) (r : Refusal) : Type 0 where
-  pub fault : refusal_of r ≡ each (entries_fit (laid_from file from)) 19 (ordinary (laid_from file from))
-  pub kept : r.number ≡ 0 → WordsKept file from (entries_of (ordinary (laid_from file from))) work n
+pub record AllSeen (file : List ℕ) (from : ℕ) (work : List ℕ) (r : Result (Unit {0}) Refusal) : Type 0 where
+  pub fault : said r ≡ each (entries_fit (laid_from file from)) 19 (ordinary (laid_from file from))
+  pub kept : r ≡ Ok tt → WordsKept file from (entries_of (ordinary (laid_from file from))) work

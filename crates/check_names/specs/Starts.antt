@@ -1,6 +1,6 @@
 -- The work list as starts: one word for each ordinary block in file order. A word is start + 2 ^ 30 * c, so the start is the
 -- word modulo 2 ^ 30.
-use Rattle.std.specs.Prelude.{ℕ, ◌%◌, ◌^◌, ◌≤◌, ◌<◌, ◌≡◌, List, map, length, get_or}
+use Rattle.std.specs.Prelude.{ℕ, ◌%◌, ◌^◌, ◌<◌, ◌≡◌, List, map, length, get_or, Option, Some, None}
 use Rattle.block.specs.Block.{Block}
 use Rattle.block.specs.Survey.{ordinary}
 
@@ -16,11 +16,11 @@ Begins list numbers = (i : ℕ) → i < length numbers → get_or list i 0 ≡ g
 unfoldable pub start_at : (work : List ℕ) (i : ℕ) → ℕ
 start_at work i = get_or work i 0 % 2 ^ 30
 
--- the starts in the first n words rise strictly
-unfoldable pub StartsRise : (work : List ℕ) (n : ℕ) → Type 0
-StartsRise work n = (p q : ℕ) → p < q → q < n → start_at work p < start_at work q
+-- the starts in the words rise strictly
+unfoldable pub StartsRise : (work : List ℕ) → Type 0
+StartsRise work = (p q : ℕ) → p < q → q < length work → start_at work p < start_at work q
 
--- what a search among the first n words answers: where the start stands, or n
-pub record Located (work : List ℕ) (n target r : ℕ) : Type 0 where
-  pub found : r < n → start_at work r ≡ target
-  pub missing : n ≤ r → (j : ℕ) → j < n → start_at work j ≡ target → ⊥
+-- what a search among the words answers: where the start stands
+unfoldable pub Located : (work : List ℕ) (start : ℕ) → Option ℕ → Type 0
+Located work start (Some i) = start_at work i ≡ start
+Located work start None = (j : ℕ) → j < length work → start_at work j ≡ start → ⊥

@@ -7,10 +7,10 @@
 
 ghost use Rattle.std.specs.Prelude.{◌≡◌, length};
 ghost use Rattle.output_list.specs.OutputList.{zeros};
-ghost use Rattle.outcome.specs.Refusal.{refusal_of};
+ghost use Rattle.outcome.specs.Fault.{said};
 ghost use Rattle.check_names.specs.Names.{names_of};
 
-use crate::names::naming_fault;
+use crate::names::naming;
 use outcome::Refusal;
 use output_list::clear;
 
@@ -18,11 +18,11 @@ mod names;
 mod starts;
 
 // Tests the blocks from an offset on as they lie in the file, for the header's root. The work list holds zeros afterwards.
-pub fn check_names(file: &[u8], from: usize, root: u64, work: &mut [u64]) -> Refusal
-    ensures result_value { refusal_of result ≡ names_of file.now from root (length work.old) }
+pub fn check_names(file: &[u8], from: usize, root: u64, work: &mut [u64]) -> Result<(), Refusal>
+    ensures result_value { said result ≡ names_of file.now from root (length work.old) }
     ensures work_after { work.new ≡ zeros (length work.old) }
 {
-    let fault = naming_fault(file, from, root, work);
+    let named = naming(file, from, root, work);
     clear(work);
-    fault
+    named
 }

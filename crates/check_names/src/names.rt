@@ -1,181 +1,122 @@
 // Refusals 18, 19 and 20 on the work list.
-ghost use Rattle.std.specs.Prelude.{ℕ, ◌-◌, ◌≤◌, ◌<◌, ◌≡◌, cond, eqb, length, get_or, set, take};
+ghost use Rattle.std.specs.Prelude.{ℕ, ◌≤◌, ◌<◌, ◌≡◌, length, IfSome};
 ghost use mathlib.Core.List.{List, [], Memᴰ};
-ghost use Rattle.outcome.specs.Refusal.{refusal_of};
-ghost use Rattle.items.specs.Items.{sound_from};
-ghost use Rattle.payload.specs.Payload.{Text, Entry, entry_at};
+ghost use Rattle.outcome.specs.Fault.{said};
+ghost use Rattle.payload.specs.Payload as payloads;
+ghost use Rattle.payload.specs.Answers.{entry_in};
 ghost use Rattle.block.specs.Block.{Block};
 ghost use Rattle.block.specs.Survey.{ordinary};
-ghost use Rattle.block.specs.Laid.{laid_from};
+ghost use Rattle.block.specs.Laid.{laid_from, laid_items};
 ghost use Rattle.tree.specs.Stages.{each, named_rightly};
 ghost use Rattle.check_names.specs.Names.{names_of, entries_of, marked, WordsKept, Named, EntriesSeen, AllSeen};
 
 use crate::starts::{NAMED, fill, find};
-use framing::{FrameOutcome, frame_at};
+use framing::{Frame, frame_at};
 use header::Header;
-use outcome::Refusal;
-use payload::{EntryOutcome, entry_at};
+use outcome::{Fault, Refusal};
+use payload::{Entry, entry_at};
 
 // A word gets one more naming.
-fn mark(work: &mut [u64], i: usize)
-    requires { i < length work.old }
-    ensures { work.new ≡ set work.old i (marked (get_or work.old i 0)) }
+#[tactic(auto, unfolding(crate::specs::Names::marked))]
+fn mark(word: &mut u64)
+    ensures { word.new ≡ marked word.old }
 {
-    let word = work[i];
-    if word / NAMED < 2 {
-        work[i] = word + NAMED;
+    if *word / NAMED < 2 {
+        *word += NAMED;
     }
 }
 
-// The index of the word whose block an entry names, or n where it names no block that fits.
-fn named(file: &[u8], work: &[u64], n: usize, level: u8, offset: u64, size: u64) -> usize
-    requires { n ≤ length work.now }
-    ensures { (from : ℕ) (seen : List Entry) (key : Text) → WordsKept file.now from seen work.now n
-        → Named (laid_from file.now from) level (record { key = key; offset = offset; size = size }) n result }
+// The index of the word whose block an entry of an index block of this level names, where that block fits.
+fn named(file: &[u8], work: &[u64], level: u8, entry: Entry) -> Option<usize>
+    ensures inside { IfSome result (λ i. i < length work.now) }
+    ensures value { (from : ℕ) (seen : List payloads.Entry) (s : List ℕ) → WordsKept file.now from seen work.now
+        → Named (laid_from file.now from) level (entry_in s entry) result }
 {
-    let i = find(work, n, offset);
-    if n <= i {
-        return n;
-    }
-    let frame = frame_at(file, offset as usize);
-    match frame {
-        FrameOutcome::Refused(_) => n,
-        FrameOutcome::Answer(f) => {
-            if f.size as u64 != size {
-                return n;
-            }
-            if f.level as u64 + 1 != level as u64 {
-                return n;
-            }
-            i
-        },
+    let i = find(work, entry.offset)?;
+    let frame = frame_at(file, entry.offset as usize).ok()?;
+    if frame.size as u64 == entry.size && frame.level as u64 + 1 == level as u64 {
+        Some(i)
+    } else {
+        None
     }
 }
 
-// Whether all entries of a payload, up to the first fault, name fitting blocks; each is marked.
-fn name_entries(file: &[u8], level: u8, from: usize, end: usize, work: &mut [u64], n: usize) -> bool
-    requires { (n ≤ length work.old) × (end ≤ length file.now) }
-    ensures { (first place : ℕ) (seen : List Entry) → WordsKept file.now first seen work.old n
-        → EntriesSeen file.now first level seen (sound_from (entry_at place (take end file.now)) end (end - from) from)
-        work.new n result }
+// Whether all entries in an index block's frame, up to the first fault, name fitting blocks; each is marked.
+fn name_entries(file: &[u8], frame: Frame, work: &mut [u64]) -> bool
+    requires { (frame.body < frame.end) × (frame.end ≤ length file.now) }
+    ensures { (first : ℕ) (seen : List payloads.Entry) → WordsKept file.now first seen work.old
+        → EntriesSeen file.now first frame.level seen (laid_items file.now payloads.entry_at frame) work.new result }
 {
-    let mut at = from;
-    while at < end {
-        let step = entry_at(&file[..end], at);
-        match step {
-            EntryOutcome::Refused(_) => return true,
-            EntryOutcome::Answer {
-                key: _,
-                offset,
-                size,
-                next,
-            } => {
-                let i = named(file, work, n, level, offset, size);
-                if n <= i {
-                    return false;
-                }
-                mark(work, i);
-                at = next;
-            },
+    let payload = &file[..frame.end];
+    let mut at = frame.body + 1;
+    while let Ok(step) = entry_at(payload, at) {
+        match named(file, work, frame.level, step.item) {
+            Some(i) => mark(&mut work[i]),
+            None => return false,
         }
+        at = step.next;
     }
     true
 }
 
 // The same for the block at an offset, which has entries where it is an index block.
-fn name_block(file: &[u8], start: usize, work: &mut [u64], n: usize) -> bool
-    requires { n ≤ length work.old }
-    ensures { (first : ℕ) (seen : List Entry) (b : Block) → WordsKept file.now first seen work.old n
+fn name_block(file: &[u8], start: usize, work: &mut [u64]) -> bool
+    ensures { (first : ℕ) (seen : List payloads.Entry) (b : Block) → WordsKept file.now first seen work.old
         → Memᴰ b (ordinary (laid_from file.now first)) → b.frame.start ≡ start
-        → EntriesSeen file.now first b.frame.level seen b.entries work.new n result }
+        → EntriesSeen file.now first b.frame.level seen b.entries work.new result }
 {
-    let frame = frame_at(file, start);
-    match frame {
-        FrameOutcome::Refused(_) => true,
-        FrameOutcome::Answer(f) => {
-            let from = f.body + 1;
-            let end = f.end;
-            if f.level == 0 {
-                return true;
-            }
-            name_entries(file, f.level, from, end, work, n)
-        },
+    match frame_at(file, start) {
+        Ok(frame) => frame.level == 0 || name_entries(file, frame, work),
+        Err(_) => true,
     }
 }
 
 // 19: the first block in file order with an entry that names no fitting block.
-fn name_blocks(file: &[u8], work: &mut [u64], n: usize) -> Refusal
-    requires { n ≤ length work.old }
-    ensures { (first : ℕ) → WordsKept file.now first [] work.old n → AllSeen file.now first work.new n result }
+fn name_blocks(file: &[u8], work: &mut [u64]) -> Result<(), Refusal>
+    ensures { (first : ℕ) → WordsKept file.now first [] work.old → AllSeen file.now first work.new result }
 {
-    let mut i = 0;
-    while i < n {
+    for i in 0..work.len() {
         let start = work[i] % NAMED;
-        if name_block(file, start as usize, work, n) {
-            i += 1;
-        } else {
-            return Refusal {
-                number: 19,
+        if !name_block(file, start as usize, work) {
+            return Err(Refusal {
+                fault: Fault::EntryTarget,
                 place: start,
-            };
+            });
         }
     }
-    Refusal {
-        number: 0,
-        place: 0,
-    }
+    Ok(())
 }
 
-// How often the block at a start is to be named.
-fn wanted(start: u64, root: u64) -> u64
-    ensures { result ≡ cond (eqb start root) 0 1 }
+// 20: the first block in file order that is named otherwise than once, or for the root, never.
+fn count_names(work: &[u64], root: u64) -> Result<(), Refusal>
+    ensures { (file : List ℕ) (first : ℕ) → WordsKept file first (entries_of (ordinary (laid_from file first))) work.now
+        → said result ≡ each (named_rightly (laid_from file first) root) 20 (ordinary (laid_from file first)) }
 {
-    if start == root { 0 } else { 1 }
-}
-
-// 20: the first block in file order that is not named so often.
-fn count_names(work: &[u64], n: usize, root: u64) -> Refusal
-    requires { n ≤ length work.now }
-    ensures { (file : List ℕ) (first : ℕ) → WordsKept file first (entries_of (ordinary (laid_from file first))) work.now n
-        → refusal_of result ≡ each (named_rightly (laid_from file first) root) 20 (ordinary (laid_from file first)) }
-{
-    let mut i = 0;
-    while i < n {
-        let start = work[i] % NAMED;
-        if work[i] / NAMED != wanted(start, root) {
-            return Refusal {
-                number: 20,
+    for word in work {
+        let start = *word % NAMED;
+        let wanted = if start == root { 0 } else { 1 };
+        if *word / NAMED != wanted {
+            return Err(Refusal {
+                fault: Fault::NamedOnce,
                 place: start,
-            };
+            });
         }
-        i += 1;
     }
-    Refusal {
-        number: 0,
-        place: 0,
-    }
+    Ok(())
 }
 
 // 18, 19, then 20, with the work list left as it was used; 1 for a file whose starts do not fit in a word.
-pub fn naming_fault(file: &[u8], from: usize, root: u64, work: &mut [u64]) -> Refusal
-    ensures { refusal_of result ≡ names_of file.now from root (length work.old) }
+pub fn naming(file: &[u8], from: usize, root: u64, work: &mut [u64]) -> Result<(), Refusal>
+    ensures { said result ≡ names_of file.now from root (length work.old) }
 {
     if Header::MAX_FILE < file.len() {
-        return Refusal {
-            number: 1,
-            place: 0,
-        };
+        return Err(Fault::FileTooLong.into());
     }
     let blocks = fill(file, from, work);
     if work.len() < blocks {
-        return Refusal {
-            number: 18,
-            place: 0,
-        };
+        return Err(Fault::WorkRoom.into());
     }
-    let fault = name_blocks(file, work, blocks);
-    if fault.number != 0 {
-        return fault;
-    }
-    count_names(work, blocks, root)
+    let words = &mut work[..blocks];
+    name_blocks(file, words)?;
+    count_names(words, root)
 }

@@ -24,7 +24,7 @@ use Rattle.tree.proofs.TreeLaws.{Tree, entries_at, Child, child}
 use Rattle.check_walk.specs.Lookup.{payload_part, entries_in}
 use Rattle.check_walk.specs.Ascent.{ascent_over, leaf_of, ascent_of}
 use Rattle.items.proofs.GoingLaws.{Going, going_start}
-use Rattle.check_walk.proofs.LookupLaws.{end_of, items_found, entries_again}
+use Rattle.check_walk.proofs.LookupLaws.{end_of, items_read, entries_again}
 
 -- ---- a data block
 
@@ -52,12 +52,12 @@ unfolding ascent_of
 ascent_index file zero at least h = absurd (h refl)
 ascent_index file (suc level) at least h = let one : level ≡ suc level - 1 = omega arith in ap (λ (l : ℕ). ascent_over (ascent_of file l) (entries_in file at) least) one
 
-pub ascent_start : (file : List ℕ) (level at least : ℕ) → (level ≡ 0 → ⊥) → (p : Part) → p ≡ payload_part (frame_at file at)
-    → Going (ascent_over (ascent_of file (level - 1))) (entry_at at (take (end_of p) file)) (end_of p) (ascent_of file level at least) p.offset least
+pub ascent_start : (file : List ℕ) (level at least : ℕ) → (level ≡ 0 → ⊥) → (p : Part) → p ≡ payload_part (frame_at file at) → (s : List ℕ)
+    → s ≡ take (end_of p) file → Going (ascent_over (ascent_of file (level - 1))) (entry_at at s) (length s) (ascent_of file level at least) p.offset least
 unfolding entries_in
-ascent_start file level at least h p e =
-    going_start _ _ (end_of p) _ p.offset least
-    (ascent_index file level at least h ∙ ap (λ (es : List Entry). ascent_over (ascent_of file (level - 1)) es least) (items_found file at entry_at p e))
+ascent_start file level at least h p e s is =
+    going_start _ _ (length s) _ p.offset least
+    (ascent_index file level at least h ∙ ap (λ (es : List Entry). ascent_over (ascent_of file (level - 1)) es least) (items_read file at entry_at p e s is))
 
 pub over_end : (child : ℕ → ℕ → Outcome ℕ) (least : ℕ) → ascent_over child [] least ≡ answer least
 unfolding ascent_over

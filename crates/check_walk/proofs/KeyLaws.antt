@@ -3,18 +3,20 @@
 use mathlib.Core.Path.{◌≡◌, refl, sym, ap, ◌∙◌, subst}
 use mathlib.Core.Bool.{Bool, true, false, ◌&&◌, not, cond}
 use mathlib.Core.List.{List, [], ◌∷◌}
-use Prim.Native.Nat.{ℕ, zero, suc, ◌-◌, ◌≤◌, ◌<◌}
+use Prim.Native.Nat.{ℕ, zero, suc, ◌+◌, ◌-◌, ◌≤◌, min}
 use native.Mathlib.Omega.{arith}
-use lib.Dec.{leb, eqb}
+use lib.Dec.{leb, ltb, eqb}
 use lib.ListN.{length, take}
 use lib.Seq.{length-take-le}
-use borrow.Author.Tests.{eq-eqb, ne_eqb, lt-ltb, le-ltb}
+use borrow.Author.Tests.{eq-eqb, ne_eqb, ltb-true, ltb-false}
 use Rattle.byte_string.specs.Order.{at_most}
 use Rattle.outcome.specs.Outcome.{Outcome, answer, refused}
 use Rattle.items.specs.Items.{sound_from, where_answered}
 use Rattle.items.specs.declared.Step.{Step}
 use Rattle.part.specs.Part.{part}
 use Rattle.part.specs.declared.Part.{Part}
+use Rattle.std.specs.Prelude.{Option, Some, None}
+use Rattle.std.specs.Option.{option_or, unwrap_or}
 use Rattle.part.proofs.PartLaws.{part-take, length_part}
 use Rattle.framing.specs.Frame.{frame_at}
 use Rattle.payload.specs.Payload.{Text, Entry, text_at, entry_at}
@@ -23,43 +25,49 @@ use Rattle.payload.proofs.PayloadLaws.{text⇒Placed}
 use Rattle.check_walk.specs.declared.keys.Span.{Span}
 use Rattle.check_walk.specs.declared.keys.Keys.{Keys}
 use Rattle.check_walk.specs.Lookup.{no_part, bytes_in, payload_part, entries_in, records_in}
-use Rattle.check_walk.specs.Keys.{no_span, span_joined, span_one, span_over, Within, earlier, leaf_keys, fits_between, entry_keys, over_keys}
+use Rattle.check_walk.specs.Keys.{no_span, span_joined, span_one, span_over, first_of, Within, earlier, leaf_keys, fits_between, entry_keys, over_keys}
 use Rattle.check_walk.specs.Keys.{keys_entering, keys_of}
 use Rattle.items.proofs.GoingLaws.{Going, going_start}
-use Rattle.check_walk.proofs.LookupLaws.{end_of, payload_within, items_found}
+use Rattle.check_walk.proofs.LookupLaws.{end_of, payload_within, items_found, items_read}
 
 -- ---- spans
 
-pub joined_none : (a b : Span) → a.first.offset ≡ 0 → span_joined a b ≡ b
+pub joined_none : (a b : Span) → a.first ≡ None → span_joined a b ≡ b
 unfolding span_joined
-joined_none a b h = rw (eq-eqb a.first.offset 0 h)
+joined_none a b h = rw h
 
-pub joined_some : (a b : Span) → (a.first.offset ≡ 0 → ⊥) → span_joined a b ≡ record { first = a.first; last = b.last }
+pub joined_some : (a b : Span) → (a.first ≡ None → ⊥) → span_joined a b ≡ record { first = a.first; last = b.last }
 unfolding span_joined
-joined_some a b h = rw (ne_eqb a.first.offset 0 h)
+joined_some a b h = go a.first h
+  where
+    go : (first : Option Part) → (first ≡ None → ⊥) → ◌≡◌ {A = Span} (record { first = option_or first b.first; last = b.last }) (record { first = first; last = b.last })
+    go None k = absurd (k refl)
+    go (Some p) k = refl
 
 pub joined-within : (file : List ℕ) (a b : Span) → Within file a → Within file b → Within file (span_joined a b)
-unfolding span_joined Within
-joined-within file a b h k = go (eqb a.first.offset 0)
+unfolding span_joined Within first_of
+joined-within file a b h k = go a.first h.0
   where
-    go : (t : Bool) → Within file (cond t b (record { first = a.first; last = b.last }))
-    go true = k
-    go false = (h.0, k.1)
+    go : (first : Option Part) → (unwrap_or first no_part).offset + (unwrap_or first no_part).length ≤ length file
+        → Within file (record { first = option_or first b.first; last = b.last })
+    go None inside = k
+    go (Some p) inside = (inside, k.1)
 
 -- ---- the loop over the records
 
-pub over_records_start : (file : List ℕ) (at : ℕ) (p : Part) → p ≡ payload_part (frame_at file at)
-    → Going span_over (text_at at (take (end_of p) file)) (end_of p) (span_over (records_in file at) no_span) p.offset no_span
+pub over_records_start : (file : List ℕ) (at : ℕ) (p : Part) → p ≡ payload_part (frame_at file at) → (s : List ℕ) → s ≡ take (end_of p) file
+    → Going span_over (text_at at s) (length s) (span_over (records_in file at) no_span) p.offset no_span
 unfolding records_in
-over_records_start file at p e = going_start _ _ (end_of p) _ p.offset no_span (ap (λ (rs : List Text). span_over rs no_span) (items_found file at text_at p e))
+over_records_start file at p e s is =
+    going_start _ _ (length s) _ p.offset no_span (ap (λ (rs : List Text). span_over rs no_span) (items_read file at text_at p e s is))
 
 -- a record that was read in s
-pub over_record_read : (s : List ℕ) (p : Part) → end_of p ≤ length s → (span next : Span) → next ≡ span_joined span (record { first = p; last = p })
+pub over_record_read : (s : List ℕ) (p : Part) → end_of p ≤ length s → (span next : Span) → next ≡ span_joined span (record { first = Some p; last = p })
     → (more : List Text) → span_over (text_in s p.offset p.length ∷ more) span ≡ span_over more next
 unfolding span_over span_one text_in
 over_record_read s p inside span next e more =
     ap (λ (k : ℕ). span_over more
-    (span_joined span (record { first = record { offset = p.offset; length = k }; last = record { offset = p.offset; length = k } })))
+    (span_joined span (record { first = Some (record { offset = p.offset; length = k }); last = record { offset = p.offset; length = k } })))
     (length_part s p.offset p.length inside)
     ∙ ap (span_over more) (sym e)
 
@@ -70,14 +78,14 @@ over_records_end s = refl
 -- ---- a data block
 
 leaf_is : (file : List ℕ) (at : ℕ) (before : Keys) (own : Span) (m : ℕ) → own ≡ span_over (records_in file at) no_span
-    → cond (eqb before.unordered 0 && not (at_most (bytes_in file before.span.last) (bytes_in file own.first))) at before.unordered ≡ m
+    → cond (eqb before.unordered 0 && not (at_most (bytes_in file before.span.last) (bytes_in file (first_of own)))) at before.unordered ≡ m
     → record { span = own; unordered = m; misfit = before.misfit } ≡ leaf_keys file at before
 unfolding leaf_keys
 leaf_is file at before own m e k =
     ap (λ (n : ℕ). record { span = own; unordered = n; misfit = before.misfit }) (sym k)
     ∙ ap (λ (s : Span). record {
       span = s;
-      unordered = cond (eqb before.unordered 0 && not (at_most (bytes_in file before.span.last) (bytes_in file s.first))) at before.unordered;
+      unordered = cond (eqb before.unordered 0 && not (at_most (bytes_in file before.span.last) (bytes_in file (first_of s)))) at before.unordered;
       misfit = before.misfit;
     }) e
 
@@ -87,12 +95,12 @@ module _ (file : List ℕ) (at : ℕ) (before : Keys) (own : Span) (e : own ≡ 
   leaf_before h = leaf_is file at before own before.unordered e (rw (ne_eqb before.unordered 0 h))
 
   -- none is
-  pub leaf_ordered : before.unordered ≡ 0 → (fits : Bool) → fits ≡ at_most (bytes_in file before.span.last) (bytes_in file own.first) → fits ≡ true
-      → record { span = own; unordered = 0; misfit = before.misfit } ≡ leaf_keys file at before
-  leaf_ordered h fits k t = leaf_is file at before own 0 e (rw (eq-eqb before.unordered 0 h, sym k ∙ t) h)
+  pub leaf_ordered : before.unordered ≡ 0 → (fits : Bool) → fits ≡ at_most (bytes_in file before.span.last) (bytes_in file (first_of own)) → fits ≡ true
+      → record { span = own; unordered = before.unordered; misfit = before.misfit } ≡ leaf_keys file at before
+  leaf_ordered h fits k t = leaf_is file at before own before.unordered e (rw (eq-eqb before.unordered 0 h, sym k ∙ t))
 
   -- this one is
-  pub leaf_unordered : before.unordered ≡ 0 → (fits : Bool) → fits ≡ at_most (bytes_in file before.span.last) (bytes_in file own.first) → fits ≡ false
+  pub leaf_unordered : before.unordered ≡ 0 → (fits : Bool) → fits ≡ at_most (bytes_in file before.span.last) (bytes_in file (first_of own)) → fits ≡ false
       → record { span = own; unordered = at; misfit = before.misfit } ≡ leaf_keys file at before
   leaf_unordered h fits k t = leaf_is file at before own at e (rw (eq-eqb before.unordered 0 h, sym k ∙ t))
 
@@ -118,13 +126,13 @@ pub earlier_none : (m at : ℕ) → m ≡ 0 → at ≡ earlier m at
 unfolding earlier
 earlier_none m at h = rw (eq-eqb m 0 h)
 
-pub earlier-less : (m at : ℕ) → (m ≡ 0 → ⊥) → at < m → at ≡ earlier m at
+pub earlier_some : (m at : ℕ) → (m ≡ 0 → ⊥) → min m at ≡ earlier m at
 unfolding earlier
-earlier-less m at h k = rw (ne_eqb m 0 h, lt-ltb at m k)
-
-pub earlier_kept : (m at : ℕ) → (m ≡ 0 → ⊥) → m ≤ at → m ≡ earlier m at
-unfolding earlier
-earlier_kept m at h k = rw (ne_eqb m 0 h, le-ltb at m k)
+earlier_some m at h = rw (ne_eqb m 0 h) (go (ltb at m) refl)
+  where
+    go : (b : Bool) → ltb at m ≡ b → min m at ≡ cond b at m
+    go true e = let less = ltb-true at m e in omega arith
+    go false e = let more = ltb-false at m e in omega arith
 
 -- ---- the loop over the entries
 
@@ -140,12 +148,13 @@ keys_index file (suc level) at before h =
     let one : level ≡ suc level - 1 = omega arith in
     ap (λ (l : ℕ). over_keys file at (keys_of file l) (entries_in file at) (keys_entering before)) one
 
-pub keys_start : (file : List ℕ) (level at : ℕ) (met : Keys) (p : Part) → p ≡ payload_part (frame_at file at)
-    → Going (over_keys file at (keys_of file (level - 1))) (entry_at at (take (end_of p) file)) (end_of p)
+pub keys_start : (file : List ℕ) (level at : ℕ) (met : Keys) (p : Part) → p ≡ payload_part (frame_at file at) → (s : List ℕ) → s ≡ take (end_of p) file
+    → Going (over_keys file at (keys_of file (level - 1))) (entry_at at s) (length s)
     (over_keys file at (keys_of file (level - 1)) (entries_in file at) met) p.offset met
 unfolding entries_in
-keys_start file level at met p e =
-    going_start _ _ (end_of p) _ p.offset met (ap (λ (es : List Entry). over_keys file at (keys_of file (level - 1)) es met) (items_found file at entry_at p e))
+keys_start file level at met p e s is =
+    going_start _ _ (length s) _ p.offset met
+    (ap (λ (es : List Entry). over_keys file at (keys_of file (level - 1)) es met) (items_read file at entry_at p e s is))
 
 pub keys_whole : (file : List ℕ) (level at : ℕ) (before met : Keys) → (level ≡ 0 → ⊥) → met ≡ keys_entering before
     → over_keys file at (keys_of file (level - 1)) (entries_in file at) met ≡ keys_of file level at before
@@ -170,7 +179,7 @@ over_key file at end child key offset size met own next inside walked e more =
 -- ---- within the file
 
 entering_within : (file : List ℕ) (before : Keys) → Within file before.span → Within file (keys_entering before).span
-unfolding keys_entering Within no_part
+unfolding keys_entering Within first_of no_part
 entering_within file before h = (omega arith, h.1)
 
 pub met_within : (file : List ℕ) (before met : Keys) → met ≡ keys_entering before → Within file before.span → Within file met.span
@@ -184,7 +193,7 @@ entry_keys_within file at key before child h k = joined-within file before.span 
 -- records that were read lie within the file
 one_within : (file : List ℕ) (place end at : ℕ) (x : Step Text) → end ≤ length file → text_at place (take end file) at ≡ answer x
     → Within file (span_one x.item)
-unfolding span_one Within
+unfolding span_one Within first_of
 one_within file place end at x inside e =
     let p = text⇒Placed place (take end file) at x e in
     let long = p.long in
@@ -209,7 +218,7 @@ sound_within file place end inside (suc fuel) at s h =
     go false (refused number place) e ih = h
 
 none_within : (file : List ℕ) → Within file no_span
-unfolding Within no_span no_part
+unfolding Within no_span first_of no_part
 none_within file = (omega arith, omega arith)
 
 pub records_within : (file : List ℕ) (at : ℕ) (own : Span) → own ≡ span_over (records_in file at) no_span → Within file own

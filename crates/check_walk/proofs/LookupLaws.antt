@@ -1,14 +1,19 @@
 -- Laws of what lies at an offset.
 -- Assumes nothing.
 use mathlib.Core.Path.{◌≡◌, refl, sym, ap, ◌∙◌, subst}
-use mathlib.Core.List.{List}
+use mathlib.Core.Bool.{Bool, true, false}
+use mathlib.Core.List.{List, []}
 use Prim.Native.Nat.{ℕ, ◌+◌, ◌-◌, ◌≤◌}
 use native.Mathlib.Omega.{arith}
+use lib.Dec.{leb}
 use lib.ListN.{length, take}
+use lib.Seq.{length-take-le}
+use borrow.Author.Tests.{leb-true, leb-false}
 use Rattle.outcome.specs.Outcome.{Outcome, answer, refused}
 use Rattle.items.specs.Items.{sound_from, where_answered}
 use Rattle.items.specs.declared.Step.{Step}
 use Rattle.items.proofs.ItemsLaws.{sound_end}
+use Rattle.items.proofs.GoingLaws.{Going, going_end, going_refused}
 use Rattle.part.specs.declared.Part.{Part}
 use Rattle.framing.specs.declared.Frame.{Frame}
 use Rattle.framing.specs.Frame.{frame_at}
@@ -24,6 +29,15 @@ use Rattle.check_walk.specs.Lookup.{no_part, payload_part, entries_in, records_i
 -- where a part ends
 abbrev pub end_of : Part → ℕ
 end_of p = p.offset + p.length
+
+-- where no item can be read, a loop over the items has met them all
+pub going_over : {A S R : Type 0} (run : List A → S → R) (step : ℕ → Outcome (Step A)) (end : ℕ) (whole : R) (at : ℕ) (s : S)
+    → Going run step end whole at s → (number place : ℕ) → step at ≡ refused number place → whole ≡ run [] s
+going_over run step end whole at s g number place e = go (leb end at) refl
+  where
+    go : (b : Bool) → leb end at ≡ b → whole ≡ run [] s
+    go true p = going_end run step end whole at s g (leb-true _ _ p)
+    go false p = going_refused run step end whole at s (leb-false _ _ p) g number place e
 
 -- ---- the payload at an offset
 
@@ -70,6 +84,16 @@ module _ (file : List ℕ) (at : ℕ) where
       go (answer f) e = ap (λ o. where_answered o (laid_items file step)) e ∙ found f e ∙ ap from_part (sym (same ∙ payload_found f e))
       go (refused number place) e =
           ap (λ o. where_answered o (laid_items file step)) e ∙ sym (sound_end (step at (take 0 file)) 0 0 0 (omega arith)) ∙ ap from_part (sym (same ∙ payload_none number place e))
+
+  -- likewise in the bytes up to the payload's end
+  pub items_read : {A : Type 0} (step : ℕ → List ℕ → ℕ → Outcome (Step A)) (p : Part) → p ≡ payload_part (frame_at file at) → (s : List ℕ)
+      → s ≡ take (end_of p) file → where_answered (frame_at file at) (laid_items file step) ≡ sound_from (step at s) (length s) (length s - p.offset) p.offset
+  items_read step p same s is =
+      let within = subst (λ (q : Part). end_of q ≤ length file) (sym same) payload_within in
+      let long : end_of p ≡ length s = sym (ap length is ∙ length-take-le (end_of p) file within) in
+      items_found step p same
+      ∙ ap (λ (l : List ℕ). sound_from (step at l) (end_of p) (end_of p - p.offset) p.offset) (sym is)
+      ∙ ap (λ (n : ℕ). sound_from (step at s) n (n - p.offset) p.offset) long
 
 -- ---- a block that was read is found again
 

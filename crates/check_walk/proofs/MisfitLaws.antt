@@ -18,7 +18,7 @@ use Rattle.check_walk.specs.declared.keys.Span.{Span}
 use Rattle.check_walk.specs.declared.keys.Keys.{Keys}
 use Rattle.tree.specs.Tree.{block_entries, block_records, block_level, leaves, under, key_fits}
 use Rattle.check_walk.specs.Lookup.{bytes_in, entries_in}
-use Rattle.check_walk.specs.Keys.{earlier, fits_between, entry_keys, over_keys, keys_entering, keys_of, leaf_keys}
+use Rattle.check_walk.specs.Keys.{earlier, first_of, fits_between, entry_keys, over_keys, keys_entering, keys_of, leaf_keys}
 use Rattle.check_walk.proofs.AscentLaws.{walk_entries}
 use Rattle.check_walk.proofs.SpanLaws.{last_bytes, last_bytes_append, Spans}
 use Rattle.check_walk.proofs.WalkLaws.{records_all, Met, met_last, met_entry, met_entering, walk_met}
@@ -80,7 +80,7 @@ test_same : (file key : List ℕ) (met own : Span) (before : List Text) (first :
     → fits_between file key met own ≡ (at_most key first.bytes && all (λ r. at_most r.bytes key) before)
 unfolding fits_between Spans
 test_same file key met own before first rest rise last d spans =
-    ap (λ (l : List ℕ). at_most l key && at_most key (bytes_in file own.first)) last
+    ap (λ (l : List ℕ). at_most l key && at_most key (bytes_in file (first_of own))) last
     ∙ ap (λ (l : List ℕ). at_most (last_bytes [] before) key && at_most key l) spans.1
     ∙ ap (λ (b : Bool). b && at_most key first.bytes) (sym (all_last key [] before rise))
     ∙ and_comm (all (λ r. at_most r.bytes key) before) (at_most key first.bytes)

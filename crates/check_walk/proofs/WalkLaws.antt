@@ -18,7 +18,7 @@ use Rattle.check_walk.specs.declared.keys.Span.{Span}
 use Rattle.check_walk.specs.declared.keys.Keys.{Keys}
 use Rattle.tree.specs.Tree.{block_entries, block_records, leaves}
 use Rattle.check_walk.specs.Lookup.{no_part, bytes_in, records_in}
-use Rattle.check_walk.specs.Keys.{no_span, span_over, span_joined, leaf_keys, entry_keys, over_keys, keys_entering, keys_of}
+use Rattle.check_walk.specs.Keys.{no_span, span_over, span_joined, first_of, leaf_keys, entry_keys, over_keys, keys_entering, keys_of}
 use Rattle.check_walk.proofs.AscentLaws.{walk_entries}
 use Rattle.check_walk.proofs.SpanLaws.{last_bytes, last_bytes_append, Spans, spans_last, spans_joined, block_spans}
 use Rattle.tree.proofs.TreeLaws.{Tree, records_at_lem, Child, child}
@@ -30,7 +30,7 @@ unfoldable pub first_fits : List ℕ → List Text → Bool
 first_fits d [] = true
 first_fits d (r ∷ rs) = at_most d r.bytes
 
-pub spans_first : (file d : List ℕ) (own : Span) (rs : List Text) → 0 < length rs → Spans file d own rs → at_most d (bytes_in file own.first) ≡ first_fits d rs
+pub spans_first : (file d : List ℕ) (own : Span) (rs : List Text) → 0 < length rs → Spans file d own rs → at_most d (bytes_in file (first_of own)) ≡ first_fits d rs
 unfolding Spans first_fits
 spans_first file d own [] some h = absurd (omega arith)
 spans_first file d own (r ∷ rs) some h = ap (at_most d) h.1

@@ -1,15 +1,8 @@
 -- The walk of 22 as it is made: down from a block of a level, with the least offset that the next data block may have.
 use Rattle.std.specs.Prelude.{ℕ, zero, suc, ◌+◌, ◌&&◌, List, [], ◌∷◌, leb, ltb, length}
-use Rattle.outcome.specs.Outcome.{Outcome, answer, refused, ◌>>=◌, ◌>>◌, must}
+use Rattle.outcome.specs.Outcome.{Outcome, answer, ◌>>=◌, ◌>>◌, must}
 use Rattle.payload.specs.Payload.{Entry}
-use Rattle.check_walk.specs.declared.ascent.AscentOutcome.{AscentOutcome}
-use Rattle.check_walk.specs.declared.ascent.AscentOutcome.TheVariants.{Answer as Risen, Refused as Fallen}
 use Rattle.check_walk.specs.Lookup.{entries_in}
-
--- what an answer says: the least offset that is handed on, or the data block that does not ascend
-unfoldable pub ascent_said : AscentOutcome → Outcome ℕ
-ascent_said (Risen least) = answer least
-ascent_said (Fallen place) = refused 22 place
 
 -- through the entries in order, with the walk of an entry's block
 unfoldable pub ascent_over : (child : ℕ → ℕ → Outcome ℕ) → List Entry → ℕ → Outcome ℕ

@@ -6,13 +6,40 @@ ghost use Rattle.check_walk.specs.Keys as defs;
 
 use crate::lookup::payload_at;
 use part::Part;
-use payload::{EntryOutcome, TextOutcome, compare_parts, entry_at, text_at};
+use payload::{entry_at, text_at};
 
-// The first and the last of some records; no record begins at 0, which stands for none.
+// The first of some records, and the last one met: the last of them, or, where there are none, one before. No bytes before any was met.
 #[derive(Clone, Copy)]
 pub struct Span {
-    pub first: Part,
+    pub first: Option<Part>,
     pub last: Part,
+}
+
+impl Span {
+    // No record yet.
+    pub const NONE: Span = Span {
+        first: None,
+        last: Part::NONE,
+    };
+
+    // The first record, or no bytes.
+    #[tactic(auto, unfolding(crate::specs::Keys::first_of, crate::specs::Lookup::no_part))]
+    fn start(self) -> Part
+        ensures { result ≡ defs.first_of self }
+    {
+        self.first.unwrap_or(Part::NONE)
+    }
+
+    // These records, and then those of another span.
+    #[tactic(auto, unfolding(crate::specs::Keys::span_joined))]
+    fn joined(self, next: Span) -> Span
+        ensures { result ≡ defs.span_joined self next }
+    {
+        Span {
+            first: self.first.or(next.first),
+            last: next.last,
+        }
+    }
 }
 
 // What the walk hands on: the records of the block that it leaves, or the last one before the block that it enters; the first data
@@ -24,16 +51,27 @@ pub struct Keys {
     pub misfit: usize,
 }
 
-// Records, and then the records of another span.
-fn joined(a: Span, b: Span) -> Span
-    ensures { result ≡ defs.span_joined a b }
-{
-    let first = a.first;
-    let last = b.last;
-    if first.offset == 0 {
-        return b;
+impl Keys {
+    // Before the walk.
+    pub const NONE: Keys = Keys {
+        span: Span::NONE,
+        unordered: 0,
+        misfit: 0,
+    };
+
+    // At the start of an index block: nothing of what it leads to is met yet.
+    #[tactic(auto, unfolding(crate::specs::Keys::keys_entering))]
+    fn entering(self) -> Keys
+        ensures { result ≡ defs.keys_entering self }
+    {
+        Keys {
+            span: Span {
+                first: None,
+                ..self.span
+            },
+            ..self
+        }
     }
-    Span { first, last }
 }
 
 // The records that can be read in the frame at an offset.
@@ -41,40 +79,26 @@ fn span_at(file: &[u8], at: usize) -> Span
     ensures { result ≡ defs.span_over (records_in file.now at) defs.no_span }
 {
     let payload = payload_at(file, at);
-    let end = payload.offset + payload.length;
+    let records = &file[..payload.end()];
     let mut place = payload.offset;
-    let none = Part {
-        offset: 0,
-        length: 0,
-    };
-    let mut span = Span {
-        first: none,
-        last: none,
-    };
-    while place < end {
-        let step = text_at(&file[..end], place);
-        match step {
-            TextOutcome::Refused(_) => return span,
-            TextOutcome::Answer(text) => {
-                let one = Span {
-                    first: text,
-                    last: text,
-                };
-                let next = joined(span, one);
-                span = next;
-                place = text.offset + text.length;
-            },
-        }
+    let mut span = Span::NONE;
+    while let Ok(text) = text_at(records, place) {
+        span = span.joined(Span {
+            first: Some(text),
+            last: text,
+        });
+        place = text.end();
     }
     span
 }
 
 // Whether a byte string of the file is at most another.
+#[tactic(auto, unfolding(crate::specs::Lookup::bytes_in))]
 fn part_at_most(file: &[u8], x: Part, y: Part) -> bool
     requires { (x.offset + x.length ≤ length file.now) × (y.offset + y.length ≤ length file.now) }
     ensures { result ≡ at_most (bytes_in file.now x) (bytes_in file.now y) }
 {
-    compare_parts(file, x, y).at_most()
+    byte_string::compare(x.of(file), y.of(file)).at_most()
 }
 
 // A data block: it is out of order where its first record is below the last one before.
@@ -82,29 +106,15 @@ fn leaf_keys(file: &[u8], at: usize, before: Keys) -> Keys
     requires { defs.Within file.now before.span }
     ensures { result ≡ defs.leaf_keys file.now at before }
 {
-    let own = span_at(file, at);
-    let misfit = before.misfit;
-    if before.unordered != 0 {
-        return Keys {
-            span: own,
-            unordered: before.unordered,
-            misfit,
-        };
-    }
-    let met = before.span;
-    let last = met.last;
-    let first = own.first;
-    if part_at_most(file, last, first) {
-        return Keys {
-            span: own,
-            unordered: 0,
-            misfit,
-        };
-    }
-    Keys {
-        span: own,
-        unordered: at,
-        misfit,
+    let span = span_at(file, at);
+    if before.unordered != 0 || part_at_most(file, before.span.last, span.start()) {
+        Keys { span, ..before }
+    } else {
+        Keys {
+            span,
+            unordered: at,
+            ..before
+        }
     }
 }
 
@@ -113,25 +123,14 @@ fn fits_between(file: &[u8], key: Part, before: Span, child: Span) -> bool
     requires { (key.offset + key.length ≤ length file.now) × defs.Within file.now before × defs.Within file.now child }
     ensures { result ≡ defs.fits_between file.now (bytes_in file.now key) before child }
 {
-    let last = before.last;
-    let first = child.first;
-    if part_at_most(file, last, key) {
-        return part_at_most(file, key, first);
-    }
-    false
+    part_at_most(file, before.last, key) && part_at_most(file, key, child.start())
 }
 
 // The first place of two, where 0 is none.
 fn earlier(m: usize, at: usize) -> usize
     ensures { result ≡ defs.earlier m at }
 {
-    if m == 0 {
-        return at;
-    }
-    if at < m {
-        return at;
-    }
-    m
+    if m == 0 { at } else { m.min(at) }
 }
 
 // An entry of the index block at `at`, with what the walk of its block hands back.
@@ -139,39 +138,15 @@ fn entry_keys(file: &[u8], at: usize, key: Part, before: Keys, child: Keys) -> K
     requires { (key.offset + key.length ≤ length file.now) × defs.Within file.now before.span × defs.Within file.now child.span }
     ensures { result ≡ defs.entry_keys file.now at (bytes_in file.now key) before child }
 {
-    let met = before.span;
-    let own = child.span;
-    let span = joined(met, own);
-    let unordered = child.unordered;
-    if fits_between(file, key, met, own) {
-        return Keys {
+    let span = before.span.joined(child.span);
+    if fits_between(file, key, before.span, child.span) {
+        Keys { span, ..child }
+    } else {
+        Keys {
             span,
-            unordered,
-            misfit: child.misfit,
-        };
-    }
-    Keys {
-        span,
-        unordered,
-        misfit: earlier(child.misfit, at),
-    }
-}
-
-// At the start of an index block: nothing of what it leads to is met yet.
-fn entering(before: Keys) -> Keys
-    ensures { result ≡ defs.keys_entering before }
-{
-    let none = Part {
-        offset: 0,
-        length: 0,
-    };
-    let met = before.span;
-    let last = met.last;
-    let span = Span { first: none, last };
-    Keys {
-        span,
-        unordered: before.unordered,
-        misfit: before.misfit,
+            misfit: earlier(child.misfit, at),
+            ..child
+        }
     }
 }
 
@@ -184,25 +159,13 @@ pub fn keys_under(file: &[u8], at: usize, level: u8, before: Keys) -> Keys
         return leaf_keys(file, at, before);
     }
     let payload = payload_at(file, at);
-    let end = payload.offset + payload.length;
+    let entries = &file[..payload.end()];
     let mut place = payload.offset;
-    let mut met = entering(before);
-    while place < end {
-        let step = entry_at(&file[..end], place);
-        match step {
-            EntryOutcome::Refused(_) => return met,
-            EntryOutcome::Answer {
-                key,
-                offset,
-                size: _,
-                next,
-            } => {
-                let child = keys_under(file, offset as usize, level - 1, met);
-                let more = entry_keys(file, at, key, met, child);
-                met = more;
-                place = next;
-            },
-        }
+    let mut met = before.entering();
+    while let Ok(step) = entry_at(entries, place) {
+        let child = keys_under(file, step.item.offset as usize, level - 1, met);
+        met = entry_keys(file, at, step.item.key, met, child);
+        place = step.next;
     }
     met
 }

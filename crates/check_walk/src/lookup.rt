@@ -3,17 +3,15 @@ ghost use Rattle.std.specs.Prelude.{◌+◌, ◌≤◌, ◌≡◌, length};
 ghost use Rattle.framing.specs.Frame.{frame_at};
 ghost use Rattle.check_walk.specs.Lookup as lookups;
 
-use framing::FrameOutcome;
 use part::Part;
 
 // The level in the frame at an offset; 0 where there is no frame.
 pub fn level_at(file: &[u8], at: usize) -> u8
     ensures { result ≡ lookups.level_of (frame_at file.now at) }
 {
-    let found = framing::frame_at(file, at);
-    match found {
-        FrameOutcome::Refused(_) => 0,
-        FrameOutcome::Answer(f) => f.level,
+    match framing::frame_at(file, at) {
+        Ok(frame) => frame.level,
+        Err(_) => 0,
     }
 }
 
@@ -22,16 +20,14 @@ pub fn payload_at(file: &[u8], at: usize) -> Part
     ensures value { result ≡ lookups.payload_part (frame_at file.now at) }
     ensures length_in_bounds { result.offset + result.length ≤ length file.now }
 {
-    let found = framing::frame_at(file, at);
-    match found {
-        FrameOutcome::Refused(_) => Part {
-            offset: 0,
-            length: 0,
+    match framing::frame_at(file, at) {
+        Ok(frame) => {
+            let offset = frame.body + 1;
+            Part {
+                offset,
+                length: frame.end - offset,
+            }
         },
-        FrameOutcome::Answer(f) => {
-            let offset = f.body + 1;
-            let length = f.end - offset;
-            Part { offset, length }
-        },
+        Err(_) => Part::NONE,
     }
 }

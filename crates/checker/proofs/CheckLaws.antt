@@ -1,7 +1,6 @@
 -- Laws of the check and of acceptance: their stages, their ways out, and what each answers.
 -- Assumes nothing.
 use mathlib.Core.Path.{◌≡◌, sym, ap, ◌∙◌, subst}
-use mathlib.Core.Logic.{◌≢◌}
 use mathlib.Core.Bool.{true, false}
 use mathlib.Core.List.{List}
 use Prim.Native.Nat.{ℕ, ◌≤◌, ◌<◌}
@@ -9,10 +8,8 @@ use lib.Dec.{leb}
 use lib.ListN.{length}
 use borrow.Author.Tests.{le-leb, lt-leb, leb-true}
 use Rattle.outcome.specs.Outcome.{Outcome, answer, refused, ◌>>◌, must, number_of, place_of, count_of}
-use Rattle.outcome.specs.declared.Refusal.{Refusal}
-use Rattle.outcome.specs.Refusal.{refusal_of}
 use Rattle.outcome.proofs.OutcomeLaws.{answer_injective, kept, kept⁻¹, broken, bind_answer, bind_refused, bind⁻¹, map_refused⁻¹}
-use Rattle.outcome.proofs.OutcomeLaws.{after_answer, after_refused, after_assoc, passed⁻¹, must⁻¹, fault_none, fault_some}
+use Rattle.outcome.proofs.OutcomeLaws.{after_answer, after_refused, after_assoc, passed⁻¹, must⁻¹}
 use Rattle.header.specs.declared.Header.{Header}
 use Rattle.header.specs.Header.{header_of, blocks_from}
 use Rattle.block.specs.declared.Survey.{Survey}
@@ -192,25 +189,28 @@ module _ (file : List ℕ) (places : ℕ) (h : Header) (header : header_of file 
         let (bs, blocks, same) = accepted in
         told (check_of file places) 17 0 (check_17 file places h header bs blocks (root_is bs same ∙ none))
 
-    -- 18 to 25, as the code reports them
-    module _ (one : s.root ≡ true) (f : Refusal) (is : refusal_of f ≡ laid_tree_of file (blocks_from h) h.root places) where
+    -- 18 to 25, as the code judges them
+    module _ (one : s.root ≡ true) where
       decided : (bs : List Block) → blocks_at file (blocks_from h) ≡ answer bs → surveyed h.root h.rootsize bs ≡ s
-          → check_of file places ≡ (refusal_of f >> answer bs)
+          → check_of file places ≡ (laid_tree_of file (blocks_from h) h.root places >> answer bs)
       decided bs blocks same =
           let root = root_is bs same ∙ one in
           check_room file places h bs header blocks root
           ∙ after_assoc (room places bs) (tree_of file h bs) (answer bs)
-          ∙ ap (λ (o : Outcome (Unit {0})). o >> answer bs) (sym (is ∙ tree_accepted file h bs header blocks root places))
+          ∙ ap (λ (o : Outcome (Unit {0})). o >> answer bs) (sym (tree_accepted file h bs header blocks root places))
 
-      pub told_fault : f.number ≢ 0 → (r : Checked) → r ≡ record { number = f.number; place = f.place; blocks = 0; records = 0 }
-          → r ≡ check_answer (check_of file places)
-      told_fault some =
+      pub told_fault : (number place : ℕ) → laid_tree_of file (blocks_from h) h.root places ≡ refused number place
+          → (r : Checked) → r ≡ record { number = number; place = place; blocks = 0; records = 0 } → r ≡ check_answer (check_of file places)
+      told_fault number place e =
           let (bs, blocks, same) = accepted in
-          told (check_of file places) f.number f.place (decided bs blocks same ∙ after_refused (refusal_of f) (answer bs) f.number f.place (fault_some f some))
+          told (check_of file places) number place
+          (decided bs blocks same ∙ after_refused (laid_tree_of file (blocks_from h) h.root places) (answer bs) number place e)
 
-      pub told_sound : f.number ≡ 0 → record { number = 0; place = 0; blocks = s.blocks; records = s.records } ≡ check_answer (check_of file places)
-      told_sound none =
+      pub told_sound : laid_tree_of file (blocks_from h) h.root places ≡ answer tt
+          → record { number = 0; place = 0; blocks = s.blocks; records = s.records } ≡ check_answer (check_of file places)
+      told_sound e =
           let (bs, blocks, same) = accepted in
           ap (λ (n : ℕ). record { number = 0; place = 0; blocks = n; records = s.records }) (sym (blocks_are bs same))
           ∙ ap (λ (n : ℕ). record { number = 0; place = 0; blocks = length (ordinary bs); records = n }) (sym (records_are bs same))
-          ∙ sym (answer_of_blocks (check_of file places) bs (decided bs blocks same ∙ after_answer (refusal_of f) (answer bs) tt (fault_none f none)))
+          ∙ sym (answer_of_blocks (check_of file places) bs
+          (decided bs blocks same ∙ after_answer (laid_tree_of file (blocks_from h) h.root places) (answer bs) tt e))

@@ -2,17 +2,14 @@
 -- give what the rules state.
 -- Assumes nothing.
 use mathlib.Core.Path.{◌≡◌, sym, ap, ◌∙◌}
-use mathlib.Core.Logic.{◌≢◌}
 use mathlib.Core.Bool.{true}
 use mathlib.Core.List.{List}
 use Prim.Native.Nat.{ℕ, ◌^◌, ◌≤◌}
 use native.Mathlib.Omega.{arith}
 use lib.Dec.{leb}
 use lib.ListN.{length}
-use Rattle.outcome.specs.Outcome.{Outcome, answer, ◌>>◌, must}
-use Rattle.outcome.specs.declared.Refusal.{Refusal}
-use Rattle.outcome.specs.Refusal.{refusal_of}
-use Rattle.outcome.proofs.OutcomeLaws.{after_answer, after_refused, after_assoc, passed⁻¹, after_same, fault_none, fault_some}
+use Rattle.outcome.specs.Outcome.{Outcome, answer, refused, ◌>>◌, must}
+use Rattle.outcome.proofs.OutcomeLaws.{after_answer, after_refused, after_assoc, passed⁻¹, after_same}
 use Rattle.header.specs.declared.Header.{Header}
 use Rattle.header.specs.Header.{header_of, blocks_from}
 use Rattle.header.proofs.HeaderLaws.{is_header, blocks_from_lem}
@@ -30,28 +27,24 @@ use Rattle.checker.specs.Check.{laid_tree_of}
 
 -- ---- one after the other
 
-module _ (file : List ℕ) (from root places : ℕ) (names : Refusal) (is : refusal_of names ≡ names_of file from root places) where
+module _ (file : List ℕ) (from root places : ℕ) where
   -- 18, 19 or 20 decides
-  pub tree_names : names.number ≢ 0 → refusal_of names ≡ laid_tree_of file from root places
+  pub tree_names : (number place : ℕ) → names_of file from root places ≡ refused number place → laid_tree_of file from root places ≡ refused number place
   unfolding laid_tree_of
-  tree_names some =
-      let said = fault_some names some in
-      said ∙ sym (after_refused (names_of file from root places) _ names.number names.place (sym is ∙ said))
+  tree_names number place e = after_refused (names_of file from root places) _ number place e
 
-  module _ (none : names.number ≡ 0) (walk : Refusal) (walked : refusal_of walk ≡ walked_of file root) where
+  module _ (names : names_of file from root places ≡ answer tt) where
     named : laid_tree_of file from root places ≡ (walked_of file root >> hash_of file from)
     unfolding laid_tree_of
-    named = after_answer (names_of file from root places) _ tt (sym is ∙ fault_none names none)
+    named = after_answer (names_of file from root places) _ tt names
 
     -- 22, 23 or 24 decides
-    pub tree_walk : walk.number ≢ 0 → refusal_of walk ≡ laid_tree_of file from root places
-    tree_walk some =
-        let said = fault_some walk some in
-        said ∙ sym (named ∙ after_refused (walked_of file root) _ walk.number walk.place (sym walked ∙ said))
+    pub tree_walk : (number place : ℕ) → walked_of file root ≡ refused number place → laid_tree_of file from root places ≡ refused number place
+    tree_walk number place e = named ∙ after_refused (walked_of file root) _ number place e
 
     -- 25 decides
-    pub tree_hash : walk.number ≡ 0 → laid_tree_of file from root places ≡ hash_of file from
-    tree_hash z = named ∙ after_answer (walked_of file root) _ tt (sym walked ∙ fault_none walk z)
+    pub tree_hash : walked_of file root ≡ answer tt → laid_tree_of file from root places ≡ hash_of file from
+    tree_hash e = named ∙ after_answer (walked_of file root) _ tt e
 
 -- ---- of an accepted file
 

@@ -1,2 +1,3 @@
--- The meaning of the check.
+-- The meaning of the check, and what is reported of it.
 pub mod Check
+pub mod Reported

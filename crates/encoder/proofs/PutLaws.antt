@@ -1,13 +1,17 @@
 -- Laws of putting numbers and blocks.
 -- Assumes nothing.
 use mathlib.Core.Path.{◌≡◌, refl, sym, ap, ◌∙◌, subst}
-use mathlib.Core.Bool.{Bool, true, false, cond}
+use mathlib.Core.Bool.{Bool, true, false}
 use mathlib.Core.List.{List, [], ◌∷◌, ◌++◌, append_assoc}
 use Prim.Native.Nat.{ℕ, zero, suc, ◌+◌, ◌-◌, ◌/◌, ◌%◌, ◌^◌, ◌≤◌, ◌<◌}
 use native.Mathlib.Omega.{arith}
 use native.Mathlib.Nat.{pow-zero, pow-succ', add-zero, add_comm}
 use lib.Dec.{leb}
-use borrow.Author.Tests.{le-leb, lt-leb, leb-true, leb-false}
+use Rattle.std.specs.Prelude.{Some, None}
+use Rattle.std.specs.Bool.{then_some}
+use Rattle.std.proofs.Common.{inl, inr}
+use Rattle.std.proofs.lemmas.Bool.{cases_lt}
+use borrow.Author.Tests.{lt-leb, leb-true, leb-false}
 use lib.ListN.{length, drop, get_or, set, length-drop, length-append}
 use lib.Seq.{get_or-drop, drop-drop}
 use Rattle.endian.specs.FixedWidth.{little_bytes}
@@ -17,7 +21,7 @@ use Rattle.layout.specs.Blocks.{block_bytes, block_size}
 use Rattle.layout.proofs.ReadBackLaws.{length_block}
 use Rattle.uleb128.specs.Encoding.{encoding, encoding_with}
 use Rattle.uleb128.proofs.EncodingLaws.{encoding_with_low, encoding_with_high, encoding_with_some, digits}
-use Rattle.output_bytes.specs.OutputBytes.{stored, stored_length}
+use Rattle.output_bytes.specs.OutputBytes.{stored, stored_length, stored_size}
 use Rattle.output_bytes.proofs.OutputBytesLaws.{Storing, storing_none, storing_more, storing_all, fits_some, fits_none, stored_none, stored-append}
 
 -- ---- a number, byte by byte
@@ -41,14 +45,36 @@ next_byte s i b more e = (
   (sym (drop-drop 1 i s) ∙ ap (drop 1) e),
 )
 
-pub putting_more : (old : List ℕ) (at value : ℕ) (output : List ℕ) (rest i : ℕ) → 128 ≤ rest → Putting old at value output rest i
-    → Putting old at value (set output (at + i) (rest % 128 + 128)) (rest / 128) (i + 1)
-putting_more old at value output rest i h p = go (9 - i) refl
+-- more than one byte is left: the next has the top bit
+more_left : (old : List ℕ) (at value : ℕ) (output : List ℕ) (rest i : ℕ) → i + 1 < length (encoding value) → Putting old at value output rest i → 128 ≤ rest
+more_left old at value output rest i h p = elim (cases_lt rest 128) [ inl l ↦ absurd (one l) | inr g ↦ g ]
   where
-    go : (more : ℕ) → 9 - i ≡ more → Putting old at value (set output (at + i) (rest % 128 + 128)) (rest / 128) (i + 1)
-    go zero e = absurd (let small : rest < 128 ^ suc zero = subst (λ m. rest < 128 ^ suc m) e p.small in
+    one : rest < 128 → ⊥
+    one l =
+        let long : length (encoding value) - i ≡ 1 =
+        sym (length-drop i (encoding value)) ∙ ap length (p.left ∙ encoding_with_low (9 - i) rest l) in omega arith
+
+-- one byte is left
+one_left : (old : List ℕ) (at value : ℕ) (output : List ℕ) (rest i : ℕ) → i + 1 ≡ length (encoding value) → Putting old at value output rest i → rest < 128
+one_left old at value output rest i h p = elim (cases_lt rest 128) [ inl l ↦ l | inr g ↦ absurd (go (9 - i) refl g) ]
+  where
+    go : (more : ℕ) → 9 - i ≡ more → 128 ≤ rest → ⊥
+    go zero e g =
+        let small : rest < 128 ^ suc zero = subst (λ m. rest < 128 ^ suc m) e p.small in
+        let one = pow-succ' 128 0 in let none = pow-zero 128 in omega arith
+    go (suc more) e g =
+        let long : length (encoding value) - i ≡ suc (length (encoding_with more (rest / 128))) =
+        sym (length-drop i (encoding value)) ∙ ap length (p.left ∙ ap (λ m. encoding_with m rest) e ∙ encoding_with_high more rest g) in
+        let some = encoding_with_some more (rest / 128) in omega arith
+
+pub putting_more : (old : List ℕ) (at value : ℕ) (output : List ℕ) (rest i : ℕ) → i + 1 < length (encoding value) → Putting old at value output rest i
+    → Putting old at value (set output (at + i) (rest % 128 + 128)) (rest / 128) (i + 1)
+putting_more old at value output rest i long p = go (9 - i) refl (more_left old at value output rest i long p)
+  where
+    go : (more : ℕ) → 9 - i ≡ more → 128 ≤ rest → Putting old at value (set output (at + i) (rest % 128 + 128)) (rest / 128) (i + 1)
+    go zero e h = absurd (let small : rest < 128 ^ suc zero = subst (λ m. rest < 128 ^ suc m) e p.small in
         let one = pow-succ' 128 0 in let none = pow-zero 128 in omega arith)
-    go (suc more) e =
+    go (suc more) e h =
         let left : 9 - (i + 1) ≡ more = omega arith in
         let small : rest < 128 ^ suc (suc more) = subst (λ m. rest < 128 ^ suc m) e p.small in
         let byte = next_byte (encoding value) i (128 + rest % 128) (encoding_with more (rest / 128))
@@ -61,72 +87,69 @@ putting_more old at value output rest i h p = go (9 - i) refl
         }
 
 -- the last byte
-pub putting_last : (old : List ℕ) (at value : ℕ) (output : List ℕ) (rest i : ℕ) → rest < 128 → Putting old at value output rest i
-    → (length (encoding value) ≡ stored_length old at (encoding value)) × (set output (at + i) rest ≡ stored old at (encoding value))
+pub putting_last : (old : List ℕ) (at value : ℕ) (output : List ℕ) (rest i : ℕ) → i + 1 ≡ length (encoding value) → Putting old at value output rest i
+    → (rest < 256) × (length (encoding value) ≡ stored_length old at (encoding value)) × (set output (at + i) rest ≡ stored old at (encoding value))
 unfolding stored_length
-putting_last old at value output rest i h p =
+putting_last old at value output rest i e p =
+    let h = one_left old at value output rest i e p in
     let byte = next_byte (encoding value) i rest [] (p.left ∙ encoding_with_low (9 - i) rest h) in (
+      omega arith,
       rw (fits_some old at (encoding value) p.storing.enough),
       storing_all old at (encoding value) (set output (at + i) rest) (i + 1)
-          (rw (← byte.1) (storing_more old at (encoding value) output i p.storing byte.0)) (all byte.0 byte.2),
+          (rw (← byte.1) (storing_more old at (encoding value) output i p.storing byte.0)) (omega arith),
     )
-  where
-    all : i < length (encoding value) → drop (i + 1) (encoding value) ≡ [] → length (encoding value) ≤ i + 1
-    all l e = let none : length (encoding value) - (i + 1) ≡ 0 = sym (length-drop (i + 1) (encoding value)) ∙ ap length e in omega arith
 
 -- it doesn't fit
 pub putting_full : (old : List ℕ) (at : ℕ) (s : List ℕ) → length old < at + length s → (0 ≡ stored_length old at s) × (old ≡ stored old at s)
 unfolding stored_length
 putting_full old at s h = (rw (fits_none old at s h), sym (stored_none old at s h))
 
--- the next byte lies within
-pub putting_within : (old : List ℕ) (at value : ℕ) (output : List ℕ) (rest i : ℕ) → Putting old at value output rest i → at + i < length output
-putting_within old at value output rest i p =
-    let enough = p.storing.enough in
-    let long = p.storing.long in
-    let some : 0 < length (encoding value) - i = rw (← length-drop i (encoding value), p.left) (encoding_with_some (9 - i) rest) in
-    omega arith
-
 -- ---- whether a block fits
 
 -- the full size, with the bytes of the number counted
-pub block_size_lem : (payload counted : ℕ) → counted ≡ length (encoding (payload + 1)) → counted + 9 + payload ≡ block_size payload
+pub block_size_lem : (payload value counted : ℕ) → value ≡ payload + 1 → counted ≡ length (encoding value) → payload + (counted + 9) ≡ block_size payload
 unfolding block_size
-block_size_lem payload counted e = omega arith
-
-pub size_none : (at payload room : ℕ) → room < at + block_size payload → 0 ≡ cond (leb (at + block_size payload) room) (block_size payload) 0
-size_none at payload room h = rw (lt-leb (at + block_size payload) room h)
-
-pub size_some : (at payload room size : ℕ) → size ≡ block_size payload → at + size ≤ room → size ≡ cond (leb (at + block_size payload) room) (block_size payload) 0
-size_some at payload room size e h = rw (le-leb (at + block_size payload) room (rw (← e) h)) e
+block_size_lem payload value counted e k = let counts : counted ≡ length (encoding (payload + 1)) = k ∙ ap (λ (n : ℕ). length (encoding n)) e in omega arith
 
 pub block_size_some : (payload : ℕ) → payload < block_size payload
 unfolding block_size
 block_size_some payload = omega arith
 
+-- where it doesn't fit, and where it does
+pub size_none : (at payload room : ℕ) → room < at + block_size payload → None ≡ then_some (leb (at + block_size payload) room) (block_size payload)
+size_none at payload room h = rw (lt-leb (at + block_size payload) room h)
+
+pub size_is : (at payload room size end : ℕ) → size ≡ block_size payload → end ≡ at + size
+    → then_some (leb end room) size ≡ then_some (leb (at + block_size payload) room) (block_size payload)
+size_is at payload room size end e k = rw (k, e)
+
 -- ---- a block
 
 -- what the size says: the block doesn't fit, or it does
-pub size_0 : (o : List ℕ) (at level : ℕ) (payload : List ℕ) (size : ℕ) → size ≡ cond (leb (at + block_size (length payload)) (length o)) (block_size (length payload)) 0
-    → size ≡ 0 → (0 ≡ stored_length o at (block_bytes level payload)) × (o ≡ stored o at (block_bytes level payload))
-size_0 o at level payload size e z = go (leb (at + block_size (length payload)) (length o)) refl
+pub size_out : (o : List ℕ) (at level : ℕ) (payload : List ℕ) → None ≡ then_some (leb (at + block_size (length payload)) (length o)) (block_size (length payload))
+    → (None ≡ stored_size o at (block_bytes level payload)) × (o ≡ stored o at (block_bytes level payload))
+unfolding stored_size
+size_out o at level payload e = go (leb (at + block_size (length payload)) (length o)) refl e
   where
-    go : (b : Bool) → leb (at + block_size (length payload)) (length o) ≡ b
-        → (0 ≡ stored_length o at (block_bytes level payload)) × (o ≡ stored o at (block_bytes level payload))
-    go true t =
-        let size_is : size ≡ block_size (length payload) = e ∙ ap (λ (b : Bool). cond b (block_size (length payload)) 0) t in
-        absurd (let some = block_size_some (length payload) in omega arith)
-    go false t =
-        putting_full o at (block_bytes level payload)
-        (rw (length_block level payload) (leb-false (at + block_size (length payload)) (length o) t))
+    go : (b : Bool) → leb (at + block_size (length payload)) (length o) ≡ b → None ≡ then_some b (block_size (length payload))
+        → (None ≡ stored_size o at (block_bytes level payload)) × (o ≡ stored o at (block_bytes level payload))
+    go true t e = cc
+    go false t e =
+        let out : length o < at + length (block_bytes level payload) =
+        rw (length_block level payload) (leb-false (at + block_size (length payload)) (length o) t) in (
+          rw (fits_none o at (block_bytes level payload) out),
+          sym (stored_none o at (block_bytes level payload) out),
+        )
 
-pub size_within : (o : List ℕ) (at : ℕ) (payload : List ℕ) (size : ℕ) → size ≡ cond (leb (at + block_size (length payload)) (length o)) (block_size (length payload)) 0
-    → (size ≡ 0 → ⊥) → (size ≡ block_size (length payload)) × (at + block_size (length payload) ≤ length o)
-size_within o at payload size e some = go (leb (at + block_size (length payload)) (length o)) refl
+pub size_within : (o : List ℕ) (at : ℕ) (payload : List ℕ) (size : ℕ)
+    → Some size ≡ then_some (leb (at + block_size (length payload)) (length o)) (block_size (length payload))
+    → (size ≡ block_size (length payload)) × (at + block_size (length payload) ≤ length o)
+size_within o at payload size e = go (leb (at + block_size (length payload)) (length o)) refl e
   where
-    go : (b : Bool) → leb (at + block_size (length payload)) (length o) ≡ b → (size ≡ block_size (length payload)) × (at + block_size (length payload) ≤ length o)
-    go true t = (e ∙ ap (λ (b : Bool). cond b (block_size (length payload)) 0) t, leb-true (at + block_size (length payload)) (length o) t)
-    go false t = absurd (some (e ∙ ap (λ (b : Bool). cond b (block_size (length payload)) 0) t))
+    go : (b : Bool) → leb (at + block_size (length payload)) (length o) ≡ b → Some size ≡ then_some b (block_size (length payload))
+        → (size ≡ block_size (length payload)) × (at + block_size (length payload) ≤ length o)
+    go true t e = (cc, leb-true (at + block_size (length payload)) (length o) t)
+    go false t e = cc
 
 -- the bytes of its number
 pub block_number : (o : List ℕ) (at : ℕ) (payload : List ℕ) → at + block_size (length payload) ≤ length o → {n : ℕ}
@@ -141,10 +164,10 @@ pub block_stored : (o : List ℕ) (at level : ℕ) (payload : List ℕ) → at +
     → n ≡ length (encoding (length payload + 1)) → {crc : List ℕ} → crc ≡ little_bytes 8 (crc64 (level ∷ payload))
     → {o1 o2 o3 o4 : List ℕ} → o1 ≡ stored o at (encoding (length payload + 1)) → o2 ≡ stored o1 (at + n) (level ∷ [])
     → o3 ≡ stored o2 (at + n + 1) payload → o4 ≡ stored o3 (at + n + 1 + length payload) crc
-    → (size ≡ stored_length o at (block_bytes level payload)) × (o4 ≡ stored o at (block_bytes level payload))
-unfolding stored_length block_bytes block_size
+    → (Some size ≡ stored_size o at (block_bytes level payload)) × (o4 ≡ stored o at (block_bytes level payload))
+unfolding stored_size block_bytes block_size
 block_stored o at level payload h {n = n} size number {crc} sum e1 e2 e3 e4 = (
-  rw (fits_some o at (block_bytes level payload) (rw (length_block level payload) h), length_block level payload) size,
+  rw (fits_some o at (block_bytes level payload) (rw (length_block level payload) h), length_block level payload, size),
   e4 ∙ ap (λ z. stored z (at + n + 1 + length payload) crc) (e3 ∙ ap (λ z. stored z (at + n + 1) payload) (e2 ∙ ap (λ z. stored z (at + n) (level ∷ [])) e1))
       ∙ rw number (chain ∙ ap (λ z. stored o at (E ++ ((level ∷ payload) ++ z))) sum),
 )

@@ -1,10 +1,12 @@
 -- Laws of a file that is begun: the header as far as it is known, then data blocks.
 -- Assumes nothing.
 use mathlib.Core.Path.{◌≡◌, refl, sym, ap, ◌∙◌}
-use mathlib.Core.Bool.{Bool, true, false, cond}
+use mathlib.Core.Bool.{Bool, true, false, cond, false≢true}
 use mathlib.Core.Logic.{◌⊎◌, inl, inr}
 use mathlib.Core.List.Memᴰ
 use mathlib.Core.List.{List, [], ◌++◌, flat_map, append_assoc, append-nil, Memᴰ}
+use Rattle.std.specs.Prelude.{Some, None}
+use Rattle.std.specs.Bool.{then_some}
 use Prim.Native.Nat.{ℕ, ◌+◌, ◌≤◌, ◌<◌}
 use native.Mathlib.Omega.{arith}
 use lib.Dec.{leb}
@@ -27,7 +29,7 @@ use Rattle.file_encoder.proofs.FitLaws.{fits⁻¹}
 module _ (output metadata : List ℕ) (room : ℕ) (limit : (end : ℕ) → file_fits (length output) end ≡ leb end room) where
   -- the header doesn't fit
   pub begin_none : room < 104 + length metadata
-      → (0 ≡ blocks_begin (length output) metadata) × (output ≡ with_header output metadata)
+      → (None ≡ blocks_begin (length output) metadata) × (output ≡ with_header output metadata)
   unfolding blocks_begin with_header blocks_start
   begin_none h =
       let no : file_fits (length output) (104 + length metadata) ≡ false = limit (104 + length metadata) ∙ lt-leb (104 + length metadata) room h in
@@ -36,31 +38,32 @@ module _ (output metadata : List ℕ) (room : ℕ) (limit : (end : ℕ) → file
   -- the header is put
   pub begin_some : 104 + length metadata ≤ room → (from : ℕ) → from ≡ 104 + length metadata
       → (then : List ℕ) → then ≡ stored output 0 (unfinished_header metadata)
-      → (from ≡ blocks_begin (length output) metadata) × (then ≡ with_header output metadata)
+      → (Some from ≡ blocks_begin (length output) metadata) × (then ≡ with_header output metadata)
   unfolding blocks_begin with_header blocks_start
   begin_some h from f then e =
       let yes : file_fits (length output) (104 + length metadata) ≡ true = limit (104 + length metadata) ∙ le-leb (104 + length metadata) room h in
-      (rw yes f, rw yes e)
+      (rw yes (ap Some f), rw yes e)
 
 -- ---- what stands then
 
 -- the header doesn't fit
-pub begun_not : (room : ℕ) (metadata : List ℕ) {from : ℕ} → from ≡ blocks_begin room metadata → from ≡ 0 → file_fits room (blocks_start metadata) ≡ false
-unfolding blocks_begin blocks_start
-begun_not room metadata {from} e none = go (file_fits room (104 + length metadata)) e
+pub begun_not : (room : ℕ) (metadata : List ℕ) → None ≡ blocks_begin room metadata → file_fits room (blocks_start metadata) ≡ false
+unfolding blocks_begin
+begun_not room metadata e = go (file_fits room (blocks_start metadata)) e
   where
-    go : (b : Bool) → from ≡ cond b (104 + length metadata) 0 → b ≡ false
-    go true f = absurd (omega arith)
+    go : (b : Bool) → None ≡ then_some b (blocks_start metadata) → b ≡ false
+    go true f = cc
     go false f = refl
 
 -- the header fits
-pub begun_yes : (room : ℕ) (metadata : List ℕ) {from : ℕ} → from ≡ blocks_begin room metadata → (from ≡ 0 → ⊥) → file_fits room (blocks_start metadata) ≡ true
+pub begun_yes : (room : ℕ) (metadata : List ℕ) {from : ℕ} → Some from ≡ blocks_begin room metadata
+    → (from ≡ blocks_start metadata) × (file_fits room (blocks_start metadata) ≡ true)
 unfolding blocks_begin
-begun_yes room metadata {from} e some = go (file_fits room (blocks_start metadata)) e
+begun_yes room metadata {from} e = go (file_fits room (blocks_start metadata)) e
   where
-    go : (b : Bool) → from ≡ cond b (blocks_start metadata) 0 → b ≡ true
-    go true f = refl
-    go false f = absurd (some f)
+    go : (b : Bool) → Some from ≡ then_some b (blocks_start metadata) → (from ≡ blocks_start metadata) × (b ≡ true)
+    go true f = (cc, refl)
+    go false f = cc
 
 -- an output keeps its length
 pub header_long : (output metadata : List ℕ) → length (with_header output metadata) ≡ length output
@@ -72,18 +75,19 @@ header_long output metadata = go (file_fits (length output) (blocks_start metada
     go false = refl
 
 -- a file is begun in an output of zeros
-pub begun_none : (old metadata : List ℕ) → old ≡ zeros (length old) → {from : ℕ} → from ≡ blocks_begin (length old) metadata → (from ≡ 0 → ⊥)
+pub begun_none : (old metadata : List ℕ) → old ≡ zeros (length old) → {from : ℕ} → Some from ≡ blocks_begin (length old) metadata
     → {output : List ℕ} → output ≡ with_header old metadata → Begun metadata [] output from from
-unfolding blocks_begin with_header begun_file flat_map
-begun_none old metadata zero {from} e some {output} f = go (file_fits (length old) (blocks_start metadata)) refl e f
+unfolding with_header begun_file flat_map
+begun_none old metadata zero {from} e {output} f =
+    go (file_fits (length old) (blocks_start metadata)) refl (begun_yes (length old) metadata e).1 (begun_yes (length old) metadata e).0 f
   where
     U : List ℕ
     U = unfinished_header metadata
 
-    go : (b : Bool) → file_fits (length old) (blocks_start metadata) ≡ b → from ≡ cond b (blocks_start metadata) 0 → output ≡ cond b (stored old 0 U) old
+    go : (b : Bool) → file_fits (length old) (blocks_start metadata) ≡ b → b ≡ true → from ≡ blocks_start metadata → output ≡ cond b (stored old 0 U) old
         → Begun metadata [] output from from
-    go false h e f = absurd (some e)
-    go true h e f =
+    go false h t e f = absurd (false≢true t)
+    go true h t e f =
         let same : length output ≡ length old = ap length f ∙ length-stored old 0 U in
         record {
           stands = f ∙ ap (λ o. stored o 0 U) (zero ∙ sym (padded_nil (length old))) ∙ stored-padded (length old) [] U (enough (fits⁻¹ (length old) _ h).0)

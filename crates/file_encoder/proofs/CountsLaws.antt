@@ -1,23 +1,39 @@
 -- Laws of the counts: records in a data block, entries in an index block.
 -- Assumes nothing.
-use mathlib.Core.Path.{◌≡◌, refl}
-use mathlib.Core.Bool.{Bool, true, false, ◌&&◌, false≢true}
-use Prim.Native.Nat.{ℕ, ◌≤◌, ◌<◌}
+use mathlib.Core.Path.{◌≡◌, refl, sym, ap, ◌∙◌}
+use mathlib.Core.Bool.{Bool, true, false, cond, ◌&&◌, false≢true}
+use Prim.Native.Nat.{ℕ, ◌≤◌}
+use native.Mathlib.Omega.{arith}
+use Rattle.std.specs.declared.cmp.Ordering.TheVariants.{Less, Equal, Greater}
+use Rattle.std.specs.Ordering.{is_le, is_lt, nat_cmp}
+use Rattle.std.specs.Cmp.{nat_cmp_is}
 use lib.Dec.{leb}
 use borrow.Author.Tests.{le-leb, lt-leb, leb-true}
 use Rattle.layout.specs.File.{counts_fit}
+use Rattle.index_encoder.proofs.StoredLaws.{by_order}
 
-pub counts_block_low : (b i : ℕ) → b < 1 → false ≡ counts_fit b i
-unfolding counts_fit
-counts_block_low b i h = rw (lt-leb 1 b h)
+-- what the comparison of two numbers says
+is_at_most : (a b : ℕ) → is_le (nat_cmp a b) ≡ leb a b
+is_at_most a b =
+    by_order a b (λ h. ap is_le (sym (nat_cmp_is a b Less h)) ∙ sym (le-leb a b (omega arith)))
+    (λ h. by_order b a (λ k. ap is_le (sym (nat_cmp_is a b Greater k)) ∙ sym (lt-leb a b k))
+    (λ k. ap is_le (sym (nat_cmp_is a b Equal (omega arith))) ∙ sym (le-leb a b (omega arith))))
 
-pub counts_block_high : (b i : ℕ) → 1 ≤ b → 65535 < b → false ≡ counts_fit b i
-unfolding counts_fit
-counts_block_high b i h k = rw (le-leb 1 b h, lt-leb b 65535 k)
+-- whether a number is in a range, which has its end
+pub in_range : (least most n : ℕ) {from end : ℕ} {spent found : Bool}
+    → found ≡ (is_le (nat_cmp from n) && cond spent (is_lt (nat_cmp n end)) (is_le (nat_cmp n end)))
+    → from ≡ least → end ≡ most → spent ≡ false → found ≡ (leb least n && leb n most)
+in_range least most n e f g h = e ∙ rw (f, g, h, is_at_most least n, is_at_most n most)
 
-pub counts_index_low : (b i : ℕ) → 1 ≤ b → b ≤ 65535 → i < 2 → false ≡ counts_fit b i
+-- the records in a data block are out of range
+pub counts_block : (b i : ℕ) → false ≡ (leb 1 b && leb b 65535) → false ≡ counts_fit b i
 unfolding counts_fit
-counts_index_low b i h k l = rw (le-leb 1 b h, le-leb b 65535 k, lt-leb 2 i l)
+counts_block b i e = rw (← e)
+
+-- they are in range, so the entries in an index block decide
+pub counts_index : (b i : ℕ) {fit : Bool} → true ≡ (leb 1 b && leb b 65535) → fit ≡ (leb 2 i && leb i 65535) → fit ≡ counts_fit b i
+unfolding counts_fit
+counts_index b i e f = rw (← e) f
 
 pub counts_asked : (b i : ℕ) → 1 ≤ b → b ≤ 65535 → 2 ≤ i → leb i 65535 ≡ counts_fit b i
 unfolding counts_fit

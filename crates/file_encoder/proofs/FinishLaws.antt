@@ -2,10 +2,14 @@
 -- Assumes nothing.
 use mathlib.Core.Path.{◌≡◌, sym, ap, ◌∙◌}
 use mathlib.Core.List.{List, ◌++◌, flat_map, append_assoc}
-use Prim.Native.Nat.{ℕ, ◌+◌, ◌-◌, ◌≤◌, ◌<◌}
+use Rattle.std.specs.Prelude.{Option, Some, None, Result, Ok, Err}
+use Rattle.std.specs.Result.{result_ok}
+use Rattle.outcome.specs.declared.Fault.{Fault}
+use Rattle.outcome.specs.Fault.{number, said_at}
+use Prim.Native.Nat.{ℕ, ◌+◌, ◌-◌, ◌≤◌}
 use native.Mathlib.Omega.{arith}
 use lib.ListN.{length, length-append}
-use Rattle.outcome.specs.Outcome.{answer, refused}
+use Rattle.outcome.specs.Outcome.{answer}
 use Rattle.output_list.specs.OutputList.{padded, zeros}
 use Rattle.output_list.proofs.OutputListLaws.{padded-append}
 use Rattle.sha256.specs.Sha256.{sha256}
@@ -51,22 +55,35 @@ module _ (metadata : List ℕ) (blocks : List (List (List ℕ))) (per_index : �
   long = file_long metadata blocks per_index ∙ ap (λ (n : ℕ). n + length I) (sym b.ends)
 
   -- no file is begun so low
-  pub finish_low : from < 104 → ⊥
+  pub finish_low : 104 ≤ from
   unfolding blocks_start
-  finish_low h = let begins = b.begins in omega arith
+  finish_low = let begins = b.begins in omega arith
 
   -- the index doesn't fit
-  pub finish_none : (n : ℕ) (then : List ℕ) → refused n 0 ≡ raised_of per_index output from to → then ≡ with_index output to (raise_of per_index output from to)
-      → FilePut (length output) (file_of metadata blocks per_index) 0 then × (◌≡◌ {A = ℕ} 0 0 → then ≡ output)
-  finish_none n then e f =
-      let none = raise_none metadata blocks per_index two output from to b n then e f in
+  pub finish_none : (r : Result Raised Fault) (then : List ℕ) → None ≡ result_ok r → said_at 0 r ≡ raised_of per_index output from to
+      → then ≡ with_index output to (raise_of per_index output from to)
+      → FilePut (length output) (file_of metadata blocks per_index) None then × (◌≡◌ {A = Option ℕ} None None → then ≡ output)
+  unfolding said_at
+  finish_none (Ok x) then o e f = cc
+  finish_none (Err fault) then o e f =
+      let none = raise_none metadata blocks per_index two output from to b (number fault) then e f in
       (put-nothing room file then (to + length I) (omega (arith, long)) none.0, λ zero. none.1)
 
-  -- index and header are put
-  module _ (r : Raised) (second third hash : List ℕ) (e : answer r ≡ raised_of per_index output from to)
+  -- index and header are put; m is the length of the metadata
+  module _ (r : Raised) (o : Result Raised Fault) (second third hash : List ℕ) (m : ℕ) (put : Some r ≡ result_ok o)
+      (said : said_at 0 o ≡ raised_of per_index output from to)
       (f : second ≡ with_index output to (raise_of per_index output from to)) (sum : hash ≡ sha256 (flat_map records_bytes blocks))
-      (complete : (known rest : List ℕ) → length known ≡ from - 104 → second ≡ unfinished_header known ++ rest
+      (front : (104 ≤ from) × (m ≡ from - 104))
+      (complete : (known rest : List ℕ) → length known ≡ m → second ≡ unfinished_header known ++ rest
       → third ≡ header_bytes (header_data known r.root r.rootsize r.end hash) ++ rest) where
+    e : answer r ≡ raised_of per_index output from to
+    unfolding said_at
+    e = go o put said
+      where
+        go : (o : Result Raised Fault) → Some r ≡ result_ok o → said_at 0 o ≡ raised_of per_index output from to → answer r ≡ raised_of per_index output from to
+        go (Ok x) p q = let same : r ≡ x = cc in ap answer same ∙ q
+        go (Err fault) p q = cc
+
     raised : Raise metadata blocks per_index two output from to b r second
     raised = raise_some metadata blocks per_index two output from to b r second e f
 
@@ -81,7 +98,7 @@ module _ (metadata : List ℕ) (blocks : List (List (List ℕ))) (per_index : �
         raised.put ∙ begun-stored metadata blocks output from to b I (omega (arith, fit.0))
         ∙ ap (padded room) (append_assoc U (flat_map data_bytes blocks) I) ∙ padded-append room (U ++ B) ∙ append_assoc U B (zeros (room - length (U ++ B)))
 
-    known_long : length metadata ≡ from - 104
+    known_long : length metadata ≡ m
     unfolding blocks_start
     known_long = let begins = b.begins in omega arith
 
@@ -110,9 +127,9 @@ module _ (metadata : List ℕ) (blocks : List (List (List ℕ))) (per_index : �
         complete metadata (B ++ zeros (room - length (U ++ B))) known_long index ∙ ap (λ h. h ++ (B ++ zeros (room - length (U ++ B)))) header_is
         ∙ padded_front room U H B header_long
 
-    pub finish_done : FilePut (length output) (file_of metadata blocks per_index) r.end third × (r.end ≡ 0 → third ≡ output)
+    pub finish_done : FilePut (length output) (file_of metadata blocks per_index) (Some r.end) third × (Some r.end ≡ None → third ≡ output)
     unfolding blocks_start
     finish_done = (
       put_whole room file total raised.fit stands,
-      λ none. absurd (let end = total in let front = length_file metadata blocks per_index in omega arith),
+      λ none. cc,
     )

@@ -1,8 +1,10 @@
 -- Laws of what fits an output.
 -- Assumes nothing.
 use mathlib.Core.Path.{◌≡◌, refl, sym, ap, ◌∙◌, subst}
-use mathlib.Core.Bool.{Bool, true, false, ◌&&◌, cond, false≢true}
+use mathlib.Core.Bool.{Bool, true, false, ◌&&◌, false≢true}
 use mathlib.Core.List.{List, flat_map}
+use Rattle.std.specs.Prelude.{Option, Some, None}
+use Rattle.std.specs.Bool.{then_some}
 use Prim.Native.Nat.{ℕ, ◌+◌, ◌^◌, ◌≤◌, ◌<◌}
 use native.Mathlib.Omega.{arith}
 use lib.Dec.{leb}
@@ -37,19 +39,19 @@ fits_less room m n h e = let k = fits⁻¹ room n e in fits room m (omega (arith
 -- ---- where bytes end
 
 module _ (room from : ℕ) (bytes : List ℕ) where
-  pub end_yes : file_fits room (from + length bytes) ≡ true → from + length bytes ≡ end_if_fits room from bytes
+  pub end_yes : file_fits room (from + length bytes) ≡ true → Some (from + length bytes) ≡ end_if_fits room from bytes
   unfolding end_if_fits
   end_yes h = rw h
 
-  pub end_no : file_fits room (from + length bytes) ≡ false → 0 ≡ end_if_fits room from bytes
+  pub end_no : file_fits room (from + length bytes) ≡ false → None ≡ end_if_fits room from bytes
   unfolding end_if_fits
   end_no h = rw h
 
-  pub not_fitting : room < from + length bytes → 0 ≡ end_if_fits room from bytes
+  pub not_fitting : room < from + length bytes → None ≡ end_if_fits room from bytes
   unfolding file_fits
   not_fitting h = end_no (rw (lt-leb (from + length bytes) room h))
 
-  pub too_long : 2 ^ 30 < from + length bytes → 0 ≡ end_if_fits room from bytes
+  pub too_long : 2 ^ 30 < from + length bytes → None ≡ end_if_fits room from bytes
   unfolding file_fits
   too_long h = end_no (rw (lt-leb (from + length bytes) (2 ^ 30) h) (go (leb (from + length bytes) room)))
     where
@@ -57,26 +59,26 @@ module _ (room from : ℕ) (bytes : List ℕ) where
       go true = refl
       go false = refl
 
-  pub fitting : from + length bytes ≤ room → from + length bytes ≤ 2 ^ 30 → from + length bytes ≡ end_if_fits room from bytes
+  pub fitting : from + length bytes ≤ room → from + length bytes ≤ 2 ^ 30 → Some (from + length bytes) ≡ end_if_fits room from bytes
   fitting h k = end_yes (fits room (from + length bytes) h k)
 
   -- what an end says
-  pub end_some : {end : ℕ} → end ≡ end_if_fits room from bytes → (end ≡ 0 → ⊥) → (end ≡ from + length bytes) × (file_fits room end ≡ true)
+  pub end_some : {end : ℕ} → Some end ≡ end_if_fits room from bytes → (end ≡ from + length bytes) × (file_fits room end ≡ true)
   unfolding end_if_fits
-  end_some {end} e some = go (file_fits room (from + length bytes)) refl e
+  end_some {end} e = go (file_fits room (from + length bytes)) refl e
     where
-      go : (b : Bool) → file_fits room (from + length bytes) ≡ b → end ≡ cond b (from + length bytes) 0
+      go : (b : Bool) → file_fits room (from + length bytes) ≡ b → Some end ≡ then_some b (from + length bytes)
           → (end ≡ from + length bytes) × (file_fits room end ≡ true)
-      go true h f = (f, ap (file_fits room) f ∙ h)
-      go false h f = absurd (some f)
+      go true h f = let same : end ≡ from + length bytes = cc in (same, ap (file_fits room) same ∙ h)
+      go false h f = cc
 
-  pub end_none : {end : ℕ} → end ≡ end_if_fits room from bytes → end ≡ 0 → 0 < from → file_fits room (from + length bytes) ≡ false
+  pub end_none : None ≡ end_if_fits room from bytes → file_fits room (from + length bytes) ≡ false
   unfolding end_if_fits
-  end_none {end} e none some = go (file_fits room (from + length bytes)) refl e
+  end_none e = go (file_fits room (from + length bytes)) e
     where
-      go : (b : Bool) → file_fits room (from + length bytes) ≡ b → end ≡ cond b (from + length bytes) 0 → file_fits room (from + length bytes) ≡ false
-      go true h f = absurd (omega arith)
-      go false h f = h
+      go : (b : Bool) → None ≡ then_some b (from + length bytes) → b ≡ false
+      go true f = cc
+      go false f = refl
 
 -- ---- the file
 
@@ -90,20 +92,20 @@ file_long metadata blocks per_index =
 
 -- a file that is put whole
 pub put_whole : (room : ℕ) (file : List ℕ) {end : ℕ} {output : List ℕ} → end ≡ length file → file_fits room end ≡ true → output ≡ padded room file
-    → FilePut room file end output
-put_whole room file {end} e h o = record { ends = same ∙ end_yes room 0 file (ap (file_fits room) (sym same) ∙ h); stands = λ some. o }
+    → FilePut room file (Some end) output
+put_whole room file {end} e h o = record { ends = ap Some same ∙ end_yes room 0 file (ap (file_fits room) (sym same) ∙ h); stands = λ n put. o }
   where
     same : end ≡ 0 + length file
     same = omega arith
 
 -- where a beginning of the file doesn't fit, the file doesn't
-pub put-nothing : (room : ℕ) (file output : List ℕ) (n : ℕ) → n ≤ length file → file_fits room n ≡ false → FilePut room file 0 output
-put-nothing room file output n h e = record { ends = end_no room 0 file (go (file_fits room (0 + length file)) refl); stands = λ some. absurd (some refl) }
+pub put-nothing : (room : ℕ) (file output : List ℕ) (n : ℕ) → n ≤ length file → file_fits room n ≡ false → FilePut room file None output
+put-nothing room file output n h e = record { ends = end_no room 0 file (go (file_fits room (0 + length file)) refl); stands = λ n put. cc }
   where
     go : (b : Bool) → file_fits room (0 + length file) ≡ b → b ≡ false
     go true f = absurd (false≢true (sym e ∙ fits_less room n (0 + length file) (omega arith) f))
     go false f = refl
 
 -- an output keeps its length
-pub put_room : {room same end : ℕ} {file output : List ℕ} → same ≡ room → FilePut same file end output → FilePut room file end output
+pub put_room : {room same : ℕ} {end : Option ℕ} {file output : List ℕ} → same ≡ room → FilePut same file end output → FilePut room file end output
 put_room {end = end} {file = file} {output = output} e p = subst (λ (n : ℕ). FilePut n file end output) e p

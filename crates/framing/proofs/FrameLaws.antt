@@ -1,5 +1,9 @@
 -- Laws of numbers and frames at an offset.
 -- Assumes nothing.
+use Rattle.uleb128.specs.Number.{reading_said}
+use Rattle.uleb128.specs.declared.NumberFault.{NumberFault}
+use Rattle.uleb128.specs.declared.NumberFault.TheVariants.{CutOff, TooWide, NotShortest}
+use Rattle.framing.specs.Answers.{number_said}
 use mathlib.Core.Path.{◌≡◌, refl, sym, ap, ◌∙◌, subst⁻¹}
 use mathlib.Core.Bool.{true, false}
 use mathlib.Core.List.{List, []}
@@ -13,27 +17,29 @@ use borrow.Author.Tests.{le-leb, lt-leb, leb-true}
 use Rattle.uleb128.specs.Number.{Reading, number, cut_off, reading, continuing}
 use Rattle.uleb128.specs.Number.{refused as badNumber}
 use Rattle.uleb128.proofs.NumberLaws.{number_used, number_lt, reading-cut, reading-first}
-use Rattle.std.specs.Prelude.{Result}
+use Rattle.std.specs.Prelude.{Result, Err}
 use Rattle.std.specs.Result.{IsErrAnd}
 use Rattle.std.proofs.lemmas.Result.{err_from_is_err_and}
-use Rattle.outcome.specs.declared.Fault.{Fault}
-use Rattle.outcome.specs.Fault.{said_at}
-use Rattle.outcome.specs.Fault.{number as code}
 use Rattle.outcome.specs.Outcome.{answer, refused}
 use Rattle.items.specs.declared.Step.{Step}
-use Rattle.outcome.proofs.OutcomeLaws.{answer_injective, refused_not_answer, kept, broken, kept⁻¹, bind_answer, bind⁻¹}
+use Rattle.outcome.proofs.OutcomeLaws.{answer_injective, refused_not_answer, kept, broken, kept⁻¹, bind_answer, bind_refused, bind⁻¹}
+use Rattle.outcome.proofs.ResultLaws.{fault_on}
 use Rattle.part.proofs.PartLaws.{lent_drop}
 use Rattle.framing.specs.declared.Frame.{Frame}
 use Rattle.framing.specs.Frame.{read_as, number_at, framed, frame_at, crc_right, sound_frame_at}
 
--- ---- a fault that is handed on
-
--- what it says
-pub said_fault : {A : Type 0} (place : ℕ) (r : Result A Fault) (f : Fault) → IsErrAnd r (λ x. x ≡ f) → said_at place r ≡ refused (code f) place
-unfolding said_at
-said_fault place r f h = let p = err_from_is_err_and r h in rw (p.1, p.2)
-
 -- ---- numbers
+
+-- why none could be read
+pub number_fault : (cut place at : ℕ) (r : Result (Step ℕ) NumberFault) (f : NumberFault) → IsErrAnd r (λ x. x ≡ f)
+    → number_said cut place r ≡ read_as cut place at (reading_said (Err f))
+unfolding number_said read_as reading_said
+number_fault cut place at r f h = let p = err_from_is_err_and r h in rw (p.1, p.2) (same f)
+  where
+    same : (g : NumberFault) → number_said cut place (Err g) ≡ read_as cut place at (reading_said (Err g))
+    same CutOff = refl
+    same TooWide = refl
+    same NotShortest = refl
 
 -- the number at an offset is what reading the rest, which is lent, finds
 pub number_lent : (cut place : ℕ) (s : List ℕ) (at : ℕ) (r : Reading) → r ≡ reading (take (length s - at) (drop at s)) → read_as cut place at r ≡ number_at cut place s at
@@ -159,6 +165,10 @@ pub sound_frame : (file : List ℕ) (at : ℕ) (f : Frame) → frame_at file at 
 unfolding sound_frame_at
 sound_frame file at f e right = bind_answer (frame_at file at) _ f e ∙ kept (crc_right file f.body f.end) 14 at _ right
 
+pub no_frame : (file : List ℕ) (at n p : ℕ) → frame_at file at ≡ refused n p → sound_frame_at file at ≡ refused n p
+unfolding sound_frame_at
+no_frame file at n p e = bind_refused (frame_at file at) _ n p e
+
 pub unsound_frame : (file : List ℕ) (at : ℕ) (f : Frame) → frame_at file at ≡ answer f → crc_right file f.body f.end ≡ false → sound_frame_at file at ≡ refused 14 at
 unfolding sound_frame_at
 unsound_frame file at f e wrong = bind_answer (frame_at file at) _ f e ∙ broken (crc_right file f.body f.end) 14 at _ wrong
@@ -181,3 +191,11 @@ frame_bounds file at f e =
 
 pub frame_start : (file : List ℕ) (at : ℕ) (f : Frame) → sound_frame_at file at ≡ answer f → f.start ≡ at
 frame_start file at f e = (frame⇒Framed file at f (sound_frame⁻¹ file at f e).0).starts
+
+-- ---- what the proofs of the code take: the cases of a frame, and the ways on after a result
+
+pub ruleset framed_cases = (framed_empty, framed_long, framed_found)
+
+pub ruleset chain = (bind_answer, bind_refused, fault_on)
+
+pub ruleset sound_cases = (sound_frame, unsound_frame, no_frame, fault_on)

@@ -9,6 +9,13 @@ use Rattle.items.specs.declared.Step.{Step}
 use Rattle.part.specs.Part.{part}
 use Rattle.framing.specs.declared.Frame.{Frame}
 
+-- level 0 is data, 1 to 63 index; both are ordinary, and higher levels are reserved
+unfoldable pub is_data : ℕ → Bool
+is_data level = eqb level 0
+
+unfoldable pub is_ordinary : ℕ → Bool
+is_ordinary level = leb level 63
+
 -- a number that was read, as a step: its value, and where it ends
 unfoldable pub read_as : (cut place at : ℕ) → Reading → Outcome (Step ℕ)
 read_as cut place at (number value used) = answer (record { item = value; next = at + used })

@@ -1,2 +1,3 @@
 -- The meaning of a frame.
 pub mod Frame
+pub mod Answers

@@ -1,12 +1,13 @@
 // Numbers and frames at an offset.
 //
 // Every function is total: it reads at any offset of any bytes and answers what is there, or why nothing is. A fault's place is the start of
-// the block at fault, which the caller knows: the contract of `number_at` holds for whatever place that is.
+// the block at fault, which the caller knows: the contracts of the numbers hold for whatever place that is.
 #![tactic(auto)]
 
 ghost use Rattle.std.specs.Prelude.{ℕ, ◌+◌, ◌≤◌, ◌≡◌, length};
 ghost use Rattle.outcome.specs.Fault.{number, said_at};
 ghost use Rattle.framing.specs.Frame as frames;
+ghost use Rattle.framing.specs.Answers.{number_said};
 
 use items::Step;
 use outcome::Fault;
@@ -26,20 +27,37 @@ pub struct Frame {
 impl Frame {
     // The largest level of an ordinary block; higher levels are reserved.
     pub const LARGEST_LEVEL: u8 = 63;
+
+    // Whether it encloses an ordinary block: data or index.
+    #[tactic(auto, unfolding(crate::specs::Frame::is_ordinary))]
+    pub fn is_ordinary(self) -> bool
+        ensures { result ≡ frames.is_ordinary self.level }
+    {
+        self.level <= Frame::LARGEST_LEVEL
+    }
 }
 
-// The number at an offset of `s`, which ends with `s`; `cut` is the fault where it is cut off.
-pub fn number_at(s: &[u8], at: usize, cut: Fault) -> Result<Step<u64>, Fault>
-    ensures { (place : ℕ) → said_at place result ≡ frames.number_at (number cut) place s.now at }
+// The number at an offset of `s`, which ends with `s`, and where it ends.
+pub fn number_at(s: &[u8], at: usize) -> Result<Step<u64>, NumberFault>
+    ensures { (cut place : ℕ) → number_said cut place result ≡ frames.number_at cut place s.now at }
 {
     if s.len() < at {
-        return Err(cut);
+        return Err(NumberFault::CutOff);
     }
-    match uleb128::read_number(&s[at..]) {
-        Ok(read) => Ok(Step {
-            item: read.value,
-            next: at + read.used,
-        }),
+    let read = uleb128::read_number(&s[at..])?;
+    Ok(Step {
+        item: read.value,
+        next: at + read.used,
+    })
+}
+
+// Likewise, with the fault of a file or an input; `cut` where the number is cut off.
+#[tactic(auto, unfolding(outcome::specs::Fault::said_at, outcome::specs::Fault::number, crate::specs::Answers::number_said))]
+pub fn number_or(s: &[u8], at: usize, cut: Fault) -> Result<Step<u64>, Fault>
+    ensures { (place : ℕ) → said_at place result ≡ frames.number_at (number cut) place s.now at }
+{
+    match number_at(s, at) {
+        Ok(read) => Ok(read),
         Err(NumberFault::CutOff) => Err(cut),
         Err(NumberFault::TooWide) => Err(Fault::NumberTooWide),
         Err(NumberFault::NotShortest) => Err(Fault::NumberNotShortest),
@@ -47,15 +65,16 @@ pub fn number_at(s: &[u8], at: usize, cut: Fault) -> Result<Step<u64>, Fault>
 }
 
 // The frame at an offset, apart from its CRC (10 to 13).
+#[tactic(auto, unfolding(outcome::specs::Fault::said_at, outcome::specs::Fault::number, crate::specs::Frame::frame_at), using(crate::proofs::FrameLaws::chain))]
 pub fn frame_at(file: &[u8], at: usize) -> Result<Frame, Fault>
     ensures { said_at at result ≡ frames.frame_at file.now at }
 {
-    let extent = number_at(file, at, Fault::BlockCutOff)?;
+    let extent = number_or(file, at, Fault::BlockCutOff)?;
     framed(file, at, extent)
 }
 
 // The frame whose number L has been read.
-#[tactic(auto, unfolding(outcome::specs::Fault::said_at, outcome::specs::Fault::number), using(crate::proofs::FrameLaws::framed_empty, crate::proofs::FrameLaws::framed_long, crate::proofs::FrameLaws::framed_found))]
+#[tactic(auto, unfolding(outcome::specs::Fault::said_at, outcome::specs::Fault::number), using(crate::proofs::FrameLaws::framed_cases))]
 fn framed(file: &[u8], at: usize, extent: Step<u64>) -> Result<Frame, Fault>
     requires { (at ≤ extent.next) × (extent.next ≤ length file.now) }
     ensures { said_at at result ≡ frames.framed file.now at extent }
@@ -65,10 +84,7 @@ fn framed(file: &[u8], at: usize, extent: Step<u64>) -> Result<Frame, Fault>
     }
     let body = extent.next;
     let left = file.len() - body;
-    if left < 8 {
-        return Err(Fault::BlockCutOff);
-    }
-    if ((left - 8) as u64) < extent.item {
+    if left < 8 || ((left - 8) as u64) < extent.item {
         return Err(Fault::BlockCutOff);
     }
     let end = body + extent.item as usize;
@@ -82,7 +98,8 @@ fn framed(file: &[u8], at: usize, extent: Step<u64>) -> Result<Frame, Fault>
 }
 
 // Whether the CRC after the bytes from `body` to `end` is theirs.
-fn crc_right(file: &[u8], body: usize, end: usize) -> bool
+#[tactic(auto, unfolding(crate::specs::Frame::crc_right, part::specs::Part::part))]
+pub fn crc_right(file: &[u8], body: usize, end: usize) -> bool
     requires { (body ≤ end) × (end ≤ length file.now) }
     ensures { result ≡ frames.crc_right file.now body end }
 {
@@ -90,13 +107,12 @@ fn crc_right(file: &[u8], body: usize, end: usize) -> bool
 }
 
 // The frame at an offset with its CRC (10 to 14).
+#[tactic(auto, unfolding(outcome::specs::Fault::said_at, outcome::specs::Fault::number), using(crate::proofs::FrameLaws::sound_cases))]
 pub fn sound_frame_at(file: &[u8], at: usize) -> Result<Frame, Fault>
     ensures { said_at at result ≡ frames.sound_frame_at file.now at }
 {
     let frame = frame_at(file, at)?;
-    let body = frame.body;
-    let end = frame.end;
-    if !crc_right(file, body, end) {
+    if !crc_right(file, frame.body, frame.end) {
         return Err(Fault::BlockCrc);
     }
     Ok(frame)

@@ -9,6 +9,8 @@ ghost use Rattle.sorting.specs.Heap.{keys, Heap, Larger, swapped, Sifted};
 ghost use Rattle.slots.specs.Slots.{slots};
 ghost use Rattle.sim.specs.Adn.{record_at};
 
+use sim::Dump;
+
 // Exchanges two slots.
 fn swap(s: &mut [u8], i: usize, j: usize)
     ensures { slots 8 s.new ≡ swapped i j (slots 8 s.old) }
@@ -20,38 +22,36 @@ fn swap(s: &mut [u8], i: usize, j: usize)
 }
 
 // Whether the record of slot a is at most that of slot b.
-fn slot_at_most(dump: &[u8], x: u8, s: &[u8], a: usize, b: usize) -> bool
-    ensures { result ≡ at_most (keys (record_at x dump.now) (slots 8 s.now) a)
-        (keys (record_at x dump.now) (slots 8 s.now) b) }
+fn slot_at_most(dump: Dump, s: &[u8], a: usize, b: usize) -> bool
+    ensures { result ≡ at_most (keys (record_at dump.entry.name_length dump.entry.bytes.now) (slots 8 s.now) a)
+        (keys (record_at dump.entry.name_length dump.entry.bytes.now) (slots 8 s.now) b) }
 {
-    sim::at_most(dump, x, slots::load(s, a), slots::load(s, b))
+    dump.at_most(slots::load(s, a), slots::load(s, b))
 }
 
 // The larger of the one or two slots right below p.
-fn larger_below(dump: &[u8], x: u8, s: &[u8], p: usize, end: usize) -> usize
+fn larger_below(dump: Dump, s: &[u8], p: usize, end: usize) -> usize
     requires { (2 * p + 1 < end) × (end ≤ length (slots 8 s.now)) }
-    ensures { Larger (keys (record_at x dump.now) (slots 8 s.now)) p end result }
+    ensures { Larger (keys (record_at dump.entry.name_length dump.entry.bytes.now) (slots 8 s.now)) p end result }
 {
     let left = 2 * p + 1;
     let right = left + 1;
-    if right < end {
-        if slot_at_most(dump, x, s, left, right) {
-            return right;
-        }
-        return left;
+    if right < end && slot_at_most(dump, s, left, right) {
+        right
+    } else {
+        left
     }
-    left
 }
 
 // Where the slots after `start` are a heap, up to `end`, makes those from `start` on one.
-fn sift_down(dump: &[u8], x: u8, s: &mut [u8], start: usize, end: usize)
-    requires { (end ≤ length (slots 8 s.old)) × Heap (keys (record_at x dump.now) (slots 8 s.old)) (start + 1) end }
-    ensures { Sifted (record_at x dump.now) start end (slots 8 s.old) (slots 8 s.new) }
+fn sift_down(dump: Dump, s: &mut [u8], start: usize, end: usize)
+    requires { (end ≤ length (slots 8 s.old)) × Heap (keys (record_at dump.name_length dump.bytes.now) (slots 8 s.old)) (start + 1) end }
+    ensures { Sifted (record_at dump.entry.name_length dump.entry.bytes.now) start end (slots 8 s.old) (slots 8 s.new) }
 {
     let mut hole = start;
     while hole < end / 2 {
-        let child = larger_below(dump, x, s, hole, end);
-        if slot_at_most(dump, x, s, child, hole) {
+        let child = larger_below(dump, s, hole, end);
+        if slot_at_most(dump, s, child, hole) {
             return;
         }
         swap(s, hole, child);
@@ -60,26 +60,23 @@ fn sift_down(dump: &[u8], x: u8, s: &mut [u8], start: usize, end: usize)
 }
 
 // Makes all slots a heap.
-fn build(dump: &[u8], x: u8, s: &mut [u8])
-    ensures { Sifted (record_at x dump.now) 0 (length (slots 8 s.old)) (slots 8 s.old) (slots 8 s.new) }
+fn build(dump: Dump, s: &mut [u8])
+    ensures { Sifted (record_at dump.entry.name_length dump.entry.bytes.now) 0 (length (slots 8 s.old)) (slots 8 s.old) (slots 8 s.new) }
 {
     let n = s.len() / slots::WIDTH;
-    let mut start = n / 2;
-    while 0 < start {
-        start -= 1;
-        sift_down(dump, x, s, start, n);
+    for start in (0..n / 2).rev() {
+        sift_down(dump, s, start, n);
     }
 }
 
 // Sorts the offsets in the slots by the records at them.
-pub fn sort(dump: &[u8], x: u8, s: &mut [u8])
-    ensures { Sorted (record_at x dump.now) (slots 8 s.old) (slots 8 s.new) }
+pub fn sort(dump: Dump, s: &mut [u8])
+    ensures { Sorted (record_at dump.entry.name_length dump.entry.bytes.now) (slots 8 s.old) (slots 8 s.new) }
 {
-    build(dump, x, s);
-    let mut end = s.len() / slots::WIDTH;
-    while 1 < end {
-        end -= 1;
+    build(dump, s);
+    let n = s.len() / slots::WIDTH;
+    for end in (1..n).rev() {
         swap(s, 0, end);
-        sift_down(dump, x, s, 0, end);
+        sift_down(dump, s, 0, end);
     }
 }

@@ -25,7 +25,12 @@ use Rattle.block.specs.Block.{is_data}
 use Rattle.layout.specs.Index.{IndexEntry}
 use Rattle.layout.specs.File.{key_for}
 use Rattle.index_encoder.specs.declared.child.Position.{Position}
-use Rattle.index_encoder.specs.declared.child.ChildOutcome.TheVariants.{Answer as AChild}
+use Rattle.std.specs.Prelude.{Result, Ok}
+use Rattle.std.specs.Result.{IsErrAnd}
+use Rattle.std.proofs.lemmas.Result.{err_from_is_err_and}
+use Rattle.outcome.specs.declared.Fault.{Fault}
+use Rattle.outcome.specs.Fault.{number}
+use Rattle.index_encoder.specs.declared.child.Child.{Child as Found}
 use Rattle.index_encoder.specs.Children.{bytes_of, Within, last_from, Child, child_after, children_after, child_at, children_from}
 use Rattle.index_encoder.specs.Children.{entry_in, child_said, ChildWithin}
 
@@ -91,6 +96,12 @@ module _ (s before : List ℕ) (at : ℕ) where
 
 -- ---- what `child_at` answers, and where it lies
 
+-- a fault that is handed on
+pub child_fault : (s : List ℕ) (p : Position) (r : Result Found Fault) (f : Fault) → IsErrAnd r (λ x. x ≡ f)
+    → child_after s (bytes_of s p.before) p.offset ≡ refused (number f) p.offset → (child_said s p r ≡ child_at s p) × ChildWithin s p r
+unfolding child_at child_said ChildWithin
+child_fault s p r f h e = let told = err_from_is_err_and r h in rw (told.1, told.2) (sym e, tt)
+
 module _ (s : List ℕ) (p : Position) (f : Frame) (Framed-at : frame_at s p.offset ≡ answer f) (first : Part)
     (read : text_at p.offset (take f.end s) (f.body + 1)
     ≡ answer (record { item = text_in (take f.end s) first.offset first.length; next = first.offset + first.length })) where
@@ -131,7 +142,9 @@ module _ (s : List ℕ) (p : Position) (f : Frame) (Framed-at : frame_at s p.off
   bytes_before q h = part-take s f.end q.offset q.length h
 
   abbrev Told : (key last : Part) → Type 0
-  Told key last = (child_said s p (AChild key last f.size) ≡ child_at s p) × ChildWithin s p (AChild key last f.size)
+  Told key last =
+      (child_said s p (Ok (record { key = key; last = last; size = f.size })) ≡ child_at s p)
+      × ChildWithin s p (Ok (record { key = key; last = last; size = f.size }))
 
   pub index_child_told : (f.level ≡ 0 → ⊥) → Told first first
   unfolding is_data bytes_of child_at child_said ChildWithin entry_in text_in

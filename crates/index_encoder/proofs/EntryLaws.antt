@@ -2,6 +2,7 @@
 -- Assumes nothing.
 use mathlib.Core.Path.{◌≡◌, refl, sym, ap, ◌∙◌, subst}
 use mathlib.Core.List.{List, [], ◌∷◌, ◌++◌, flat_map, append_assoc, append-nil}
+use Rattle.std.specs.Prelude.{Ok}
 use Prim.Native.Nat.{ℕ, suc, ◌+◌, ◌-◌, ◌*◌, ◌^◌, ◌≤◌, ◌<◌}
 use native.Mathlib.Omega.{arith}
 use lib.ListN.{length, take, drop, length-append, length-take, drop_of_length-le}
@@ -20,8 +21,7 @@ use Rattle.layout.specs.Blocks.{text_bytes}
 use Rattle.layout.specs.Index.{IndexEntry, entry_bytes}
 use Rattle.layout.proofs.ReadBackLaws.{length_text, length_entry}
 use Rattle.index_encoder.specs.declared.child.Position.{Position}
-use Rattle.index_encoder.specs.declared.child.ChildOutcome.{ChildOutcome}
-use Rattle.index_encoder.specs.declared.child.ChildOutcome.TheVariants.{Answer as AChild, Refused as NoChild}
+use Rattle.index_encoder.specs.declared.child.Child.{Child}
 use Rattle.index_encoder.specs.Children.{bytes_of, Within, entry_in, child_at, children_from, child_said, ChildWithin}
 use Rattle.index_encoder.specs.Level.{Measured, entries_for}
 use Rattle.index_encoder.proofs.StoredLaws.{flat_map_snoc, stored_nil}
@@ -51,16 +51,6 @@ module _ (s : List ℕ) (key : Part) (offset size : ℕ) (within : key.offset + 
       omega arith
 
 -- ---- measuring a group of blocks
-
--- an answer of `child_at` that is known
-module _ (s : List ℕ) (p : Position) (r : ChildOutcome) (said : child_said s p r ≡ child_at s p) where
-  pub child_known : (key last : Part) (size : ℕ) → r ≡ AChild key last size → ChildWithin s p r
-      → (child_said s p (AChild key last size) ≡ child_at s p) × ChildWithin s p (AChild key last size)
-  child_known key last size told within = (subst (λ o. child_said s p o ≡ child_at s p) told said, subst (ChildWithin s p) told within)
-
-  pub child_none : (n : ℕ) → r ≡ NoChild n → child_at s p ≡ refused n p.offset
-  unfolding child_said
-  child_none n told = sym said ∙ ap (child_said s p) told
 
 module _ (s : List ℕ) (from : Position) (most : ℕ) where
   -- the blocks up to `at` are seen, and so many bytes counted
@@ -108,22 +98,21 @@ module _ (s : List ℕ) (from : Position) (most : ℕ) where
         (ap (λ n. drop n (m.seen ++ children_from s at)) all ∙ drop-append_seam m.seen (children_from s at))
 
     -- one more
-    module _ (key last : Part) (size : ℕ) (told : child_said s at (AChild key last size) ≡ child_at s at)
-        (within : ChildWithin s at (AChild key last size)) (short : length s ≤ 2 ^ 30) where
-      pub measuring_bound : length (entry_bytes (entry_in s key at.offset size)) ≤ 16 * size
+    module _ (c : Child) (told : child_said s at (Ok c) ≡ child_at s at) (within : ChildWithin s at (Ok c)) (short : length s ≤ 2 ^ 30) where
+      pub measuring_bound : length (entry_bytes (entry_in s c.key at.offset c.size)) ≤ 16 * c.size
       unfolding ChildWithin
       measuring_bound =
           let a = within.0 in
           let b = within.1 in
           let d = within.3 in
-          entry_few s key at.offset size (omega arith) (omega arith) (omega arith) (omega arith)
+          entry_few s c.key at.offset c.size (omega arith) (omega arith) (omega arith) (omega arith)
 
       pub measuring_more : count < most
-          → Measuring (record { offset = at.offset + size; before = last }) (count + 1) (total + length (entry_bytes (entry_in s key at.offset size)))
+          → Measuring (record { offset = at.offset + c.size; before = c.last }) (count + 1) (total + length (entry_bytes (entry_in s c.key at.offset c.size)))
       unfolding child_said entry_in ChildWithin Within
       measuring_more h =
-          let it = entry_in s key at.offset size in
-          let next : Position = record { offset = at.offset + size; before = last } in
+          let it = entry_in s c.key at.offset c.size in
+          let next : Position = record { offset = at.offset + c.size; before = c.last } in
           record {
             seen = m.seen ++ (it ∷ []);
             split =
@@ -265,49 +254,49 @@ module _ (old : List ℕ) (to : ℕ) (from : Position) (count place : ℕ) where
           let none = children_refused (take to old) at number p (ap (λ l. child_at l at) (sym (entering_same h)) ∙ r) in
           finished (ap (take left) none ∙ take-nil left)
 
-      module _ (key last : Part) (size : ℕ) (told : child_said (take to output) at (AChild key last size) ≡ child_at (take to output) at)
-          (within : ChildWithin (take to output) at (AChild key last size)) (some : 0 < left)
+      module _ (c : Child) (told : child_said (take to output) at (Ok c) ≡ child_at (take to output) at)
+          (within : ChildWithin (take to output) at (Ok c)) (less : ℕ) (some : left ≡ less + 1)
           (enough : place + length (flat_map entry_bytes (entries_for old to from count)) ≤ length old) where
         abbrev it : IndexEntry
-        it = entry_in output key at.offset size
+        it = entry_in output c.key at.offset c.size
 
         abbrev onward : Position
-        onward = record { offset = at.offset + size; before = last }
+        onward = record { offset = at.offset + c.size; before = c.last }
 
         short : length (take to output) ≤ to
         short = let long = length-take to output in omega arith
 
         abbrev rest : List IndexEntry
-        rest = take (left - 1) (children_from (take to old) onward)
+        rest = take less (children_from (take to old) onward)
 
         next : take left (children_from (take to old) at) ≡ it ∷ rest
         unfolding child_said ChildWithin entry_in bytes_of
         next =
             let a = within.1 in
             let b = within.3 in
-            let c = short in
+            let e3 = short in
             let one : children_from (take to old) at ≡ it ∷ children_from (take to old) onward =
             ap (λ l. children_from l at) (sym (entering_same h))
             ∙ children_more (take to output) at _ (sym told) onward refl refl
-            ∙ ap (λ k. record { key = k; offset = at.offset; size = size } ∷ children_from (take to output) onward)
-            (part-take output to key.offset key.length (omega arith))
+            ∙ ap (λ k. record { key = k; offset = at.offset; size = c.size } ∷ children_from (take to output) onward)
+            (part-take output to c.key.offset c.key.length (omega arith))
             ∙ ap (λ l. it ∷ children_from l onward) (entering_same h) in
             ap (take left) one ∙ ap (λ n. take n (it ∷ children_from (take to old) onward)) left_is
           where
-            left_is : left ≡ suc (left - 1)
+            left_is : left ≡ suc less
             left_is = omega arith
 
         split : entries_for old to from count ≡ e.seen ++ (it ∷ []) ++ rest
         split = e.split ∙ ap (λ l. e.seen ++ l) next ∙ sym (append_snoc e.seen it rest)
 
         -- the next one fits
-        pub entering_fits : (key.offset + key.length ≤ end) × (end + length (entry_bytes (entry_in output key at.offset size)) ≤ length output)
-            × (at.offset + size ≤ to)
+        pub entering_fits : (c.key.offset + c.key.length ≤ end) × (end + length (entry_bytes (entry_in output c.key at.offset c.size)) ≤ length output)
+            × (at.offset + c.size ≤ to)
         unfolding ChildWithin
         entering_fits =
             let a = within.1 in
             let b = within.3 in
-            let c = short in
+            let e3 = short in
             let ends = e.ends in
             let long = entering_long in
             let all : length (flat_map entry_bytes (entries_for old to from count))
@@ -319,9 +308,9 @@ module _ (old : List ℕ) (to : ℕ) (from : Position) (count place : ℕ) where
             ∙ ap (λ n. n + length (flat_map entry_bytes rest)) (length-append (flat_map entry_bytes e.seen) (entry_bytes it)) in
             (omega arith, omega arith, omega arith)
 
-        pub entering_more : {new : List ℕ} {ended : ℕ} → ended ≡ end + length (entry_bytes (entry_in output key at.offset size))
-            → new ≡ stored output end (entry_bytes (entry_in output key at.offset size))
-            → Entering new (record { offset = at.offset + size; before = last }) ended (left - 1)
+        pub entering_more : {new : List ℕ} {ended : ℕ} → ended ≡ end + length (entry_bytes (entry_in output c.key at.offset c.size))
+            → new ≡ stored output end (entry_bytes (entry_in output c.key at.offset c.size))
+            → Entering new (record { offset = at.offset + c.size; before = c.last }) ended less
         unfolding ChildWithin Within
         entering_more {new} ended_is holds =
             let fits = entering_fits.1 in

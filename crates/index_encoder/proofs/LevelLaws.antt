@@ -1,7 +1,6 @@
 -- Laws of putting one level of index blocks.
 -- Assumes nothing.
 use mathlib.Core.Path.{◌≡◌, refl, sym, ap, ◌∙◌, subst}
-use mathlib.Core.Bool.{cond}
 use mathlib.Core.List.{List, [], ◌∷◌, ◌++◌, flat_map, append-nil}
 use Prim.Native.Nat.{ℕ, zero, suc, ◌+◌, ◌-◌, ◌≤◌, ◌<◌}
 use native.Mathlib.Omega.{arith}
@@ -14,14 +13,15 @@ use Rattle.lists.proofs.GroupsLaws.{groups_nil, groups_cons}
 use Rattle.endian.specs.FixedWidth.{little_bytes}
 use Rattle.uleb128.specs.Encoding.{encoding}
 use Rattle.crc64.specs.Crc64.{crc64}
-use Rattle.output_bytes.specs.OutputBytes.{stored, stored_length}
-use Rattle.output_bytes.proofs.OutputBytesLaws.{length-stored, take-stored, stored-after, part-stored, stored_length_some, stored_length_none}
+use Rattle.output_bytes.specs.OutputBytes.{stored, stored_length, stored_size}
+use Rattle.output_bytes.proofs.OutputBytesLaws.{length-stored, take-stored, stored-after, part-stored, stored_size_some, stored_size_none}
 use Rattle.layout.specs.Blocks.{block_size}
 use Rattle.layout.specs.Index.{IndexEntry, entry_bytes, IndexBlock, index_bytes, level_from}
 use Rattle.layout.proofs.BlockBackLaws.{index_some}
-use Rattle.encoder.proofs.PutLaws.{block_size_some, size_0, size_within, block_number, block_stored}
+use Rattle.encoder.proofs.PutLaws.{block_size_some, size_out, size_within, block_number, block_stored}
 use Rattle.index_encoder.specs.declared.entries.Group.{Group}
-use Rattle.index_encoder.specs.declared.level.LevelOutcome.TheVariants.{Answer as ALevel, Refused as NoLevel}
+use Rattle.std.specs.Prelude.{Option, Some, None}
+use Rattle.std.specs.Bool.{then_some}
 use Rattle.index_encoder.specs.declared.child.Position.{Position}
 use Rattle.index_encoder.specs.Children.{Within, children_from, start_at}
 use Rattle.index_encoder.specs.Level.{Measured, entries_for, block_for, level_for, LevelPut}
@@ -35,22 +35,19 @@ module _ (o : List ℕ) (level to : ℕ) (from : Position) (count place n : ℕ)
   abbrev payload : List ℕ
   payload = flat_map entry_bytes (entries_for o to from count)
 
-  abbrev Sized : ℕ → Type 0
-  Sized size = size ≡ cond (leb (place + block_size n) (length o)) (block_size n) 0
-
-  sized : {size : ℕ} → Sized size → size ≡ cond (leb (place + block_size (length payload)) (length o)) (block_size (length payload)) 0
-  sized {size} e = subst (λ m. size ≡ cond (leb (place + block_size m) (length o)) (block_size m) 0) long e
+  abbrev room_for : ℕ → Option ℕ
+  room_for m = then_some (leb (place + block_size m) (length o)) (block_size m)
 
   -- it doesn't fit
-  pub block_none : {size : ℕ} → Sized size → size ≡ 0
-      → (0 ≡ stored_length o place (index_bytes (block_for o level to from count place)))
+  pub block_none : None ≡ room_for n
+      → (None ≡ stored_size o place (index_bytes (block_for o level to from count place)))
       × (o ≡ stored o place (index_bytes (block_for o level to from count place)))
   unfolding index_bytes block_for
-  block_none {size} e z = size_0 o place level payload size (sized e) z
+  block_none e = size_out o place level payload (e ∙ ap room_for long)
 
-  module _ {size : ℕ} (es : Sized size) (some : size ≡ 0 → ⊥) where
+  module _ {size : ℕ} (es : Some size ≡ room_for n) where
     fits : (size ≡ block_size (length payload)) × (place + block_size (length payload) ≤ length o)
-    fits = size_within o place payload size (sized es) some
+    fits = size_within o place payload size (es ∙ ap room_for long)
 
     pub index_room : n < length o
     index_room = let enough = fits.1 in let some = block_size_some (length payload) in omega arith
@@ -115,7 +112,7 @@ module _ (o : List ℕ) (level to : ℕ) (from : Position) (count place n : ℕ)
           -- number, level byte, entries and CRC
           pub index_stored : {sum : ℕ} {crc o4 : List ℕ} → sum ≡ crc64 (take (end - (place + a)) (drop (place + a) o3)) → crc ≡ little_bytes 8 sum
               → o4 ≡ stored o3 end crc
-              → (size ≡ stored_length o place (index_bytes (block_for o level to from count place)))
+              → (Some size ≡ stored_size o place (index_bytes (block_for o level to from count place)))
               × (o4 ≡ stored o place (index_bytes (block_for o level to from count place)))
           unfolding index_bytes block_for
           index_stored {sum} {crc} s c e4 =
@@ -173,11 +170,11 @@ module _ (old : List ℕ) (per_index level from to : ℕ) where
       first = measured.counted ∙ ap (λ l. length (take per_index (children_from l at))) leveling_same
 
       -- no block is left
-      pub level_all : g.count ≡ 0 → LevelPut old output to (level_for per_index level old from to) (ALevel end blocks)
+      pub level_all : g.count ≡ 0 → LevelPut old output to (level_for per_index level old from to) (Some (record { end = end; blocks = blocks }))
       unfolding LevelPut level_from
       level_all z = go (children_of at) refl
         where
-          go : (xs : List IndexEntry) → children_of at ≡ xs → LevelPut old output to (level_for per_index level old from to) (ALevel end blocks)
+          go : (xs : List IndexEntry) → children_of at ≡ xs → LevelPut old output to (level_for per_index level old from to) (Some (record { end = end; blocks = blocks }))
           go [] e =
               let all : v.done ≡ level_for per_index level old from to =
               sym (v.split ∙ ap (λ l. v.done ++ level_from level end l) (ap (groups per_index) e ∙ groups_nil per_index some) ∙ append-nil v.done) in (
@@ -255,11 +252,11 @@ module _ (old : List ℕ) (per_index level from to : ℕ) where
                 ∙ ap (λ k. take k (children_from (take to output) at)) (sym measured.counted)
 
         -- it doesn't fit
-        pub level_none : {size : ℕ} {new : List ℕ} → size ≡ stored_length output end (index_bytes block) → new ≡ stored output end (index_bytes block) → size ≡ 0
-            → LevelPut old new to (level_for per_index level old from to) NoLevel
+        pub level_none : {new : List ℕ} → None ≡ stored_size output end (index_bytes block) → new ≡ stored output end (index_bytes block)
+            → LevelPut old new to (level_for per_index level old from to) None
         unfolding LevelPut
-        level_none {size} {new} e1 e2 z = (
-          (let over = stored_length_none output end (index_bytes block) e1 z (index_some block) in
+        level_none {new} e1 e2 = (
+          (let over = stored_size_none output end (index_bytes block) e1 in
               let ends = v.ends in let long = leveling_long in let all = whole in omega arith),
           ap (take to) e2 ∙ take-stored output end (index_bytes block) to (let ends = v.ends in omega arith) ∙ leveling_same,
         )
@@ -274,11 +271,10 @@ module _ (old : List ℕ) (per_index level from to : ℕ) where
                 ∙ ap (λ k. k + length (flat_map index_bytes others)) (length-append (flat_map index_bytes v.done) (index_bytes block))
 
         -- it is put
-        module _ {size : ℕ} {new : List ℕ} (e1 : size ≡ stored_length output end (index_bytes block)) (e2 : new ≡ stored output end (index_bytes block))
-            (n : size ≡ 0 → ⊥) where
+        module _ {size : ℕ} {new : List ℕ} (e1 : Some size ≡ stored_size output end (index_bytes block)) (e2 : new ≡ stored output end (index_bytes block)) where
           pub level_size : (size ≡ length (index_bytes block)) × (end + size ≤ length old)
           level_size =
-              let all = stored_length_some output end (index_bytes block) e1 n in
+              let all = stored_size_some output end (index_bytes block) e1 in
               let long = leveling_long in
               let size_is = all.0 in
               let within = all.1 in

@@ -21,8 +21,15 @@ use Rattle.layout.specs.Index.{IndexEntry, IndexBlock, index_bytes, entry_for, l
 use Rattle.layout.proofs.LiesLaws.{lies_last}
 use Rattle.layout.proofs.SideBySideLaws.{level_side_by_side}
 use Rattle.layout.proofs.IndexFitLaws.{length_level, level_member, level_some}
-use Rattle.index_encoder.specs.declared.RaiseOutcome.TheVariants.{Answer as ARoot, Refused as NoRoot}
-use Rattle.index_encoder.specs.declared.level.LevelOutcome.TheVariants.{Answer as ALevel, Refused as NoLevel}
+use Rattle.std.specs.Prelude.{Option, Some, None, Result, Ok, Err}
+use Rattle.std.specs.Option.{ok_or}
+use Rattle.std.specs.Result.{IsErrAnd, result_ok}
+use Rattle.std.proofs.lemmas.Result.{err_from_is_err_and}
+use Rattle.outcome.specs.declared.Fault.{Fault}
+use Rattle.outcome.specs.declared.Fault.TheVariants.{OutputRoom}
+use Rattle.outcome.specs.Fault.{number}
+use Rattle.index_encoder.specs.declared.level.Level.{Level}
+use Rattle.index_encoder.specs.declared.Raised.{Raised}
 use Rattle.index_encoder.specs.Children.{children_from, start_at}
 use Rattle.index_encoder.specs.Level.{level_for, LevelPut}
 use Rattle.index_encoder.specs.Raise.{index_for, raised_from, LevelsPut}
@@ -198,11 +205,12 @@ module _ (old : List ℕ) (per_index from to : ℕ) where
       whole : length (flat_map index_bytes (v.done ++ here)) ≡ length (flat_map index_bytes v.done) + length (flat_map index_bytes here)
       whole = ap length (flat_map_append index_bytes v.done here) ∙ length-append (flat_map index_bytes v.done) (flat_map index_bytes here)
 
-      -- this level doesn't fit
-      pub raising_refused : (new : List ℕ) → LevelPut output new b here NoLevel → LevelsPut old new to (index_for per_index old from to) (NoRoot 31)
-      unfolding LevelPut LevelsPut flat_map
-      raising_refused new p =
-          (refl, by_entries empty more, kept)
+      -- this level doesn't fit, so the index doesn't
+      full : (new : List ℕ) → LevelPut output new b here None
+          → (length old < to + length (flat_map index_bytes (index_for per_index old from to))) × (take to new ≡ take to old)
+      unfolding LevelPut flat_map
+      full new p =
+          (by_entries empty more, kept)
         where
           empty : es ≡ [] → length old < to + length (flat_map index_bytes (index_for per_index old from to))
           empty e =
@@ -232,7 +240,23 @@ module _ (old : List ℕ) (per_index from to : ℕ) where
               ∙ ap (take to) v.holds
               ∙ take-stored old to (flat_map index_bytes v.done) to (omega arith)
 
-      module _ (new : List ℕ) (end blocks : ℕ) (p : LevelPut output new b here (ALevel end blocks)) where
+      -- the refusal that is handed on
+      pub raising_refused : (new : List ℕ) (put : Option Level) → LevelPut output new b here put → {fault : Fault} → put ≡ result_ok {T = Level} (Err fault)
+          → Err fault ≡ ok_or put OutputRoom → (r : Result Raised Fault) → IsErrAnd r (λ f. f ≡ fault)
+          → LevelsPut old new to (index_for per_index old from to) r
+      unfolding LevelPut LevelsPut number
+      raising_refused new (Some put) p none e r told = cc
+      raising_refused new None p {fault} none e r told =
+          let handed = err_from_is_err_and r told in let is : fault ≡ OutputRoom = cc in
+          let over = full new p in rw (handed.1, handed.2, is) (refl, over.0, over.1)
+
+      module _ (new : List ℕ) (level-put : Level) (p : LevelPut output new b here (Some level-put)) where
+        abbrev end : ℕ
+        end = level-put.end
+
+        abbrev blocks : ℕ
+        blocks = level-put.blocks
+
         abbrev Put : Type 0
         Put = (end ≡ b + length (flat_map index_bytes here)) × (end ≤ length output) × (blocks ≡ length here) × (new ≡ stored output b (flat_map index_bytes here))
 
@@ -257,7 +281,7 @@ module _ (old : List ℕ) (per_index from to : ℕ) where
 
         answers : index_for per_index old from to ≡ v.done ++ here → (root rootsize : ℕ)
             → root ≡ (root_of (v.done ++ here)).offset → rootsize ≡ (root_of (v.done ++ here)).size
-            → LevelsPut old new to (index_for per_index old from to) (ARoot (record { root = root; rootsize = rootsize; end = end }))
+            → LevelsPut old new to (index_for per_index old from to) (Ok (record { root = root; rootsize = rootsize; end = end }))
         unfolding LevelsPut raised_from
         answers e root rootsize r s =
             let within = put.1 in
@@ -271,7 +295,7 @@ module _ (old : List ℕ) (per_index from to : ℕ) where
             )
 
         -- no block on this level: there is nothing to put
-        pub raising_nothing : blocks ≡ 0 → LevelsPut old new to (index_for per_index old from to) (ARoot (record { root = 0; rootsize = 0; end = end }))
+        pub raising_nothing : blocks ≡ 0 → LevelsPut old new to (index_for per_index old from to) (Ok (record { root = 0; rootsize = 0; end = end }))
         unfolding root_of
         raising_nothing z = by_entries empty (λ some. absurd (no_more some))
           where
@@ -289,13 +313,13 @@ module _ (old : List ℕ) (per_index from to : ℕ) where
                 go (inl d) = d
                 go (inr some) = absurd (no_more some)
 
-            empty : es ≡ [] → LevelsPut old new to (index_for per_index old from to) (ARoot (record { root = 0; rootsize = 0; end = end }))
+            empty : es ≡ [] → LevelsPut old new to (index_for per_index old from to) (Ok (record { root = 0; rootsize = 0; end = end }))
             empty e =
                 let all : v.done ++ here ≡ [] = ap (λ l. v.done ++ l) (none_here e) ∙ append-nil v.done ∙ nothing e in
                 answers (finished e ∙ nothing e ∙ sym all) 0 0 (sym (ap (λ l. (root_of l).offset) all)) (sym (ap (λ l. (root_of l).size) all))
 
         -- one block on this level: it is the root
-        pub raising_root : blocks ≡ 1 → LevelsPut old new to (index_for per_index old from to) (ARoot (record { root = b; rootsize = end - b; end = end }))
+        pub raising_root : blocks ≡ 1 → LevelsPut old new to (index_for per_index old from to) (Ok (record { root = b; rootsize = end - b; end = end }))
         unfolding upper level_for level_from entry_for flat_map
         raising_root z = by_entries (λ e. absurd (let counted = put.2 in let none = ap length (none_here e) in omega arith)) more
           where
@@ -305,7 +329,7 @@ module _ (old : List ℕ) (per_index from to : ℕ) where
             one (g ∷ (h ∷ gs)) e =
                 absurd (let counted = put.2 in let same = count in let many : length (groups per_index es) ≡ length (g ∷ (h ∷ gs)) = ap length e in omega arith)
 
-            more : 0 < length es → LevelsPut old new to (index_for per_index old from to) (ARoot (record { root = b; rootsize = end - b; end = end }))
+            more : 0 < length es → LevelsPut old new to (index_for per_index old from to) (Ok (record { root = b; rootsize = end - b; end = end }))
             more some =
                 let on = goes_on some in
                 let counted = put.2 in

@@ -1,8 +1,12 @@
 -- Laws of putting the index.
 -- Assumes nothing.
 use mathlib.Core.Path.{◌≡◌, refl, sym, ap, ◌∙◌, subst}
+use mathlib.Core.Bool.{Bool, true, false, false≢true}
+use mathlib.Core.Logic.{◌⊎◌, inl, inr}
 use mathlib.Core.List.{List, [], ◌++◌, flat_map, append-nil}
-use Prim.Native.Nat.{ℕ, ◌+◌, ◌-◌, ◌^◌, ◌≤◌, ◌<◌}
+use Prim.Native.Nat.{ℕ, ◌+◌, ◌-◌, ◌^◌, ◌≤◌, ◌<◌, min}
+use Rattle.std.specs.Prelude.{Result, Ok, Err}
+use Rattle.std.specs.Result.{is_err}
 use native.Mathlib.Omega.{arith}
 use lib.Dec.{leb}
 use lib.ListN.{length, take, drop, length-drop, drop_of_length-le}
@@ -15,22 +19,21 @@ use Rattle.output_bytes.specs.OutputBytes.{stored}
 use Rattle.layout.specs.Index.{IndexBlock, index_bytes, index_over}
 use Rattle.layout.specs.File.{file_fits}
 use Rattle.index_encoder.specs.declared.Raised.{Raised}
-use Rattle.index_encoder.specs.declared.RaiseOutcome.{RaiseOutcome}
-use Rattle.index_encoder.specs.declared.RaiseOutcome.TheVariants.{Answer as ARoot, Refused as NoRoot}
+use Rattle.outcome.specs.declared.Fault.{Fault}
+use Rattle.outcome.specs.Fault.{number, said_at}
 use Rattle.index_encoder.specs.Children.{children_from, start_at}
-use Rattle.index_encoder.specs.Raise.{index_for, raise_of, raised_from, raised_of, raise_said, with_index, IndexPut, LevelsPut}
+use Rattle.index_encoder.specs.Raise.{index_for, raise_of, raised_from, raised_of, with_index, IndexPut, LevelsPut}
 use Rattle.index_encoder.proofs.StoredLaws.{by_order, stored_room}
 
 -- ---- how much of an output a file may fill
 
-pub room_limit : (room end : ℕ) → 2 ^ 30 < room → file_fits room end ≡ leb end (2 ^ 30)
+pub room_limit : (room end : ℕ) → file_fits room end ≡ leb end (min room (2 ^ 30))
 unfolding file_fits
-room_limit room end h =
-    by_order room end (λ l. rw (lt-leb end room l) (sym (lt-leb end (2 ^ 30) (omega arith)))) (λ l. rw (le-leb end room l))
-
-pub room_all : (room end : ℕ) → room ≤ 2 ^ 30 → file_fits room end ≡ leb end room
-unfolding file_fits
-room_all room end h = by_order room end (λ l. rw (lt-leb end room l)) (λ l. rw (le-leb end room l, le-leb end (2 ^ 30) (omega arith)))
+room_limit room end =
+    by_order room end (λ l. rw (lt-leb end room l) (sym (lt-leb end (min room (2 ^ 30)) (omega arith))))
+    (λ l. rw (le-leb end room l)
+    (by_order (2 ^ 30) end (λ m. lt-leb end (2 ^ 30) m ∙ sym (lt-leb end (min room (2 ^ 30)) (omega arith)))
+    (λ m. le-leb end (2 ^ 30) m ∙ sym (le-leb end (min room (2 ^ 30)) (omega arith)))))
 
 -- ---- the whole
 
@@ -38,17 +41,21 @@ module _ (o : List ℕ) (per_index from to : ℕ) where
   abbrev index : List IndexBlock
   index = index_for per_index o from to
 
-  abbrev Said : RaiseOutcome → List ℕ → Type 0
-  Said r new = (raise_said r ≡ raised_of per_index o from to) × IndexPut o new to (raise_of per_index o from to)
+  abbrev Said : Result Raised Fault → List ℕ → Type 0
+  Said r new = (said_at 0 r ≡ raised_of per_index o from to) × IndexPut o new to (raise_of per_index o from to)
 
-  said_refused : (number : ℕ) (new : List ℕ) → raise_of per_index o from to ≡ refused number 0 → take to new ≡ take to o → Said (NoRoot number) new
-  unfolding raise_said raised_of IndexPut
-  said_refused number new e kept = (sym (bind_refused (raise_of per_index o from to) _ number 0 e), subst (IndexPut o new to) (sym e) kept)
+  said_refused : (fault : Fault) (n : ℕ) → number fault ≡ n → (new : List ℕ) → raise_of per_index o from to ≡ refused n 0 → take to new ≡ take to o
+      → Said (Err fault) new
+  unfolding said_at raised_of IndexPut
+  said_refused fault n is new e kept = (
+    ap (λ k. refused k 0) is ∙ sym (bind_refused (raise_of per_index o from to) _ n 0 e),
+    subst (IndexPut o new to) (sym e) kept,
+  )
 
   -- too few entries in an index block
-  pub raise_few : per_index < 2 → Said (NoRoot 30) o
+  pub raise_few : (fault : Fault) → number fault ≡ 30 → per_index < 2 → Said (Err fault) o
   unfolding raise_of
-  raise_few h = said_refused 30 o (broken (leb 2 per_index) 30 0 _ (lt-leb 2 per_index h)) refl
+  raise_few fault is h = said_refused fault 30 is o (broken (leb 2 per_index) 30 0 _ (lt-leb 2 per_index h)) refl
 
   module _ (two : 2 ≤ per_index) (room : ℕ) (fits : (end : ℕ) → file_fits (length o) end ≡ leb end room) where
     too_long : room < to + length (flat_map index_bytes index) → raise_of per_index o from to ≡ refused 31 0
@@ -64,8 +71,8 @@ module _ (o : List ℕ) (per_index from to : ℕ) where
         ∙ kept (file_fits (length o) (to + length (flat_map index_bytes index))) 31 0 _ (fits _ ∙ le-leb _ room h)
 
     -- the blocks themselves don't fit
-    pub raise_late : room < to → Said (NoRoot 31) o
-    raise_late h = said_refused 31 o (too_long (omega arith)) refl
+    pub raise_late : (fault : Fault) → number fault ≡ 31 → room < to → Said (Err fault) o
+    raise_late fault is h = said_refused fault 31 is o (too_long (omega arith)) refl
 
     -- in the part of the output that a file may fill
     module _ (within : room ≤ length o) (low : to ≤ room) (new : List ℕ) (long : length new ≡ length (take room o)) where
@@ -77,14 +84,14 @@ module _ (o : List ℕ) (per_index from to : ℕ) where
       kept_front e = let cut = length-take-le room o within in
           take-append-le to new (drop room o) (omega arith) ∙ e ∙ take-take to room o low
 
-      pub raise_put : (r : RaiseOutcome) → LevelsPut (take room o) new to (index_for per_index (take room o) from to) r → Said r (new ++ drop room o)
-      unfolding LevelsPut raise_said raised_of IndexPut
-      raise_put (NoRoot n) p =
+      pub raise_put : (r : Result Raised Fault) → LevelsPut (take room o) new to (index_for per_index (take room o) from to) r → Said r (new ++ drop room o)
+      unfolding LevelsPut said_at raised_of IndexPut
+      raise_put (Err fault) p =
           let cut = length-take-le room o within in
           let over : length (take room o) < to + length (flat_map index_bytes index) =
           subst (λ l. length (take room o) < to + length (flat_map index_bytes l)) same p.1 in
-          subst (λ k. Said (NoRoot k) (new ++ drop room o)) (sym p.0) (said_refused 31 (new ++ drop room o) (too_long (omega arith)) (kept_front p.2))
-      raise_put (ARoot r) p =
+          said_refused fault 31 p.0 (new ++ drop room o) (too_long (omega arith)) (kept_front p.2)
+      raise_put (Ok r) p =
           let cut = length-take-le room o within in
           let fit : to + length (flat_map index_bytes index) ≤ length (take room o) =
           subst (λ l. to + length (flat_map index_bytes l) ≤ length (take room o)) same p.1 in
@@ -95,33 +102,38 @@ module _ (o : List ℕ) (per_index from to : ℕ) where
                 ∙ stored_room o to (flat_map index_bytes index) room within (omega arith)),
           )
 
-  -- what `put_index` answers: the index is put
-  pub index_put : (new : List ℕ) (r : RaiseOutcome) (x : Raised) → r ≡ ARoot x → Said r new
-      → (raise_said (ARoot x) ≡ raised_of per_index o from to) × (new ≡ with_index o to (raise_of per_index o from to))
-  unfolding raise_said raised_of IndexPut with_index
-  index_put new r x told p = let said = sym (ap raise_said told) ∙ p.0 in (said, go (raise_of per_index o from to) said p.1)
+  -- ---- what `put_index` leaves
+
+  -- the index is put
+  index_put : (new : List ℕ) (r : Raised) → Said (Ok r) new → new ≡ with_index o to (raise_of per_index o from to)
+  unfolding said_at raised_of IndexPut with_index
+  index_put new r p = go (raise_of per_index o from to) p.0 p.1
     where
-      go : (y : Outcome (List IndexBlock)) → answer x ≡ (y >>= λ bs. answer (raised_from to bs)) → IndexPut o new to y → new ≡ with_index o to y
+      go : (y : Outcome (List IndexBlock)) → answer r ≡ (y >>= λ bs. answer (raised_from to bs)) → IndexPut o new to y → new ≡ with_index o to y
       go (answer bs) e put = put
       go (refused number place) e put =
-          absurd (answer_not_refused x number place (e ∙ bind_refused {A = List IndexBlock} (refused number place) _ number place refl))
+          absurd (answer_not_refused r number place (e ∙ bind_refused {A = List IndexBlock} (refused number place) _ number place refl))
 
-  module _ (new : List ℕ) (r : RaiseOutcome) (n : ℕ) (told : r ≡ NoRoot n) (p : Said r new) (long : length new ≡ length o) where
-    cleared : (last : List ℕ) → last ≡ take to new ++ zeros (length new - to)
-        → (raise_said (NoRoot n) ≡ raised_of per_index o from to) × (last ≡ with_index o to (raise_of per_index o from to))
-    unfolding raise_said raised_of IndexPut with_index
-    cleared last e = let said = sym (ap raise_said told) ∙ p.0 in (said, e ∙ go (raise_of per_index o from to) said p.1)
-      where
-        go : (y : Outcome (List IndexBlock)) → refused n 0 ≡ (y >>= λ bs. answer (raised_from to bs)) → IndexPut o new to y
-            → take to new ++ zeros (length new - to) ≡ with_index o to y
-        go (answer bs) e put = absurd (refused_not_answer (raised_from to bs) n 0 (e ∙ bind_answer {A = List IndexBlock} (answer bs) _ bs refl))
-        go (refused number place) e put = ap (λ l. l ++ zeros (length new - to)) put ∙ ap (λ k. take to o ++ zeros (k - to)) long
+  -- zeros stand from `to` on
+  cleared : (new : List ℕ) (fault : Fault) → Said (Err fault) new → length new ≡ length o → (last : List ℕ)
+      → last ≡ take to new ++ zeros (length new - to) → last ≡ with_index o to (raise_of per_index o from to)
+  unfolding said_at raised_of IndexPut with_index
+  cleared new fault p long last e = e ∙ go (raise_of per_index o from to) p.0 p.1
+    where
+      go : (y : Outcome (List IndexBlock)) → refused (number fault) 0 ≡ (y >>= λ bs. answer (raised_from to bs)) → IndexPut o new to y
+          → take to new ++ zeros (length new - to) ≡ with_index o to y
+      go (answer bs) e put =
+          absurd (refused_not_answer (raised_from to bs) (number fault) 0 (e ∙ bind_answer {A = List IndexBlock} (answer bs) _ bs refl))
+      go (refused number place) e put = ap (λ l. l ++ zeros (length new - to)) put ∙ ap (λ k. take to o ++ zeros (k - to)) long
 
-    -- or the output is cleared from `to` on
-    pub index_cleared : {zs : List ℕ} → zs ≡ zeros (length (take (length new - to) (drop to new)))
-        → (raise_said (NoRoot n) ≡ raised_of per_index o from to)
-        × (take to new ++ (zs ++ drop (length new - to) (drop to new)) ≡ with_index o to (raise_of per_index o from to))
-    index_cleared {zs} e = cleared (take to new ++ (zs ++ drop (length new - to) (drop to new))) (ap (λ l. take to new ++ l) all)
+  module _ (new : List ℕ) (long : length new ≡ length o) where
+    -- a refusal, and the output is cleared from `to` on
+    pub index_cleared : (r : Result Raised Fault) → Said r new → true ≡ is_err r → {zs : List ℕ}
+        → zs ≡ zeros (length (take (length new - to) (drop to new)))
+        → take to new ++ (zs ++ drop (length new - to) (drop to new)) ≡ with_index o to (raise_of per_index o from to)
+    index_cleared (Ok r) p failed e = absurd (false≢true (sym failed))
+    index_cleared (Err fault) p failed {zs} e =
+        cleared new fault p long (take to new ++ (zs ++ drop (length new - to) (drop to new))) (ap (λ l. take to new ++ l) all)
       where
         rest : length (drop to new) ≡ length new - to
         rest = length-drop to new
@@ -134,10 +146,14 @@ module _ (o : List ℕ) (per_index from to : ℕ) where
             ∙ ap (λ l. zeros (length l)) (take_all (length new - to) (drop to new) (omega (arith, rest)))
             ∙ ap zeros rest
 
-    -- or it ends before `to`
-    pub index_short : length new ≤ to → (raise_said (NoRoot n) ≡ raised_of per_index o from to) × (new ≡ with_index o to (raise_of per_index o from to))
+    -- no refusal, or the output ends before `to`
+    pub index_left : (r : Result Raised Fault) → Said r new → {failed : Bool} → failed ≡ is_err r
+        → ((failed ≡ true) × (length new ≤ to)) ⊎ (failed ≡ false) → new ≡ with_index o to (raise_of per_index o from to)
     unfolding zeros padded
-    index_short h = cleared new (sym (append-nil new) ∙ ap (λ l. l ++ []) (sym (take_all to new h)) ∙ ap (λ k. take to new ++ zeros k) none)
+    index_left (Ok r) p e either = index_put new r p
+    index_left (Err fault) p e (inr none) = absurd (false≢true (sym none ∙ e))
+    index_left (Err fault) p e (inl short) =
+        cleared new fault p long new (sym (append-nil new) ∙ ap (λ l. l ++ []) (sym (take_all to new short.1)) ∙ ap (λ k. take to new ++ k) (none short.1))
       where
-        none : 0 ≡ length new - to
-        none = omega arith
+        none : length new ≤ to → [] ≡ zeros (length new - to)
+        none h = let nothing : 0 ≡ length new - to = omega arith in ap zeros nothing

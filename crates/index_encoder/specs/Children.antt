@@ -1,8 +1,10 @@
 -- The blocks that stand side by side in an output, as the entries that name them.
-use Rattle.std.specs.Prelude.{ℕ, zero, suc, ◌+◌, ◌-◌, ◌≤◌, ◌<◌, cond, List, [], ◌∷◌, map, length, take}
+use Rattle.std.specs.Prelude.{ℕ, zero, suc, ◌+◌, ◌-◌, ◌≤◌, ◌<◌, cond, List, [], ◌∷◌, map, length, take, Result, Ok, Err}
 use Rattle.std.proofs.Math.Option.{some}
 use Rattle.lists.specs.Groups.{last_or}
 use Rattle.outcome.specs.Outcome.{Outcome, answer, refused, ◌>>=◌}
+use Rattle.outcome.specs.declared.Fault.{Fault}
+use Rattle.outcome.specs.Fault.{number}
 use Rattle.items.specs.Items.{sound_from, where_answered}
 use Rattle.part.specs.Part.{part}
 use Rattle.part.specs.declared.Part.{Part}
@@ -12,8 +14,7 @@ use Rattle.block.specs.Block.{is_data}
 use Rattle.layout.specs.Index.{IndexEntry}
 use Rattle.layout.specs.File.{key_for}
 use Rattle.index_encoder.specs.declared.child.Position.{Position}
-use Rattle.index_encoder.specs.declared.child.ChildOutcome.{ChildOutcome}
-use Rattle.index_encoder.specs.declared.child.ChildOutcome.TheVariants.{Answer as AChild, Refused as NoChild}
+use Rattle.index_encoder.specs.declared.child.Child.{Child as Found}
 
 -- the bytes of a part of s
 unfoldable pub bytes_of : (s : List ℕ) → Part → List ℕ
@@ -66,17 +67,17 @@ module _ (s : List ℕ) where
   unfoldable pub entry_in : (key : Part) (offset size : ℕ) → IndexEntry
   entry_in key offset size = record { key = bytes_of s key; offset = offset; size = size }
 
-  -- what an answer of `child_at` says
-  unfoldable pub child_said : Position → ChildOutcome → Outcome Child
-  child_said p (AChild key last size) = answer (record { entry = entry_in key p.offset size; last = bytes_of s last })
-  child_said p (NoChild n) = refused n p.offset
+  -- what `child_at` answers
+  unfoldable pub child_said : Position → Result Found Fault → Outcome Child
+  child_said p (Ok c) = answer (record { entry = entry_in c.key p.offset c.size; last = bytes_of s c.last })
+  child_said p (Err fault) = refused (number fault) p.offset
 
   -- the key and the record that an answer names lie within the block, and the block within s
-  unfoldable pub ChildWithin : Position → ChildOutcome → Type 0
-  ChildWithin p (AChild key last size) =
-      (p.offset < key.offset) × (key.offset + key.length ≤ p.offset + size) × (last.offset + last.length ≤ p.offset + size)
-      × (p.offset + size ≤ length s)
-  ChildWithin p (NoChild n) = Unit {0}
+  unfoldable pub ChildWithin : Position → Result Found Fault → Type 0
+  ChildWithin p (Ok c) =
+      (p.offset < c.key.offset) × (c.key.offset + c.key.length ≤ p.offset + c.size) × (c.last.offset + c.last.length ≤ p.offset + c.size)
+      × (p.offset + c.size ≤ length s)
+  ChildWithin p (Err fault) = Unit {0}
 
 -- the position of a block that has no record before it
 unfoldable pub start_at : ℕ → Position

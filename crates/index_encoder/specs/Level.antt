@@ -1,5 +1,5 @@
 -- Putting one level of index blocks over a run of blocks in an output.
-use Rattle.std.specs.Prelude.{ℕ, ◌+◌, ◌≤◌, ◌<◌, ◌≡◌, length, take, drop}
+use Rattle.std.specs.Prelude.{ℕ, ◌+◌, ◌≤◌, ◌<◌, ◌≡◌, length, take, drop, Option, Some, None}
 use mathlib.Core.List.{List, flat_map}
 use Rattle.lists.specs.Groups.{groups}
 use Rattle.output_bytes.specs.OutputBytes.{stored}
@@ -7,8 +7,7 @@ use Rattle.layout.specs.Index.{IndexEntry, entry_bytes, IndexBlock, index_bytes,
 use Rattle.index_encoder.specs.declared.child.Position.{Position}
 use Rattle.index_encoder.specs.Children.{Within, children_from, start_at}
 use Rattle.index_encoder.specs.declared.entries.Group.{Group}
-use Rattle.index_encoder.specs.declared.level.LevelOutcome.{LevelOutcome}
-use Rattle.index_encoder.specs.declared.level.LevelOutcome.TheVariants.{Answer as ALevel, Refused as NoLevel}
+use Rattle.index_encoder.specs.declared.level.Level.{Level}
 
 -- the group of the first blocks from a position of s on, at most this many
 pub record Measured (s : List ℕ) (from : Position) (most : ℕ) (g : Group) : Type 0 where
@@ -29,8 +28,9 @@ block_for output level to from count place = record { level = level; offset = pl
 unfoldable pub level_for : (per_index level : ℕ) (output : List ℕ) (from to : ℕ) → List IndexBlock
 level_for per_index level output from to = level_from level to (groups per_index (children_from (take to output) (start_at from)))
 
--- what an answer of `put_level` says: the level is put, or it doesn't fit and what stands before it is as it was
-unfoldable pub LevelPut : (old new : List ℕ) (to : ℕ) → List IndexBlock → LevelOutcome → Type 0
-LevelPut old new to bs (ALevel end blocks) =
-    (end ≡ to + length (flat_map index_bytes bs)) × (end ≤ length old) × (blocks ≡ length bs) × (new ≡ stored old to (flat_map index_bytes bs))
-LevelPut old new to bs NoLevel = (length old < to + length (flat_map index_bytes bs)) × (take to new ≡ take to old)
+-- what `put_level` answers: the level is put, or it doesn't fit and what stands before it is as it was
+unfoldable pub LevelPut : (old new : List ℕ) (to : ℕ) → List IndexBlock → Option Level → Type 0
+LevelPut old new to bs (Some level) =
+    (level.end ≡ to + length (flat_map index_bytes bs)) × (level.end ≤ length old) × (level.blocks ≡ length bs)
+    × (new ≡ stored old to (flat_map index_bytes bs))
+LevelPut old new to bs None = (length old < to + length (flat_map index_bytes bs)) × (take to new ≡ take to old)

@@ -1,15 +1,15 @@
 -- Putting the index over a run of blocks in an output.
-use Rattle.std.specs.Prelude.{ℕ, ◌+◌, ◌-◌, ◌≤◌, ◌<◌, ◌≡◌, leb, length, take}
+use Rattle.std.specs.Prelude.{ℕ, ◌+◌, ◌-◌, ◌≤◌, ◌<◌, ◌≡◌, leb, length, take, Result, Ok, Err}
 use mathlib.Core.List.{List, ◌++◌, flat_map}
 use Rattle.output_list.specs.OutputList.{zeros}
 use Rattle.outcome.specs.Outcome.{Outcome, answer, refused, ◌>>=◌, ◌>>◌, must}
+use Rattle.outcome.specs.declared.Fault.{Fault}
+use Rattle.outcome.specs.Fault.{number}
 use Rattle.output_bytes.specs.OutputBytes.{stored}
 use Rattle.layout.specs.Index.{IndexBlock, index_bytes, index_over, root_of}
 use Rattle.layout.specs.File.{file_fits}
 use Rattle.index_encoder.specs.Children.{children_from, start_at}
 use Rattle.index_encoder.specs.declared.Raised.{Raised}
-use Rattle.index_encoder.specs.declared.RaiseOutcome.{RaiseOutcome}
-use Rattle.index_encoder.specs.declared.RaiseOutcome.TheVariants.{Answer as ARoot, Refused as NoRoot}
 
 -- the index blocks over the blocks that stand in the output from `from` to `to`, to be put from `to` on
 unfoldable pub index_for : (per_index : ℕ) (output : List ℕ) (from to : ℕ) → List IndexBlock
@@ -29,10 +29,6 @@ raised_from to bs = record { root = (root_of bs).offset; rootsize = (root_of bs)
 unfoldable pub raised_of : (per_index : ℕ) (output : List ℕ) (from to : ℕ) → Outcome Raised
 raised_of per_index output from to = raise_of per_index output from to >>= λ bs. answer (raised_from to bs)
 
-unfoldable pub raise_said : RaiseOutcome → Outcome Raised
-raise_said (ARoot r) = answer r
-raise_said (NoRoot n) = refused n 0
-
 -- the output then: the index blocks stored from `to` on; after a refusal zeros from there on
 unfoldable pub with_index : List ℕ → (to : ℕ) → Outcome (List IndexBlock) → List ℕ
 with_index output to (answer bs) = stored output to (flat_map index_bytes bs)
@@ -43,8 +39,9 @@ unfoldable pub IndexPut : (old new : List ℕ) (to : ℕ) → Outcome (List Inde
 IndexPut old new to (answer bs) = new ≡ stored old to (flat_map index_bytes bs)
 IndexPut old new to (refused number place) = take to new ≡ take to old
 
--- what an answer of `put_levels` says: all levels are put, or they don't fit and what stands before them is as it was
-unfoldable pub LevelsPut : (old new : List ℕ) (to : ℕ) → List IndexBlock → RaiseOutcome → Type 0
-LevelsPut old new to bs (ARoot r) =
+-- what `put_levels` answers: all levels are put, or they don't fit and what stands before them is as it was
+unfoldable pub LevelsPut : (old new : List ℕ) (to : ℕ) → List IndexBlock → Result Raised Fault → Type 0
+LevelsPut old new to bs (Ok r) =
     (r ≡ raised_from to bs) × (to + length (flat_map index_bytes bs) ≤ length old) × (new ≡ stored old to (flat_map index_bytes bs))
-LevelsPut old new to bs (NoRoot n) = (n ≡ 31) × (length old < to + length (flat_map index_bytes bs)) × (take to new ≡ take to old)
+LevelsPut old new to bs (Err fault) =
+    (number fault ≡ 31) × (length old < to + length (flat_map index_bytes bs)) × (take to new ≡ take to old)

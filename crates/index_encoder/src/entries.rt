@@ -6,8 +6,7 @@ ghost use Rattle.layout.specs.Index.{entry_bytes};
 ghost use Rattle.index_encoder.specs.Children.{entry_in, Within};
 ghost use Rattle.index_encoder.specs.Level.{Measured, entries_for};
 
-use crate::child::{ChildOutcome, Position, child_at};
-use part::Part;
+use crate::child::{Child, Position, child_at};
 
 // A group of blocks that stand side by side: how many, where the run goes on, and how many bytes their entries take.
 #[derive(Clone, Copy)]
@@ -17,15 +16,16 @@ pub struct Group {
     pub length: usize,
 }
 
-// The length of an entry.
-fn entry_length(key: Part, offset: usize, size: usize) -> usize
-    requires { (key.length ≤ 2 ^ 30) × (offset ≤ 2 ^ 30) × (size ≤ 2 ^ 30) }
-    ensures { (s : List ℕ) → key.offset + key.length ≤ length s → result ≡ length (entry_bytes (entry_in s key offset size)) }
+// The length of the entry for a block at an offset.
+fn entry_length(offset: usize, child: Child) -> usize
+    requires { (child.key.length ≤ 2 ^ 30) × (offset ≤ 2 ^ 30) × (child.size ≤ 2 ^ 30) }
+    ensures { (s : List ℕ) → child.key.offset + child.key.length ≤ length s
+        → result ≡ length (entry_bytes (entry_in s child.key offset child.size)) }
 {
-    uleb128::number_length(key.length as u64)
-        + key.length
+    uleb128::number_length(child.key.length as u64)
+        + child.key.length
         + uleb128::number_length(offset as u64)
-        + uleb128::number_length(size as u64)
+        + uleb128::number_length(child.size as u64)
 }
 
 // The blocks of `s` from a position on, at most `most` of them.
@@ -33,46 +33,36 @@ pub fn measure(s: &[u8], from: Position, most: u64) -> Group
     requires { (length s.now ≤ 2 ^ 30) × Within s.now from.before }
     ensures { Measured s.now from most result }
 {
-    let mut at = from;
-    let mut count: u64 = 0;
-    let mut length: usize = 0;
-    while count < most {
-        let child = child_at(s, at);
-        match child {
-            ChildOutcome::Refused(_) => return Group {
-                count,
-                next: at,
-                length,
-            },
-            ChildOutcome::Answer { key, last, size } => {
-                length += entry_length(key, at.offset, size);
-                let offset = at.offset + size;
-                at = Position {
-                    offset,
-                    before: last,
-                };
-                count += 1;
-            },
-        }
+    let mut group = Group {
+        count: 0,
+        next: from,
+        length: 0,
+    };
+    for _ in 0..most {
+        let Ok(child) = child_at(s, group.next) else {
+            return group;
+        };
+        group = Group {
+            count: group.count + 1,
+            next: group.next.after(child),
+            length: group.length + entry_length(group.next.offset, child),
+        };
     }
-    Group {
-        count,
-        next: at,
-        length,
-    }
+    group
 }
 
-// Puts an entry whose key stands before it; answers where it ends.
-fn put_entry(output: &mut [u8], place: usize, key: Part, offset: usize, size: usize) -> usize
-    requires { (key.offset + key.length ≤ place) × (place + length (entry_bytes (entry_in output.old key offset size)) ≤ length output.old) }
-    ensures value { result ≡ place + length (entry_bytes (entry_in output.old key offset size)) }
-    ensures output_after { output.new ≡ stored output.old place (entry_bytes (entry_in output.old key offset size)) }
+// Puts the entry for a block at an offset, whose key stands before it; answers where it ends.
+fn put_entry(output: &mut [u8], place: usize, offset: usize, child: Child) -> usize
+    requires { (child.key.offset + child.key.length ≤ place)
+        × (place + length (entry_bytes (entry_in output.old child.key offset child.size)) ≤ length output.old) }
+    ensures value { result ≡ place + length (entry_bytes (entry_in output.old child.key offset child.size)) }
+    ensures output_after { output.new ≡ stored output.old place (entry_bytes (entry_in output.old child.key offset child.size)) }
 {
-    let text = place + encoder::put_number(output, place, key.length as u64);
-    output_bytes::copy(output, key, text);
-    let after = text + key.length;
+    let text = place + encoder::put_number(output, place, child.key.length as u64);
+    output_bytes::copy(output, child.key, text);
+    let after = text + child.key.length;
     let next = after + encoder::put_number(output, after, offset as u64);
-    next + encoder::put_number(output, next, size as u64)
+    next + encoder::put_number(output, next, child.size as u64)
 }
 
 // Puts the entries for the first `count` blocks from `from` on of the run that ends at `to`; answers where they end.
@@ -84,21 +74,12 @@ pub fn put_entries(output: &mut [u8], to: usize, from: Position, count: u64, pla
 {
     let mut at = from;
     let mut end = place;
-    let mut left = count;
-    while 0 < left {
-        let child = child_at(&output[..to], at);
-        match child {
-            ChildOutcome::Refused(_) => return end,
-            ChildOutcome::Answer { key, last, size } => {
-                end = put_entry(output, end, key, at.offset, size);
-                let offset = at.offset + size;
-                at = Position {
-                    offset,
-                    before: last,
-                };
-                left -= 1;
-            },
-        }
+    for _ in 0..count {
+        let Ok(child) = child_at(&output[..to], at) else {
+            return end;
+        };
+        end = put_entry(output, end, at.offset, child);
+        at = at.after(child);
     }
     end
 }

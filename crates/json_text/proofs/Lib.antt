@@ -1,9 +1,5 @@
--- Laws of positions.
-pub mod KeyLaws
-pub mod PositionLaws
-pub mod SpacePositionLaws
-pub mod NumberPositionLaws
-pub mod StringPositionLaws
-pub mod ScalarPositionLaws
-pub mod ItemPositionLaws
-pub mod ContainerPositionLaws
+-- Laws of what is left.
+pub mod FrontLaws
+pub mod StringLaws
+pub mod ScalarLaws
+pub mod ContainerLaws

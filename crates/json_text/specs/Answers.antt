@@ -1,46 +1,42 @@
--- What the answers of the code say, in the terms of the recogniser. A position stands for what is left from there on.
-use Rattle.std.specs.Prelude.{ℕ, Bool, List, [], ◌∷◌, drop}
+-- What the answers of the code say, in the terms of the recogniser.
+use Rattle.std.specs.Prelude.{ℕ, List, Some, None}
+use Rattle.std.specs.Prelude.{Option as Given}
+use Rattle.std.specs.Borrow.{Bor}
 use Rattle.std.proofs.Math.Option.{Option, none, some}
-use Rattle.json_text.specs.declared.End.{End}
-use Rattle.json_text.specs.declared.End.TheVariants.{At, Nowhere}
-use Rattle.json_text.specs.declared.string.Step.{Step}
-use Rattle.json_text.specs.declared.string.Step.TheVariants.{Closed, Due, Stray}
-use Rattle.json_text.specs.declared.items.Next.{Next}
-use Rattle.json_text.specs.declared.items.Next.TheVariants.{Item, Closed as ClosedAt, Neither}
-use Rattle.json_text.specs.declared.space.Kind.{Kind}
-use Rattle.json_text.specs.declared.space.Kind.TheVariants.{Space, Digit}
-use Rattle.json_grammar.specs.Recogniser.{is_space, is_digit, ◌>>=◌, chars_end, structural_end}
+use Rattle.json_text.specs.declared.value.Kind.{Kind}
+use Rattle.json_text.specs.declared.value.Kind.TheVariants.{Object, Array}
+use Rattle.json_grammar.specs.Recogniser.{chars_end, name_end, member_over, value_end, object_end, array_end}
 
--- the first byte; 0 where there is none
-unfoldable pub first : List ℕ → ℕ
-first [] = 0
-first (b ∷ s) = b
+-- what is left after a text, or that there is none
+abbrev pub left : Given (Bor (List ℕ)) → Option (List ℕ)
+left None = none
+left (Some s) = some s.now
 
--- whether a byte is of a kind
-abbrev pub is_of : Kind → ℕ → Bool
-is_of Space = is_space
-is_of Digit = is_digit
+-- where a string ends that goes on after a text
+abbrev pub chars_after : Given (Bor (List ℕ)) → Option (List ℕ)
+chars_after None = none
+chars_after (Some s) = chars_end 0 s.now
 
--- where a text ends, or that there is none
-unfoldable pub end_said : List ℕ → End → Option (List ℕ)
-end_said s (At p) = some (drop p s)
-end_said s Nowhere = none
+-- the name of an item and its separator; a value of an array has none
+abbrev pub name_of : Kind → List ℕ → Option (List ℕ)
+name_of Object = name_end
+name_of Array = some
 
--- what a byte of a string does, before the bytes `s`
-unfoldable pub step_said : List ℕ → Step → Option (List ℕ)
-step_said s Closed = some s
-step_said s (Due n) = chars_end n s
-step_said s Stray = none
+-- a member or a value
+abbrev pub item_of : Kind → (depth : ℕ) → List ℕ → Option (List ℕ)
+item_of Object depth = member_over (value_end depth)
+item_of Array depth = value_end depth
 
-unfoldable pub no_items : List ℕ → Option (List ℕ)
-no_items s = none
+-- an object or an array
+abbrev pub container_of : Kind → (depth : ℕ) → List ℕ → Option (List ℕ)
+container_of Object = object_end
+container_of Array = array_end
 
--- where the next item begins, from which `items` go on, or where the object or array ends
-unfoldable pub next_said : List ℕ → (items : List ℕ → Option (List ℕ)) → Next → Option (List ℕ)
-next_said s items (Item p) = items (drop p s)
-next_said s items (ClosedAt p) = some (drop p s)
-next_said s items Neither = none
+-- the characters that a container stands between
+abbrev pub opening_of : Kind → ℕ
+opening_of Object = 0x7b
+opening_of Array = 0x5b
 
--- what begins with an opening character
-unfoldable pub opened : (opening : ℕ) → (inside : List ℕ → Option (List ℕ)) → List ℕ → Option (List ℕ)
-opened opening inside s = structural_end opening s >>= inside
+abbrev pub closing_of : Kind → ℕ
+closing_of Object = 0x7d
+closing_of Array = 0x5d

@@ -1,78 +1,77 @@
 // Numbers.
-ghost use Rattle.std.specs.Prelude.{◌≡◌, drop};
+ghost use Rattle.std.specs.Prelude.{◌≡◌};
 ghost use Rattle.json_grammar.specs.Recogniser as recogniser;
-ghost use Rattle.json_text.specs.Answers.{end_said};
+ghost use Rattle.json_text.specs.Answers.{left};
 
-use crate::End;
-use crate::byte::{byte_at, is_digit};
-use crate::space::skip_digits;
+use crate::space::skip_while;
 
 // One digit or more.
-fn digits(s: &[u8], at: usize) -> End
-    ensures { end_said s.now result ≡ recogniser.digits_end (drop at s.now) }
+#[tactic(auto, unfolding(json_grammar::specs::Recogniser::digits_end, json_grammar::specs::Recogniser::is_digit))]
+fn digits(s: &[u8]) -> Option<&[u8]>
+    ensures { left result ≡ recogniser.digits_end s.now }
 {
-    if is_digit(byte_at(s, at)) {
-        End::At(skip_digits(s, at + 1))
-    } else {
-        End::Nowhere
+    match s {
+        [b'0'..=b'9', rest @ ..] => Some(skip_while(rest, |b| b.is_ascii_digit())),
+        _ => None,
     }
 }
 
-fn skip_minus(s: &[u8], at: usize) -> usize
-    ensures { drop result s.now ≡ recogniser.skip_minus (drop at s.now) }
+#[tactic(auto, unfolding(json_grammar::specs::Recogniser::skip_minus))]
+fn skip_minus(s: &[u8]) -> &[u8]
+    ensures { result.now ≡ recogniser.skip_minus s.now }
 {
-    if byte_at(s, at) == b'-' { at + 1 } else { at }
+    match s {
+        [b'-', rest @ ..] => rest,
+        _ => s,
+    }
 }
 
 // The integer: zero, or digits that don't begin with one.
-fn int(s: &[u8], at: usize) -> End
-    ensures { end_said s.now result ≡ recogniser.int_end (drop at s.now) }
+#[tactic(auto, unfolding(json_grammar::specs::Recogniser::int_end, json_grammar::specs::Recogniser::digits_end))]
+fn int(s: &[u8]) -> Option<&[u8]>
+    ensures { left result ≡ recogniser.int_end s.now }
 {
-    if byte_at(s, at) == b'0' {
-        End::At(at + 1)
-    } else {
-        digits(s, at)
+    match s {
+        [b'0', rest @ ..] => Some(rest),
+        _ => digits(s),
     }
 }
 
 // The fraction, or nothing.
-fn frac(s: &[u8], at: usize) -> End
-    ensures { end_said s.now result ≡ recogniser.frac_end (drop at s.now) }
+#[tactic(auto, unfolding(json_grammar::specs::Recogniser::frac_end))]
+fn frac(s: &[u8]) -> Option<&[u8]>
+    ensures { left result ≡ recogniser.frac_end s.now }
 {
-    if byte_at(s, at) == b'.' {
-        digits(s, at + 1)
-    } else {
-        End::At(at)
+    match s {
+        [b'.', rest @ ..] => digits(rest),
+        _ => Some(s),
     }
 }
 
-fn skip_sign(s: &[u8], at: usize) -> usize
-    ensures { drop result s.now ≡ recogniser.skip_sign (drop at s.now) }
+#[tactic(auto, unfolding(json_grammar::specs::Recogniser::skip_sign, json_grammar::specs::Recogniser::one_of))]
+fn skip_sign(s: &[u8]) -> &[u8]
+    ensures { result.now ≡ recogniser.skip_sign s.now }
 {
-    match byte_at(s, at) {
-        b'-' | b'+' => at + 1,
-        _ => at,
+    match s {
+        [b'-' | b'+', rest @ ..] => rest,
+        _ => s,
     }
 }
 
 // The exponent, or nothing.
-fn exp(s: &[u8], at: usize) -> End
-    ensures { end_said s.now result ≡ recogniser.exp_end (drop at s.now) }
+#[tactic(auto, unfolding(json_grammar::specs::Recogniser::exp_end, json_grammar::specs::Recogniser::one_of))]
+fn exp(s: &[u8]) -> Option<&[u8]>
+    ensures { left result ≡ recogniser.exp_end s.now }
 {
-    match byte_at(s, at) {
-        b'e' | b'E' => digits(s, skip_sign(s, at + 1)),
-        _ => End::At(at),
+    match s {
+        [b'e' | b'E', rest @ ..] => digits(skip_sign(rest)),
+        _ => Some(s),
     }
 }
 
-pub fn number(s: &[u8], at: usize) -> End
-    ensures { end_said s.now result ≡ recogniser.number_end (drop at s.now) }
+#[tactic(auto, using(crate::proofs::FrontLaws::going_on), unfolding(json_grammar::specs::Recogniser::number_end))]
+pub fn number(s: &[u8]) -> Option<&[u8]>
+    ensures { left result ≡ recogniser.number_end s.now }
 {
-    let End::At(point) = int(s, skip_minus(s, at)) else {
-        return End::Nowhere;
-    };
-    let End::At(e) = frac(s, point) else {
-        return End::Nowhere;
-    };
-    exp(s, e)
+    exp(frac(int(skip_minus(s))?)?)
 }

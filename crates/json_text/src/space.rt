@@ -1,65 +1,44 @@
-// White space, digits and structural characters.
-ghost use Rattle.std.specs.Prelude.{◌≡◌, drop};
-ghost use Rattle.json_grammar.specs.Recogniser.{skip_while, skip, skip_digits, structural_end};
-ghost use Rattle.json_text.specs.Answers.{end_said, is_of};
+// White space and structural characters.
+ghost use Rattle.std.specs.Prelude.{◌≡◌, ℕ, Bool};
+ghost use Rattle.json_grammar.specs.Recogniser.{is_space, skip_while, skip, structural_end};
+ghost use Rattle.json_text.specs.Answers.{left};
 
-use crate::End;
-use crate::byte::{is_digit, is_space};
-
-// Bytes that are passed over.
-#[derive(Clone, Copy)]
-enum Kind {
-    Space,
-    Digit,
+#[tactic(auto, unfolding(json_grammar::specs::Recogniser::is_space, json_grammar::specs::Recogniser::one_of))]
+fn is_space(b: u8) -> bool
+    ensures { result ≡ is_space b }
+{
+    matches!(b, b' ' | b'\t' | b'\n' | b'\r')
 }
 
-fn is_of(kind: Kind, b: u8) -> bool
-    ensures { result ≡ is_of kind b }
+// What is left after the bytes at the front that pass a test.
+pub fn skip_while<F: Fn(u8) -> bool>(s: &[u8], test: F) -> &[u8]
+    requires { F.IsAlwaysCallable test }
+    ensures { (p : ℕ → Bool) → ((b : ℕ) (r : Bool) → F.post test b r → r ≡ p b) → result.now ≡ skip_while p s.now }
 {
-    match kind {
-        Kind::Space => is_space(b),
-        Kind::Digit => is_digit(b),
-    }
-}
-
-// Where bytes of a kind end.
-fn skip_while(s: &[u8], from: usize, kind: Kind) -> usize
-    ensures { drop result s.now ≡ skip_while (is_of kind) (drop from s.now) }
-{
-    let mut at = from;
-    while at < s.len() {
-        if !is_of(kind, s[at]) {
-            return at;
+    let mut rest = s;
+    while let [b, after @ ..] = rest {
+        if !test(*b) {
+            return rest;
         }
-        at += 1;
+        rest = after;
     }
-    at
+    rest
 }
 
-// Where white space ends.
-pub fn skip(s: &[u8], from: usize) -> usize
-    ensures { drop result s.now ≡ skip (drop from s.now) }
+// What is left after white space.
+pub fn skip(s: &[u8]) -> &[u8]
+    ensures { result.now ≡ skip s.now }
 {
-    skip_while(s, from, Kind::Space)
-}
-
-// Where digits end.
-pub fn skip_digits(s: &[u8], from: usize) -> usize
-    ensures { drop result s.now ≡ skip_digits (drop from s.now) }
-{
-    skip_while(s, from, Kind::Digit)
+    skip_while(s, is_space)
 }
 
 // A structural character, and the white space after it.
-pub fn structural(s: &[u8], at: usize, character: u8) -> End
-    ensures { end_said s.now result ≡ structural_end character (drop at s.now) }
+#[tactic(auto, unfolding(json_grammar::specs::Recogniser::structural_end))]
+pub fn structural(s: &[u8], character: u8) -> Option<&[u8]>
+    ensures { left result ≡ structural_end character s.now }
 {
-    if s.len() <= at {
-        return End::Nowhere;
-    }
-    if s[at] == character {
-        End::At(skip(s, at + 1))
-    } else {
-        End::Nowhere
+    match s {
+        [b, rest @ ..] if *b == character => Some(skip(rest)),
+        _ => None,
     }
 }

@@ -1,72 +1,57 @@
 // Strings.
-ghost use Rattle.std.specs.Prelude.{ℕ, ◌≡◌, List, ◌∷◌, drop};
+ghost use Rattle.std.specs.Prelude.{◌≡◌, ◌≤◌, length, IfSome};
 ghost use Rattle.json_grammar.specs.Recogniser.{chars_end, string_end};
-ghost use Rattle.json_text.specs.Answers.{end_said, step_said};
+ghost use Rattle.json_text.specs.Answers.{left, chars_after};
 
-use crate::End;
-use crate::byte::{byte_at, is_hex};
-
-// What a byte of a string does.
-#[derive(Clone, Copy)]
-enum Step {
-    // It ends the string.
-    Closed,
-    // So many hex digits of an escape are due after it; 5: it is a backslash, and what may follow one is due.
-    Due(u8),
-    // No string has it there.
-    Stray,
+// The four hex digits of an escape.
+#[tactic(auto, using(crate::proofs::StringLaws::hex_cut))]
+fn hex_digits(s: &[u8]) -> Option<&[u8]>
+    ensures goes_on { chars_after result ≡ chars_end 4 s.now }
+    ensures shorter { IfSome result (λ rest. length rest.now ≤ length s.now) }
+{
+    let (digits, rest) = s.split_at_checked(4)?;
+    digits.iter().all(|b| b.is_ascii_hexdigit()).then_some(rest)
 }
 
-// What a byte does where so much is due.
-fn pass_byte(due: u8, b: u8) -> Step
-    ensures { (s : List ℕ) → step_said s result ≡ chars_end due (b ∷ s) }
+// What may follow a backslash.
+#[tactic(auto, unfolding(json_grammar::specs::Recogniser::chars_end, json_grammar::specs::Recogniser::is_escape, json_grammar::specs::Recogniser::one_of))]
+fn escape(s: &[u8]) -> Option<&[u8]>
+    ensures goes_on { chars_after result ≡ chars_end 5 s.now }
+    ensures shorter { IfSome result (λ rest. length rest.now ≤ length s.now) }
 {
-    match due {
-        0 => match b {
-            b'"' => Step::Closed,
-            b'\\' => Step::Due(5),
-            0x00..=0x1f => Step::Stray,
-            _ => Step::Due(0),
-        },
-        5 => match b {
-            b'u' => Step::Due(4),
-            b'"' | b'\\' | b'/' | b'b' | b'f' | b'n' | b'r' | b't' => Step::Due(0),
-            _ => Step::Stray,
-        },
-        _ => {
-            if is_hex(b) {
-                Step::Due(due - 1)
-            } else {
-                Step::Stray
-            }
-        },
+    match s {
+        [b'u', rest @ ..] => hex_digits(rest),
+        [
+            b'"' | b'\\' | b'/' | b'b' | b'f' | b'n' | b'r' | b't',
+            rest @ ..,
+        ] => Some(rest),
+        _ => None,
     }
 }
 
 // What follows a quotation mark, up to the closing one.
-fn chars(s: &[u8], from: usize) -> End
-    ensures { end_said s.now result ≡ chars_end 0 (drop from s.now) }
+#[tactic(auto, unfolding(json_grammar::specs::Recogniser::chars_end))]
+fn chars(s: &[u8]) -> Option<&[u8]>
+    ensures { left result ≡ chars_end 0 s.now }
 {
-    let mut due: u8 = 0;
-    let mut at = from;
-    while at < s.len() {
-        let b = s[at];
-        at += 1;
-        match pass_byte(due, b) {
-            Step::Closed => return End::At(at),
-            Step::Due(n) => due = n,
-            Step::Stray => return End::Nowhere,
-        }
+    let mut rest = s;
+    while let [b, after @ ..] = rest {
+        rest = match b {
+            b'"' => return Some(after),
+            b'\\' => escape(after)?,
+            0x00..=0x1f => return None,
+            _ => after,
+        };
     }
-    End::Nowhere
+    None
 }
 
-pub fn string(s: &[u8], at: usize) -> End
-    ensures { end_said s.now result ≡ string_end (drop at s.now) }
+#[tactic(auto, unfolding(json_grammar::specs::Recogniser::string_end))]
+pub fn string(s: &[u8]) -> Option<&[u8]>
+    ensures { left result ≡ string_end s.now }
 {
-    if byte_at(s, at) == b'"' {
-        chars(s, at + 1)
-    } else {
-        End::Nowhere
+    match s {
+        [b'"', rest @ ..] => chars(rest),
+        _ => None,
     }
 }

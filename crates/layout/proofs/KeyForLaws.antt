@@ -9,7 +9,7 @@ use mathlib.Core.Option.{Option, none, some}
 use mathlib.Core.List.{List, [], ◌∷◌}
 use lib.Dec.{eqb, eqb-zero-suc, eqb-suc-suc}
 use lib.ListN.{length, take, length-take}
-use Rattle.byte_string.specs.Order.{AreBytes, at_most, is_more, begins, agreeing}
+use Rattle.byte_string.specs.Order.{AreBytes, at_most, begins, agreeing}
 use Rattle.byte_string.proofs.BytesLaws.{bytes_take}
 use Rattle.byte_string.proofs.OrderLaws.{order_below, order_same, nil_at_most, at_most_nil, at_most_cons}
 use Rattle.byte_string.proofs.AgreeingLaws.{agreeing-same, agreeing_differ, agreeing_nil_left}
@@ -53,7 +53,7 @@ key_at_most_first before first = begins-at_most (key_for before first) first (ke
 
 -- the record before is at most the key
 pub before-at_most_key : (before first : List ℕ) → at_most before first ≡ true → at_most before (key_for (some before) first) ≡ true
-unfolding key_for at_most is_more
+unfolding key_for at_most
 before-at_most_key [] y h = nil_at_most (key_for (some []) y)
 before-at_most_key (a ∷ x) [] h = cc (at_most_nil (a ∷ x) h)
 before-at_most_key (a ∷ x) (b ∷ y) h = go (before-at_most_key x y) (at_most_cons a b x y h)

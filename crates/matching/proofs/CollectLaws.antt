@@ -1,6 +1,9 @@
 -- Laws of a loop that goes through items and puts the records of each that match on a lent list.
 -- Assumes nothing.
 use mathlib.Core.Path.{◌≡◌, refl, sym, ap, ◌∙◌}
+use mathlib.Core.Bool.{Bool, true, false}
+use lib.Dec.{leb}
+use borrow.Author.Tests.{leb-true, leb-false}
 use mathlib.Core.List.{List, [], flat_map}
 use Prim.Native.Nat.{ℕ, zero, suc, ◌+◌, ◌-◌, ◌≤◌, ◌<◌}
 use native.Mathlib.Omega.{arith}
@@ -80,3 +83,12 @@ module _ {A : Type 0} (step : (place at : ℕ) → Outcome (Step A)) (texts : A 
       none : (fuel : ℕ) → end - at ≤ fuel → sound_from (step place) end fuel at ≡ []
       none zero enough = absurd (omega arith)
       none (suc fuel) enough = sound_refused (step place) end fuel at number refused-at h e
+
+  -- where nothing can be read, it is one of the two
+  pub collected_stopped : (at : ℕ) (stored : Stored) → Collected at stored
+      → (place number refused-at : ℕ) → step place at ≡ refused number refused-at → stored ≡ put_all first (matching q (texts_from place (end - from) from))
+  collected_stopped at stored p place number refused-at e = go (leb end at) refl
+    where
+      go : (b : Bool) → leb end at ≡ b → stored ≡ put_all first (matching q (texts_from place (end - from) from))
+      go true h = collected_end at stored p (leb-true end at h) place
+      go false h = collected_refused at stored p (leb-false end at h) place number refused-at e

@@ -1,7 +1,7 @@
 -- Laws of the result list: the places that matches take, what stands there, and putting one match after the other.
 -- Assumes nothing.
 use mathlib.Core.Path.{◌≡◌, refl, sym, ap, ap₂, ◌∙◌}
-use mathlib.Core.List.{List, [], ◌∷◌, ◌++◌, map, map-append, append-nil}
+use mathlib.Core.List.{List, [], ◌∷◌, ◌++◌, map-append, append-nil}
 use Prim.Native.Nat.{ℕ, ◌+◌, ◌≤◌, ◌<◌}
 use native.Mathlib.Omega.{arith}
 use lib.ListN.{length, get_or, length-append, length-map}
@@ -39,7 +39,7 @@ room_for_more m n h = omega arith
 -- ---- what the list holds
 
 pub numbers_none : numbers_of [] ≡ []
-unfolding numbers_of map
+unfolding numbers_of
 numbers_none = refl
 
 pub numbers_append : (xs ys : List Text) → numbers_of (xs ++ ys) ≡ numbers_of xs ++ numbers_of ys
@@ -54,7 +54,7 @@ length_numbers ms = length-map ms match_number
 -- the number of a match stands after those of the matches before it
 pub number_at_lem : (xs : List Text) (m : Text) (ys : List Text)
     → get_or (numbers_of (xs ++ m ∷ ys)) (room_for (length xs)) 0 ≡ match_number m
-unfolding numbers_of map
+unfolding numbers_of
 number_at_lem xs m ys =
     let place : room_for (length xs) ≡ length (numbers_of xs) + 0 = let long = length_numbers xs in omega arith in
     ap₂ (λ (l : List ℕ) (i : ℕ). get_or l i 0) (numbers_append xs (m ∷ ys)) place ∙ get_or-append-add (numbers_of xs) (numbers_of (m ∷ ys)) 0 0
@@ -77,7 +77,7 @@ length-with_record list count offset size = length_with_number list count (packe
 -- where there is room the list holds one match more
 pub with_record-padded : (room : ℕ) (seen : List Text) (m : Text) → room_for (length seen + 1) ≤ room
     → with_record (padded room (numbers_of seen)) (length seen) m.at (length m.bytes) ≡ padded room (numbers_of (seen ++ (m ∷ [])))
-unfolding room_for with_record numbers_of match_number map
+unfolding room_for with_record numbers_of match_number
 with_record-padded room seen m fits =
     with_number_padded room (numbers_of seen) (length seen) (match_number m) (length_numbers seen) (omega arith)
     ∙ ap (padded room) (sym (numbers_append seen (m ∷ [])))

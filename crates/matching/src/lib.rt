@@ -12,6 +12,7 @@ use payload::text_at;
 use query::Query;
 
 // Whether a result list has room for n matches.
+#[tactic(auto, unfolding(crate::specs::ResultList::room_for))]
 pub fn has_room(results: &[u64], n: usize) -> bool
     ensures { result ≡ leb (room_for n) (length results.now) }
 {
@@ -19,6 +20,7 @@ pub fn has_room(results: &[u64], n: usize) -> bool
 }
 
 // A match as one number: its offset times 2^32, plus its length.
+#[tactic(auto, unfolding(crate::specs::Packing::packed))]
 fn pack(found: Part) -> u64
     requires { (found.offset < 2 ^ 32) × (found.length < 2 ^ 32) }
     ensures { result ≡ packed found.offset found.length }
@@ -27,6 +29,7 @@ fn pack(found: Part) -> u64
 }
 
 // Puts a record after `count` matches, where there is room.
+#[tactic(auto, unfolding(crate::specs::ResultList::with_record))]
 fn put_match(results: &mut [u64], count: usize, found: Part)
     requires { (found.offset < 2 ^ 32) × (found.length < 2 ^ 32) }
     ensures { results.new ≡ with_record results.old count found.offset found.length }
@@ -49,15 +52,12 @@ pub fn collect_records(
 {
     let mut at = from;
     let mut found = count;
-    while at < s.len() {
-        let Ok(text) = text_at(s, at) else {
-            return found;
-        };
+    while let Ok(text) = text_at(s, at) {
+        at = text.end();
         if query.matches(text.of(s)) {
             put_match(results, found, text);
             found += 1;
         }
-        at = text.end();
     }
     found
 }

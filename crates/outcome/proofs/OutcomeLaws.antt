@@ -1,11 +1,9 @@
 -- Laws of outcomes: when a chain of rules is answered, and with what it is refused.
 -- Assumes nothing.
 use mathlib.Core.Path.{◌≡◌, refl, ap, ◌∙◌}
-use mathlib.Core.Logic.{◌≢◌}
 use mathlib.Core.Bool.{Bool, true, false}
 use Prim.Native.Nat.{ℕ}
 use native.Mathlib.Omega.{arith}
-use borrow.Author.Tests.{eq-eqb, ne_eqb}
 use Rattle.outcome.specs.Outcome.{Outcome, answer, refused, ◌>>=◌, ◌>>◌, must}
 use Rattle.outcome.specs.declared.Fault.{Fault}
 use Rattle.outcome.specs.declared.Refusal.{Refusal}

@@ -3,6 +3,8 @@
 use mathlib.Core.Path.{◌≡◌, refl, sym, ap, ◌∙◌}
 use mathlib.Core.Bool.{Bool, true, false, cond}
 use mathlib.Core.List.{List, ◌++◌, append_assoc}
+use Rattle.std.specs.Prelude.{Option, Some, None}
+use Rattle.std.specs.Bool.{then_some}
 use Prim.Native.Nat.{ℕ, zero, suc, ◌+◌, ◌-◌, ◌≤◌, ◌<◌}
 use native.Mathlib.Nat.{add_assoc, sub-zero, zero-sub, suc-sub-suc}
 use native.Mathlib.Numerals.{add-one}
@@ -11,9 +13,12 @@ use lib.Dec.{leb}
 use lib.ListN.{length, replicate, take, drop, get_or, set, length-append, length-drop, length-set}
 use lib.Seq.{length-take-le, take-append-le, take-take, take_at, drop_at, drop-drop, paste-zero, paste-suc, take-length}
 use borrow.Author.Tests.{le-leb, lt-leb, leb-true, leb-false}
+use borrow.Rule.Slice.PartMut.{put_mid}
+use Rattle.std.proofs.lemmas.Slice.{put_mid-paste}
+use Rattle.std.proofs.lemmas.List.Edits.{paste_all}
 use Rattle.output_list.specs.OutputList.{padded, zeros}
 use Rattle.output_list.proofs.OutputListLaws.{zeros-replicate, padded-append, length-padded, take-padded, drop-padded}
-use Rattle.output_bytes.specs.OutputBytes.{bytes_fit, stored, stored_length}
+use Rattle.output_bytes.specs.OutputBytes.{bytes_fit, stored, stored_length, stored_size}
 
 pub fits_some : (o : List ℕ) (at : ℕ) (s : List ℕ) → at + length s ≤ length o → bytes_fit o at s ≡ true
 unfolding bytes_fit
@@ -168,8 +173,12 @@ storing_all old at s output i st l =
 pub put_none : (o : List ℕ) (at : ℕ) (s : List ℕ) → length o < at + length s → (false ≡ bytes_fit o at s) × (o ≡ stored o at s)
 put_none o at s h = (sym (fits_none o at s h), sym (stored_none o at s h))
 
-pub put_all : (o : List ℕ) (at : ℕ) (s output : List ℕ) (i : ℕ) → Storing o at s output i → length s ≤ i → (true ≡ bytes_fit o at s) × (output ≡ stored o at s)
-put_all o at s output i st l = (sym (fits_some o at s st.enough), storing_all o at s output i st l)
+pub put_all : (o : List ℕ) (at : ℕ) (s new : List ℕ) (n : ℕ) → at + length s ≤ length o → new ≡ s → n ≡ length s
+    → (true ≡ bytes_fit o at s) × (put_mid at n o new ≡ stored o at s)
+put_all o at s new n h e k = (
+  sym (fits_some o at s h),
+  put_mid-paste at n o new s (length s) e (sym k) refl ∙ paste_all o at s (length s) refl ∙ sym (stored_some o at s h),
+)
 
 -- ---- how many bytes were stored
 
@@ -178,18 +187,18 @@ pub stored_whole : (o : List ℕ) (at : ℕ) (s : List ℕ) → at + length s �
 unfolding stored_length
 stored_whole o at s h e = rw (fits_some o at s h) at e
 
-pub stored_length_some : (o : List ℕ) (at : ℕ) (s : List ℕ) {n : ℕ} → n ≡ stored_length o at s → (n ≡ 0 → ⊥) → (n ≡ length s) × (at + length s ≤ length o)
-unfolding stored_length bytes_fit
-stored_length_some o at s {n} e some = go (leb (at + length s) (length o)) refl e
+pub stored_size_some : (o : List ℕ) (at : ℕ) (s : List ℕ) {n : ℕ} → Some n ≡ stored_size o at s → (n ≡ length s) × (at + length s ≤ length o)
+unfolding stored_size bytes_fit
+stored_size_some o at s {n} e = go (leb (at + length s) (length o)) refl e
   where
-    go : (b : Bool) → leb (at + length s) (length o) ≡ b → n ≡ cond b (length s) 0 → (n ≡ length s) × (at + length s ≤ length o)
-    go true t f = (f, leb-true (at + length s) (length o) t)
-    go false t f = absurd (some f)
+    go : (b : Bool) → leb (at + length s) (length o) ≡ b → Some n ≡ then_some b (length s) → (n ≡ length s) × (at + length s ≤ length o)
+    go true t f = (cc, leb-true (at + length s) (length o) t)
+    go false t f = cc
 
-pub stored_length_none : (o : List ℕ) (at : ℕ) (s : List ℕ) {n : ℕ} → n ≡ stored_length o at s → n ≡ 0 → 0 < length s → length o < at + length s
-unfolding stored_length bytes_fit
-stored_length_none o at s {n} e none some = go (leb (at + length s) (length o)) refl e
+pub stored_size_none : (o : List ℕ) (at : ℕ) (s : List ℕ) → None ≡ stored_size o at s → length o < at + length s
+unfolding stored_size bytes_fit
+stored_size_none o at s e = go (leb (at + length s) (length o)) refl e
   where
-    go : (b : Bool) → leb (at + length s) (length o) ≡ b → n ≡ cond b (length s) 0 → length o < at + length s
-    go true t f = absurd (omega arith)
+    go : (b : Bool) → leb (at + length s) (length o) ≡ b → None ≡ then_some b (length s) → length o < at + length s
+    go true t f = cc
     go false t f = leb-false (at + length s) (length o) t

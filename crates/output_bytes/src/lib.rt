@@ -11,28 +11,17 @@ use part::Part;
 pub fn clear(output: &mut [u8])
     ensures { output.new ≡ zeros (length output.old) }
 {
-    let mut at = 0;
-    while at < output.len() {
-        output[at] = 0;
-        at += 1;
-    }
+    output.fill(0);
 }
 
 // Stores the bytes from `at` on, where they fit; answers whether they did.
 pub fn put(output: &mut [u8], at: usize, bytes: &[u8]) -> bool
     ensures { (result ≡ bytes_fit output.old at bytes.now) × (output.new ≡ stored output.old at bytes.now) }
 {
-    if output.len() < at {
+    if output.len() < at || output.len() - at < bytes.len() {
         return false;
     }
-    if output.len() - at < bytes.len() {
-        return false;
-    }
-    let mut i = 0;
-    while i < bytes.len() {
-        output[at + i] = bytes[i];
-        i += 1;
-    }
+    output[at..at + bytes.len()].copy_from_slice(bytes);
     true
 }
 
@@ -42,23 +31,15 @@ pub fn copy(output: &mut [u8], source: Part, at: usize) -> bool
     ensures { (result ≡ copies output.old source.offset source.length at)
         × (output.new ≡ copied output.old source.offset source.length at) }
 {
-    let from = source.offset;
-    if at < from {
+    if at < source.offset || output.len() < at {
         return false;
     }
-    if output.len() < at {
-        return false;
-    }
-    if at == from {
+    if at == source.offset {
         return true;
     }
     if output.len() - at < source.length {
         return false;
     }
-    let mut left = source.length;
-    while 0 < left {
-        left -= 1;
-        output[at + left] = output[from + left];
-    }
+    output.copy_within(source.offset..source.end(), at);
     true
 }

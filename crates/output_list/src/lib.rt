@@ -8,11 +8,7 @@ ghost use Rattle.output_list.specs.OutputList.{zeros, has_place, with_number};
 pub fn clear(list: &mut [u64])
     ensures { list.new ≡ zeros (length list.old) }
 {
-    let mut i = 0;
-    while i < list.len() {
-        list[i] = 0;
-        i += 1;
-    }
+    list.fill(0);
 }
 
 // Stores a number after the `count` numbers at the front, where there is room; answers whether there was.

@@ -12,7 +12,7 @@ use Rattle.std.specs.Result.{IsErrAnd}
 use Rattle.std.proofs.lemmas.Result.{err_from_is_err_and}
 use Rattle.outcome.specs.declared.Fault.{Fault}
 use Rattle.outcome.specs.Fault.{number}
-use Rattle.outcome.specs.Outcome.{answer, refused}
+use Rattle.outcome.specs.Outcome.{Outcome, answer, refused}
 use Rattle.part.specs.declared.Part.{Part}
 use Rattle.items.specs.declared.Step.{Step}
 use Rattle.outcome.proofs.OutcomeLaws.{answer_injective, kept, broken, kept⁻¹, bind_answer, bind_refused, bind⁻¹}
@@ -20,7 +20,7 @@ use Rattle.part.proofs.PartLaws.{length_part}
 use Rattle.framing.specs.Frame.{number_at}
 use Rattle.payload.specs.Payload.{Text, Entry, text_at, entry_at, entry_sized}
 use Rattle.payload.specs.declared.Entry.{Entry as Found}
-use Rattle.payload.specs.Answers.{text_in, text_said, entry_said, KeyWithin}
+use Rattle.payload.specs.Answers.{text_in, text_said, entry_said, KeyWithin, ItemRead}
 use Rattle.framing.proofs.FrameLaws.{Numbered, numbered}
 
 -- ---- a fault that is handed on
@@ -37,6 +37,12 @@ entry_fault place s r f h = let p = err_from_is_err_and r h in rw (p.1, p.2)
 pub no_key : (s : List ℕ) (r : Result (Step Found) Fault) (f : Fault) → IsErrAnd r (λ x. x ≡ f) → KeyWithin s r
 unfolding KeyWithin
 no_key s r f h = let p = err_from_is_err_and r h in rw p.1 tt
+
+-- and nothing stands there
+pub item_fault : {A : Type 0} (step_at : ℕ → List ℕ → ℕ → Outcome (Step A)) (text_of : A → Text) (s : List ℕ) (at : ℕ) (r : Result (Step Part) Fault) (f : Fault)
+    → IsErrAnd r (λ x. x ≡ f) → ((place : ℕ) → step_at place s at ≡ refused (number f) place) → ItemRead step_at text_of s at r
+unfolding ItemRead
+item_fault step_at text_of s at r f h none = let p = err_from_is_err_and r h in rw (p.1, p.2) none
 
 module _ (place : ℕ) (s : List ℕ) (at : ℕ) where
   -- ---- a number and that many bytes

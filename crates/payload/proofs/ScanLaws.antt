@@ -2,7 +2,7 @@
 -- Assumes nothing.
 use mathlib.Core.Path.{◌≡◌, refl, sym, ap, ap₂, ◌∙◌}
 use mathlib.Core.Bool.{Bool, true, false, ◌&&◌, and_assoc, and-true}
-use mathlib.Core.List.{List, [], ◌∷◌, ◌++◌, map, map-append, map-map, Memᴰ}
+use mathlib.Core.List.{List, [], ◌∷◌, ◌++◌, map, map-append, Memᴰ}
 use Prim.Native.Nat.{ℕ, ◌+◌, ◌≤◌, ◌<◌}
 use native.Mathlib.Omega.{arith}
 use lib.Dec.{ltb}
@@ -12,14 +12,12 @@ use Rattle.byte_string.specs.Order.{at_most}
 use Rattle.byte_string.proofs.OrderLaws.{nil_at_most, at_most_trans}
 use Rattle.outcome.specs.Outcome.{Outcome, answer, refused}
 use Rattle.items.specs.declared.Step.{Step}
-use Rattle.part.specs.Part.{part}
 use Rattle.outcome.proofs.OutcomeLaws.{kept, broken, bind_answer, bind_refused}
 use Rattle.items.proofs.ItemsLaws.{Progress, progress_start, progress_more, progress_end, progress_refused}
-use Rattle.part.proofs.PartLaws.{part_empty}
 use Rattle.lists.proofs.ListsLaws.{both⁻¹}
 use Rattle.lists.specs.Groups.{last_or}
 use Rattle.payload.specs.Payload.{Text, rising, rising_from, payload_at}
-use Rattle.payload.specs.Answers.{text_in, counted}
+use Rattle.payload.specs.Answers.{counted}
 
 -- ---- one byte string more
 
@@ -27,11 +25,6 @@ pub last_or_snoc : {A : Type 0} (none : A) (xs : List A) (y : A) → last_or non
 unfolding last_or
 last_or_snoc none [] y = refl
 last_or_snoc none (x ∷ xs) y = last_or_snoc x xs y
-
-pub last_or_map : {A B : Type 0} (f : A → B) (none : A) (xs : List A) → last_or (f none) (map f xs) ≡ f (last_or none xs)
-unfolding last_or
-last_or_map f none [] = refl
-last_or_map f none (x ∷ xs) = last_or_map f x xs
 
 pub rising_from_nil : (xs : List (List ℕ)) → rising xs ≡ rising_from [] xs
 unfolding rising rising_from
@@ -59,95 +52,78 @@ rising_from-each x xs h y m = go y xs m x h
 
 -- ---- the pass
 
-module _ {A : Type 0} (step : ℕ → ℕ → Outcome (Step A)) (text_of : A → Text) (s : List ℕ) (from : ℕ) where
+module _ {A : Type 0} (step_at : ℕ → List ℕ → ℕ → Outcome (Step A)) (text_of : A → Text) (s : List ℕ) (from : ℕ) where
   -- what is known at `at`: the items seen, their count, whether they rise, and the last byte string
-  pub record Scanned (at count : ℕ) (rises : Bool) (last size : ℕ) : Type 0 where
+  pub record Scanned (at count : ℕ) (rises : Bool) (last : List ℕ) : Type 0 where
     pub seen : List A
-    pub progress : (place : ℕ) → Progress (step place) (length s) from at seen
+    pub progress : (place : ℕ) → Progress (step_at place s) (length s) from at seen
     pub numbered : count ≡ length seen
     pub sorted : rises ≡ rising (map (λ x. (text_of x).bytes) seen)
-    pub last_is : text_in s last size ≡ last_or (text_in s from 0) (map text_of seen)
-    pub last_within : last + size ≤ length s
+    pub last_is : last ≡ last_or [] (map (λ x. (text_of x).bytes) seen)
     pub few : count ≤ at
     pub within : at ≤ length s
 
-  pub scanned_start : from ≤ length s → Scanned from 0 true from 0
+  pub scanned_start : from ≤ length s → Scanned from 0 true []
   unfolding rising last_or
   scanned_start h =
       record {
         seen = [];
-        progress = λ place. progress_start (step place) (length s) from;
+        progress = λ place. progress_start (step_at place s) (length s) from;
         numbered = refl;
         sorted = refl;
         last_is = refl;
-        last_within = omega arith;
         few = omega arith;
         within = h;
       }
 
-  -- the last byte string's bytes
-  last_bytes_lem : (last size : ℕ) (seen : List A) → text_in s last size ≡ last_or (text_in s from 0) (map text_of seen)
-      → part s last size ≡ last_or [] (map (λ x. (text_of x).bytes) seen)
-  unfolding text_in
-  last_bytes_lem last size seen e =
-      ap (λ (t : Text). t.bytes) e
-      ∙ sym (last_or_map (λ (t : Text). t.bytes) (text_in s from 0) (map text_of seen))
-      ∙ ap₂ last_or (part_empty s from) (map-map (λ (t : Text). t.bytes) text_of seen)
-
-  start_bytes : (start n : ℕ) (t : Text) → t ≡ text_in s start n → part s start n ≡ t.bytes
-  unfolding text_in
-  start_bytes start n t e = sym (ap (λ (u : Text). u.bytes) e)
-
-  pub scanned_more : (at count : ℕ) (rises : Bool) (last size : ℕ) → Scanned at count rises last size → at < length s
-      → (x : A) (next start n : ℕ) → ((place : ℕ) → step place at ≡ answer (record { item = x; next = next })) → text_of x ≡ text_in s start n → at < next → next ≤ length s → start + n ≤ length s
-      → (still : Bool) → still ≡ (rises && at_most (part s last size) (part s start n)) → Scanned next (count + 1) still start n
-  scanned_more at count rises last size p h x next start n e text forward within inside rises' flag =
+  pub scanned_more : (at count : ℕ) (rises : Bool) (last : List ℕ) → Scanned at count rises last → at < length s
+      → (x : A) (next : ℕ) (bytes : List ℕ) → ((place : ℕ) → step_at place s at ≡ answer (record { item = x; next = next })) → (text_of x).bytes ≡ bytes
+      → at < next → next ≤ length s → (still : Bool) → still ≡ (rises && at_most last bytes) → Scanned next (count + 1) still bytes
+  scanned_more at count rises last p h x next bytes e text forward within still flag =
       record {
         seen = p.seen ++ (x ∷ []);
-        progress = λ place. progress_more (step place) (length s) from at p.seen (record { item = x; next = next }) (p.progress place) h (e place) forward;
+        progress = λ place. progress_more (step_at place s) (length s) from at p.seen (record { item = x; next = next }) (p.progress place) h (e place) forward;
         numbered = ap (λ (k : ℕ). k + 1) p.numbered ∙ sym (length-append p.seen (x ∷ []));
         sorted =
-            flag
-            ∙ ap₂ (λ (a b : Bool). a && b) p.sorted (ap₂ at_most (last_bytes_lem last size p.seen p.last_is) (start_bytes start n (text_of x) text))
-            ∙ sym (ap rising (map-append (λ y. (text_of y).bytes) p.seen (x ∷ [])) ∙ rising_snoc (map (λ y. (text_of y).bytes) p.seen) (text_of x).bytes);
+            flag ∙ ap₂ (λ (a b : Bool). a && b) p.sorted (ap₂ at_most p.last_is (sym text)) ∙ sym (rising_snoc (map (λ y. (text_of y).bytes) p.seen) (text_of x).bytes)
+            ∙ sym (ap rising (map-append (λ y. (text_of y).bytes) p.seen (x ∷ [])));
         last_is =
-            sym (ap (last_or (text_in s from 0)) (map-append text_of p.seen (x ∷ []))
-            ∙ last_or_snoc (text_in s from 0) (map text_of p.seen) (text_of x) ∙ text);
-        last_within = inside;
+            sym text ∙ sym (last_or_snoc [] (map (λ y. (text_of y).bytes) p.seen) (text_of x).bytes)
+            ∙ sym (ap (last_or []) (map-append (λ y. (text_of y).bytes) p.seen (x ∷ [])));
         few = omega arith;
         within = within;
       }
 
   -- the answers at the ways out
   module _ (unsorted : ℕ) where
-    pub scanned_empty : length s ≤ from → (place : ℕ) → counted (payload_at (step place) text_of unsorted place (length s) from) ≡ refused 15 place
+    pub scanned_empty : length s ≤ from → (place : ℕ) → counted (payload_at (step_at place s) text_of unsorted place (length s) from) ≡ refused 15 place
     unfolding counted payload_at
     scanned_empty h place = bind_refused _ _ 15 place (broken (ltb from (length s)) 15 place _ (le-ltb from (length s) h))
 
-    pub scanned_refused : (at count : ℕ) (rises : Bool) (last size : ℕ) → from < length s → Scanned at count rises last size → at < length s
-        → (number place : ℕ) → step place at ≡ refused number place
-        → counted (payload_at (step place) text_of unsorted place (length s) from) ≡ refused number place
+    pub scanned_refused : (at count : ℕ) (rises : Bool) (last : List ℕ) → from < length s → Scanned at count rises last → at < length s
+        → (number place : ℕ) → step_at place s at ≡ refused number place
+        → counted (payload_at (step_at place s) text_of unsorted place (length s) from) ≡ refused number place
     unfolding counted payload_at
-    scanned_refused at count rises last size some p h number place e =
+    scanned_refused at count rises last some p h number place e =
         bind_refused _ _ number place
         (kept (ltb from (length s)) 15 place _ (lt-ltb from (length s) some)
-        ∙ bind_refused _ _ number place (progress_refused (step place) (length s) from at number place p.seen (p.progress place) h e))
+        ∙ bind_refused _ _ number place (progress_refused (step_at place s) (length s) from at number place p.seen (p.progress place) h e))
 
-    pub scanned_unsorted : (at count : ℕ) (rises : Bool) (last size : ℕ) → from < length s → Scanned at count rises last size → length s ≤ at → rises ≡ false
-        → (place : ℕ) → counted (payload_at (step place) text_of unsorted place (length s) from) ≡ refused unsorted place
+    pub scanned_unsorted : (at count : ℕ) (rises : Bool) (last : List ℕ) → from < length s → Scanned at count rises last → length s ≤ at → rises ≡ false
+        → (place : ℕ) → counted (payload_at (step_at place s) text_of unsorted place (length s) from) ≡ refused unsorted place
     unfolding counted payload_at
-    scanned_unsorted at count rises last size some p h wrong place =
+    scanned_unsorted at count rises last some p h wrong place =
         bind_refused _ _ unsorted place
         (kept (ltb from (length s)) 15 place _ (lt-ltb from (length s) some)
-        ∙ bind_answer _ _ p.seen (progress_end (step place) (length s) from at p.seen (p.progress place) h)
+        ∙ bind_answer _ _ p.seen (progress_end (step_at place s) (length s) from at p.seen (p.progress place) h)
         ∙ broken (rising (map (λ x. (text_of x).bytes) p.seen)) unsorted place _ (sym p.sorted ∙ wrong))
 
-    pub scanned_sound : (at count : ℕ) (rises : Bool) (last size : ℕ) → from < length s → Scanned at count rises last size → length s ≤ at → rises ≡ true
-        → (place : ℕ) → counted (payload_at (step place) text_of unsorted place (length s) from) ≡ answer count
+    pub scanned_sound : (at count : ℕ) (rises : Bool) (last : List ℕ) → from < length s → Scanned at count rises last → length s ≤ at → rises ≡ true
+        → (place : ℕ) → counted (payload_at (step_at place s) text_of unsorted place (length s) from) ≡ answer count
     unfolding counted payload_at
-    scanned_sound at count rises last size some p h right place =
+    scanned_sound at count rises last some p h right place =
         bind_answer _ _ p.seen
         (kept (ltb from (length s)) 15 place _ (lt-ltb from (length s) some)
-        ∙ bind_answer _ _ p.seen (progress_end (step place) (length s) from at p.seen (p.progress place) h)
+        ∙ bind_answer _ _ p.seen (progress_end (step_at place s) (length s) from at p.seen (p.progress place) h)
         ∙ kept (rising (map (λ x. (text_of x).bytes) p.seen)) unsorted place _ (sym p.sorted ∙ right))
         ∙ ap answer (sym p.numbered)

@@ -1,5 +1,5 @@
 -- What the answers of this crate's functions say, in the terms of the definitions. A refusal gets the place that the caller knows.
-use Rattle.std.specs.Prelude.{ℕ, ◌+◌, ◌≤◌, List, length, Result, Ok, Err}
+use Rattle.std.specs.Prelude.{ℕ, ◌≡◌, ◌+◌, ◌<◌, ◌≤◌, List, length, Result, Ok, Err}
 use Rattle.outcome.specs.Outcome.{Outcome, answer, refused, ◌>>=◌}
 use Rattle.outcome.specs.declared.Fault.{Fault}
 use Rattle.outcome.specs.Fault.{number}
@@ -33,3 +33,17 @@ KeyWithin s (Err fault) = Unit {0}
 -- what a pass over the items of a payload reports: how many there are
 unfoldable pub counted : {A : Type 0} → Outcome (List A) → Outcome ℕ
 counted o = o >>= λ xs. answer (length xs)
+
+-- an item that stands at an offset of s: its byte string lies within s, and the next item begins after it, within s
+pub record Standing {A : Type 0} (step_at : ℕ → List ℕ → ℕ → Outcome (Step A)) (text_of : A → Text) (s : List ℕ) (at : ℕ) (p : Step Part) : Type 0 where
+  pub item : A
+  pub read : (place : ℕ) → step_at place s at ≡ answer (record { item = item; next = p.next })
+  pub bytes : (text_of item).bytes ≡ part s p.item.offset p.item.length
+  pub inside : p.item.offset + p.item.length ≤ length s
+  pub forward : at < p.next
+  pub within : p.next ≤ length s
+
+-- what reading an item at an offset of s reports: the part that its byte string is and where the next item begins, or why none stands there
+unfoldable pub ItemRead : {A : Type 0} (step_at : ℕ → List ℕ → ℕ → Outcome (Step A)) (text_of : A → Text) (s : List ℕ) (at : ℕ) → Result (Step Part) Fault → Type 0
+ItemRead step_at text_of s at (Ok p) = Standing step_at text_of s at p
+ItemRead step_at text_of s at (Err fault) = (place : ℕ) → step_at place s at ≡ refused (number fault) place

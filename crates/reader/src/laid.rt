@@ -23,10 +23,10 @@ pub fn collect(file: &[u8], from: usize, query: Query<'_>, results: &mut [u64]) 
         let Ok(frame) = frame_at(file, at) else {
             return found;
         };
+        at += frame.size;
         if frame.level == 0 {
             found = collect_records(&file[..frame.end], frame.body + 1, query, results, found);
         }
-        at += frame.size;
     }
     found
 }

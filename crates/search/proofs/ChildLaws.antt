@@ -1,22 +1,24 @@
 -- Laws of the block that an entry names: reading an entry and the key of the next, and the opening test on parts of the file.
 -- Assumes nothing.
-use Rattle.std.specs.Prelude.{Some, None, Result, Ok, Err}
+use Rattle.std.specs.Prelude.{Some}
 use Rattle.std.specs.Prelude.{Option as Given}
-use Rattle.outcome.specs.Fault.{number, said}
+use Rattle.std.proofs.Math.Option.{Option, some}
+use Rattle.outcome.specs.Fault.{number}
 use Rattle.items.specs.declared.Step.{Step}
 use mathlib.Core.Path.{◌≡◌, refl, sym, ap, ap₂, ◌∙◌, subst}
-use mathlib.Core.Bool.{Bool, true}
+use mathlib.Core.Bool.{Bool}
 use mathlib.Core.List.{List, [], ◌∷◌}
 use Prim.Native.Nat.{ℕ, ◌+◌, ◌-◌, ◌≤◌, ◌<◌}
 use native.Mathlib.Omega.{arith}
-use lib.ListN.{length, take, drop}
+use lib.ListN.{length, take}
 use lib.Seq.{length-take-le}
 use Rattle.outcome.specs.Outcome.{Outcome, answer, refused}
 use Rattle.outcome.proofs.OutcomeLaws.{answer_injective, refused_not_answer}
 use Rattle.items.specs.Items.{items_from}
 use Rattle.items.proofs.ItemsLaws.{Row, row_end, row_more, items⇒row, row⇒items}
 use Rattle.part.specs.declared.Part.{Part}
-use Rattle.part.proofs.PartLaws.{part-take, lent_part}
+use Rattle.part.specs.Part.{part}
+use Rattle.part.proofs.PartLaws.{part-take}
 use Rattle.framing.specs.declared.Frame.{Frame}
 use Rattle.payload.specs.Payload.{Text, Entry, text_at, entry_at, entries_at}
 use Rattle.payload.specs.Answers.{text_in}
@@ -29,7 +31,7 @@ use Rattle.query.specs.Opening.{may_match}
 use Rattle.search.specs.declared.opening.Named.{Named}
 use Rattle.search.specs.declared.child.Child.{Child}
 use Rattle.search.specs.Search.{next_key, child_named}
-use Rattle.search.specs.Steps.{PartWithin, bound_of, admitted, entries_from, ChildWithin, IsChild}
+use Rattle.search.specs.Steps.{PartWithin, BoundWithin, bound_of, admitted, entries_from, ChildWithin, IsChild}
 
 -- ---- the entries of an index block
 

@@ -1,9 +1,8 @@
 -- Laws of putting the matching records of a data block on the result list.
 -- Assumes nothing.
-use Rattle.std.specs.Prelude.{Some, None, Result, Ok, Err}
+use Rattle.std.specs.Prelude.{Result, Ok, Err}
 use Rattle.std.specs.Prelude.{Option as Given}
-use Rattle.outcome.specs.Fault.{number, said}
-use Rattle.items.specs.declared.Step.{Step}
+use Rattle.outcome.specs.Fault.{number}
 use Rattle.outcome.specs.declared.Fault.TheVariants.{ResultRoom}
 use Rattle.outcome.specs.declared.Refusal.{Refusal}
 use Rattle.part.specs.declared.Part.{Part}
@@ -138,7 +137,7 @@ module _ (q : Query) (first : List ℕ) {file : List ℕ} {f : Frame} {p : Progr
 
   -- there is no room for all
   pub find_overflow : leb (room_for many) (length list) ≡ false → Said (Err (record { fault = ResultRoom; place = 0 }))
-  unfolding StaysWithin Reaches
+  unfolding number StaysWithin Reaches
   find_overflow full = leaf_said (Err (record { fault = ResultRoom; place = 0 })) tt (λ b s e h. reaches_27 b s e h (leb-false (room_for many) (length list) full))
 
   -- there is

@@ -1,8 +1,7 @@
 -- The loop over the entries of an index block: going on from here gives what going through all of them gives.
 -- Assumes nothing.
-use Rattle.std.specs.Prelude.{Some, None, Result, Ok, Err}
+use Rattle.std.specs.Prelude.{None, Result, Ok}
 use Rattle.std.specs.Prelude.{Option as Given}
-use Rattle.outcome.specs.Fault.{number, said}
 use Rattle.items.specs.declared.Step.{Step}
 use Rattle.outcome.specs.declared.Refusal.{Refusal}
 use Rattle.part.specs.declared.Part.{Part}

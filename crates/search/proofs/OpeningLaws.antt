@@ -1,9 +1,6 @@
 -- Laws of opening a block: the ways out of its tests, and what is known of a block that passed them.
 -- Assumes nothing.
-use Rattle.std.specs.Prelude.{Some, None, Result, Ok, Err}
-use Rattle.std.specs.Prelude.{Option as Given}
 use Rattle.outcome.specs.Fault.{number, said}
-use Rattle.items.specs.declared.Step.{Step}
 use mathlib.Core.Path.{◌≡◌, refl, sym, ap, ◌∙◌, subst}
 use mathlib.Core.Bool.{Bool, true, false, ◌&&◌}
 use mathlib.Core.List.{List, []}
@@ -19,7 +16,8 @@ use Rattle.lists.proofs.ListsLaws.{both⁻¹}
 use Rattle.framing.specs.declared.Frame.{Frame}
 use Rattle.framing.specs.Frame.{sound_frame_at}
 use Rattle.block.specs.Block.{Block, block_in, block_at}
-use Rattle.block.specs.Answers.{Tallied, tallied}
+use Rattle.block.specs.Answers.{tallied}
+use Rattle.block.specs.declared.Tallied.{Tallied}
 use Rattle.block.proofs.BlockLaws.{BlockRead, block⇒BlockRead}
 use Rattle.framing.proofs.FrameLaws.{frame_bounds}
 use Rattle.search.specs.declared.opening.Named.{Named}

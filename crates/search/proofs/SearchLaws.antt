@@ -1,9 +1,8 @@
 -- Laws of the search: from the header to the root, from the root down, and what is answered.
 -- Assumes nothing.
-use Rattle.std.specs.Prelude.{Some, None, Result, Ok, Err}
+use Rattle.std.specs.Prelude.{Result, Ok, Err}
 use Rattle.std.specs.Prelude.{Option as Given}
 use Rattle.outcome.specs.Fault.{number, said}
-use Rattle.items.specs.declared.Step.{Step}
 use Rattle.part.specs.declared.Part.{Part}
 use mathlib.Core.Path.{◌≡◌, refl, sym, ap, ap₂, ◌∙◌, subst}
 use mathlib.Core.List.{List, [], ◌∷◌}

@@ -1,6 +1,6 @@
 -- One step of the loop over the entries of an index block: an entry's block is passed, refused, or opened and walked down from.
 -- Assumes nothing.
-use Rattle.std.specs.Prelude.{Some, None, Result, Ok, Err}
+use Rattle.std.specs.Prelude.{Some, Result, Ok, Err}
 use Rattle.std.specs.Prelude.{Option as Given}
 use Rattle.outcome.specs.Fault.{number, said}
 use Rattle.items.specs.declared.Step.{Step}

@@ -1,12 +1,9 @@
 -- Laws of the walk down from an index block: it is a way through its entries.
 -- Assumes nothing.
-use Rattle.std.specs.Prelude.{Some, None, Result, Ok, Err}
+use Rattle.std.specs.Prelude.{Result}
 use Rattle.std.specs.Prelude.{Option as Given}
-use Rattle.outcome.specs.Fault.{number, said}
-use Rattle.items.specs.declared.Step.{Step}
 use Rattle.outcome.specs.declared.Refusal.{Refusal}
 use Rattle.part.specs.declared.Part.{Part}
-use Rattle.search.specs.declared.child.Child.{Child}
 use mathlib.Core.Path.{◌≡◌, refl, sym, ap, ◌∙◌, subst}
 use mathlib.Core.Bool.{cond}
 use mathlib.Core.List.{List, [], ◌∷◌}

@@ -2,7 +2,7 @@
 ghost use Rattle.std.specs.Prelude.{◌≡◌, List};
 ghost use Rattle.outcome.specs.Outcome.{answer};
 ghost use Rattle.payload.specs.Payload.{Entry};
-ghost use Rattle.query.specs.Asked.{asked};
+ghost use Rattle.query.specs.Asked.{asked, lent};
 ghost use Rattle.search.specs.Search.{next_key};
 ghost use Rattle.search.specs.Steps as steps;
 
@@ -62,6 +62,17 @@ pub fn admits(file: &[u8], child: Child, query: Query<'_>) -> bool
     requires { steps.PartWithin file.now child.key × steps.BoundWithin file.now child.upper }
     ensures { result ≡ steps.admitted file.now (asked query.entry) child }
 {
-    let upper = child.upper.map(|key| key.of(file));
-    query.may_match(child.key.of(file), upper)
+    query.may_match(child.key.of(file), bound(file, child.upper))
+}
+
+// The bytes of an upper bound, where there is one.
+#[tactic(auto, unfolding(crate::specs::Steps::BoundWithin, crate::specs::Steps::PartWithin, crate::specs::Steps::bound_of, query::specs::Asked::lent))]
+fn bound(file: &[u8], upper: Option<Part>) -> Option<&[u8]>
+    requires { steps.BoundWithin file.now upper }
+    ensures { lent result ≡ steps.bound_of file.now upper }
+{
+    match upper {
+        Some(key) => Some(key.of(file)),
+        None => None,
+    }
 }

@@ -21,6 +21,7 @@ pub struct Named {
 }
 
 // The root, which is an index block.
+#[tactic(auto, unfolding(crate::specs::Search::root_named))]
 pub fn root_named(offset: u64, size: u64) -> Named
     ensures { result ≡ root_named offset size }
 {
@@ -37,6 +38,7 @@ pub fn root_named(offset: u64, size: u64) -> Named
 }
 
 // The block of this level that an entry of the index block at `place` names.
+#[tactic(auto, unfolding(crate::specs::Search::child_named))]
 pub fn child_named(place: usize, level: u8, offset: u64, size: u64) -> Named
     ensures { result ≡ child_named place level offset size }
 {

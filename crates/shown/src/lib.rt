@@ -6,7 +6,7 @@ ghost use Rattle.shown.specs.Shown.{part_shown, shown_bytes};
 
 pub mod place;
 
-use crate::place::part_shown;
+use crate::place::place;
 
 // The bytes of the part that the numbers name: that very part of the first file where `which` is 1, of the second where it is 2. Where they
 // name none, it is the first file's empty part at 0.
@@ -23,11 +23,6 @@ pub fn shown<'a>(
         (second.entry.ref_ptr.0, second.entry.ref_ptr.1 + (part_shown first.now second.now which offset length).offset)
         (first.entry.ref_ptr.0, first.entry.ref_ptr.1 + (part_shown first.now second.now which offset length).offset) }
 {
-    let found = part_shown(first, second, which, offset, length);
-    let from = found.offset;
-    let end = from + found.length;
-    if found.which == 2 {
-        return &second[from..end];
-    }
-    &first[from..end]
+    let (file, part) = place(first, second, which, offset, length);
+    part.of(file.of(first, second))
 }

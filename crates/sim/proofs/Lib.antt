@@ -1,3 +1,2 @@
 -- Laws of records of a SIM phonebook.
 pub mod AdnLaws
-pub mod JoinedLaws

@@ -40,6 +40,12 @@ name_of field = take (name_length field) field
 unfoldable pub is_name : (field : List ℕ) → Bool
 is_name field = leb (name_length field) (length field) && is_filled (drop (name_length field) field)
 
+-- a name in the field, and a number of at most 11 bytes behind it; 33 for a name not so formed, 34 for a longer number
+unfoldable pub judged : (field rest : List ℕ) → Outcome (Unit {0})
+judged field rest = do
+  must (is_name field) 33 0
+  must (leb (first_or 0 rest) 11) 34 0
+
 -- ---- the record
 
 module _ (x : ℕ) where

@@ -1,174 +1,175 @@
 // Records of a SIM phonebook: the name in its field, and the order of the records that are made of two of them.
 #![tactic(auto)]
 
-ghost use Rattle.std.specs.Prelude.{◌≡◌, ◌+◌, ◌<◌, ◌&&◌, eqb, take, drop};
+ghost use Rattle.std.specs.Prelude.{◌≡◌, ◌+◌, ◌++◌, eqb, take, drop};
 ghost use Rattle.lists.specs.Groups.{first_or};
 ghost use Rattle.part.specs.Part.{part};
-ghost use Rattle.outcome.specs.Outcome.{number_of};
+ghost use Rattle.outcome.specs.Fault.{said_at};
 ghost use Rattle.byte_string.specs.Order.{at_most};
-ghost use Rattle.sim.specs.Adn.{is_filled, pairs_length, plain_length, name_length, name_of, is_name, record_at, imported};
+ghost use Rattle.sim.specs.Adn.{is_filled, pairs_length, plain_length, name_length, name_of, is_name, judged, record_at};
 
-mod joined;
-
-use crate::joined::joined_at_most;
+use outcome::Fault;
+use std::cmp::Ordering;
 
 // How many bytes follow the name field.
-pub const REST: usize = 14;
+const REST: usize = 14;
 
 // The most that their first, the length of the number, may be.
-const MAX_NUMBER: usize = 11;
+const MAX_NUMBER: u8 = 11;
 
 // Whether every byte is FF.
-pub fn is_filled(s: &[u8]) -> bool
+fn is_filled(s: &[u8]) -> bool
     ensures { result ≡ is_filled s.now }
 {
-    let mut i = 0;
-    while i < s.len() {
-        if s[i] != 255 {
-            return false;
-        }
-        i += 1;
-    }
-    true
-}
-
-// Whether two bytes are the pair FF FF.
-fn is_last(a: u8, b: u8) -> bool
-    ensures { result ≡ (eqb a 255 && eqb b 255) }
-{
-    a == 255 && b == 255
+    s.iter().all(|b| *b == 255)
 }
 
 // How many bytes the pairs take that stand before the first pair FF FF.
 fn pairs_length(s: &[u8]) -> usize
     ensures { result ≡ pairs_length s.now }
 {
-    let mut i: usize = 0;
-    while 2 <= s.len() - i {
-        if is_last(s[i], s[i + 1]) {
-            return i;
-        }
-        i += 2;
-    }
-    i
+    let (pairs, _) = s.as_chunks::<2>();
+    2 * pairs
+        .iter()
+        .position(|pair| *pair == [255, 255])
+        .unwrap_or(pairs.len())
 }
 
 // How many bytes below 80 hex stand at the front.
 fn plain_length(s: &[u8]) -> usize
     ensures { result ≡ plain_length s.now }
 {
-    let mut i = 0;
-    while i < s.len() {
-        if 128 <= s[i] {
-            return i;
-        }
-        i += 1;
-    }
-    i
+    s.iter().position(|b| 128 <= *b).unwrap_or(s.len())
 }
 
 // The first n bytes, or all where there are fewer.
 fn front(s: &[u8], n: usize) -> &[u8]
     ensures { result.now ≡ take n s.now }
 {
-    if s.len() <= n {
-        return s;
-    }
-    &s[0..n]
+    s.get(..n).unwrap_or(s)
 }
 
 // The bytes from n on, or none where there are no more.
 fn behind(s: &[u8], n: usize) -> &[u8]
     ensures { result.now ≡ drop n s.now }
 {
-    if s.len() <= n {
-        return &s[0..0];
-    }
-    &s[n..]
+    s.get(n..).unwrap_or(&[])
 }
 
 // The first byte, or 0 where there is none.
-fn first(s: &[u8]) -> usize
-    ensures { (result ≡ first_or 0 s.now) × (result < 256) }
+#[tactic(auto, using(crate::proofs::AdnLaws::first_slice))]
+fn first(s: &[u8]) -> u8
+    ensures { result ≡ first_or 0 s.now }
 {
-    if s.len() == 0 {
-        return 0;
-    }
-    s[0] as usize
+    s.first().copied().unwrap_or(0)
 }
 
 // How many bytes the name in a field takes, coding bytes included; by its count a name may run past the field.
+#[tactic(auto, unfolding(crate::specs::Adn::name_length, crate::specs::Adn::plain_length), using(crate::proofs::AdnLaws::pairs_few))]
 fn name_length(field: &[u8]) -> usize
     ensures { result ≡ name_length field.now }
 {
-    if field.len() == 0 {
-        return 0;
+    match field.split_first() {
+        Some((128, s)) => 1 + pairs_length(s),
+        Some((129, s)) => 3 + first(s) as usize,
+        Some((130, s)) => 4 + first(s) as usize,
+        _ => plain_length(field),
     }
-    let coding = field[0];
-    let s = behind(field, 1);
-    if coding == 128 {
-        return 1 + pairs_length(s);
-    }
-    if coding == 129 {
-        return 3 + first(s);
-    }
-    if coding == 130 {
-        return 4 + first(s);
-    }
-    plain_length(field)
 }
 
 // Whether the name ends within its field, and everything after it is FF.
+#[tactic(auto, unfolding(crate::specs::Adn::is_name))]
 fn is_name(field: &[u8]) -> bool
     ensures { result ≡ is_name field.now }
 {
     let length = name_length(field);
-    if field.len() < length {
-        return false;
+    length <= field.len() && is_filled(&field[length..])
+}
+
+// A record: its name field, and what follows it.
+#[derive(Clone, Copy)]
+pub struct Adn<'a> {
+    pub field: &'a [u8],
+    pub rest: &'a [u8],
+}
+
+impl<'a> Adn<'a> {
+    // Whether it is free: every byte is FF.
+    #[tactic(auto, using(crate::proofs::AdnLaws::filled_append))]
+    pub fn is_free(self) -> bool
+        ensures { result ≡ is_filled (self.entry.field.now ++ self.entry.rest.now) }
+    {
+        is_filled(self.field) && is_filled(self.rest)
     }
-    is_filled(behind(field, length))
-}
 
-// The bytes of the dump's record at an offset, with a name field of x bytes; fewer where the dump ends before.
-pub fn adn_at(dump: &[u8], x: u8, at: u64) -> &[u8]
-    ensures { result.now ≡ part dump.now at (x + 14) }
-{
-    front(behind(dump, at as usize), x as usize + REST)
-}
-
-// The name of a record with a name field of x bytes.
-pub fn name(adn: &[u8], x: u8) -> &[u8]
-    ensures { result.now ≡ name_of (take x adn.now) }
-{
-    let field = front(adn, x as usize);
-    front(field, name_length(field))
-}
-
-// What follows the name field of x bytes.
-pub fn rest(adn: &[u8], x: u8) -> &[u8]
-    ensures { result.now ≡ drop x adn.now }
-{
-    behind(adn, x as usize)
-}
-
-// The number of the refusal of a record with a name field of x bytes, or 0.
-pub fn refusal_of(adn: &[u8], x: u8) -> u64
-    ensures { result ≡ number_of (imported x adn.now) }
-{
-    if !is_name(front(adn, x as usize)) {
-        return 33;
+    // Its name.
+    #[tactic(auto, unfolding(crate::specs::Adn::name_of))]
+    pub fn name(self) -> &'a [u8]
+        ensures { result.now ≡ name_of self.entry.field.now }
+    {
+        front(self.field, name_length(self.field))
     }
-    if MAX_NUMBER < first(rest(adn, x)) {
-        return 34;
+
+    // Whether the name is one, and the number not too long.
+    #[tactic(auto, unfolding(outcome::specs::Fault::said_at, outcome::specs::Fault::number), using(crate::proofs::AdnLaws::judged_33, crate::proofs::AdnLaws::judged_34, crate::proofs::AdnLaws::judged_not))]
+    pub fn check(self) -> Result<(), Fault>
+        ensures { said_at 0 result ≡ judged self.entry.field.now self.entry.rest.now }
+    {
+        if !is_name(self.field) {
+            return Err(Fault::Name);
+        }
+        if MAX_NUMBER < first(self.rest) {
+            return Err(Fault::NumberLength);
+        }
+        Ok(())
     }
-    0
 }
 
-// Whether our record of the one at offset a of the dump is at most our record of the one at b.
-pub fn at_most(dump: &[u8], x: u8, a: u64, b: u64) -> bool
-    ensures { result ≡ at_most (record_at x dump.now a) (record_at x dump.now b) }
-{
-    let s = adn_at(dump, x, a);
-    let t = adn_at(dump, x, b);
-    joined_at_most(name(s, x), rest(s, x), name(t, x), rest(t, x))
+// A dump of records with a name field of `name_length` bytes.
+#[derive(Clone, Copy)]
+pub struct Dump<'a> {
+    pub bytes: &'a [u8],
+    pub name_length: u8,
+}
+
+impl<'a> Dump<'a> {
+    // How many bytes a record takes.
+    pub fn width(self) -> usize
+        ensures { result ≡ self.entry.name_length + 14 }
+    {
+        self.name_length as usize + REST
+    }
+
+    // The record at an offset; it has fewer bytes where the dump ends before.
+    #[tactic(auto, unfolding(part::specs::Part::part))]
+    pub fn record(self, at: u64) -> Adn<'a>
+        ensures field { result.field.now ≡ take self.entry.name_length (part self.entry.bytes.now at (self.entry.name_length + 14)) }
+        ensures rest { result.rest.now ≡ drop self.entry.name_length (part self.entry.bytes.now at (self.entry.name_length + 14)) }
+    {
+        let bytes = front(behind(self.bytes, at as usize), self.width());
+        Adn {
+            field: front(bytes, self.name_length as usize),
+            rest: behind(bytes, self.name_length as usize),
+        }
+    }
+
+    // Whether our record of the one at offset a is at most our record of the one at b: as many bytes of both names as the shorter has decide, and
+    // where these are equal, what follows them in our records.
+    pub fn at_most(self, a: u64, b: u64) -> bool
+        ensures { result ≡ at_most (record_at self.entry.name_length self.entry.bytes.now a) (record_at self.entry.name_length self.entry.bytes.now b) }
+    {
+        let s = self.record(a);
+        let t = self.record(b);
+        let x = s.name();
+        let y = t.name();
+        let n = x.len().min(y.len());
+        match x[..n].cmp(&y[..n]) {
+            Ordering::Equal => x[n..]
+                .iter()
+                .chain(s.rest)
+                .cmp(y[n..].iter().chain(t.rest))
+                .is_le(),
+            order => order.is_le(),
+        }
+    }
 }

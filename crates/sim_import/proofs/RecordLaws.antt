@@ -1,9 +1,10 @@
 -- Laws of the offsets that are stored, and of the records that are put over them.
 -- Assumes nothing.
 use mathlib.Core.Path.{◌≡◌, refl, sym, ap, ap₂, ◌∙◌}
-use mathlib.Core.Bool.{Bool, true, false}
+use mathlib.Core.Bool.{true, false}
 use mathlib.Core.List.{List, [], ◌∷◌, ◌++◌, append_assoc, append-nil, flat_map, map}
 use Prim.Native.Nat.{ℕ, zero, suc, ◌+◌, ◌*◌, ◌-◌, ◌≤◌, ◌<◌}
+use native.Mathlib.Numerals.{add-one}
 use native.Mathlib.Omega.{arith}
 use lib.ListN.{length, get_or, set, take, drop, length-append, length-map, length-drop, length-set, get_or-map}
 use lib.Seq.{take_all, take_at, drop_at, drop-drop, drop-length, length-take-le}
@@ -21,8 +22,8 @@ use Rattle.sorting.proofs.SortedLaws.{sorted_permutation}
 use Rattle.slots.specs.Slots.{slots}
 use Rattle.slots.proofs.SlotLaws.{length_slots, get_or_slots}
 use Rattle.sim.specs.Adn.{is_filled, name_of, record_of, record_at}
-use Rattle.sim.proofs.AdnLaws.{record_parts, record_at_lem}
-use Rattle.sim_import.specs.Import.{not_free, occupied}
+use Rattle.sim.proofs.AdnLaws.{record_at_lem, parts_record}
+use Rattle.sim_import.specs.Import.{occupied}
 use Rattle.sim_import.specs.Steps.{offsets, Ready, Exact}
 use Rattle.sim_import.proofs.BytesLaws.{bytes_long, bytes_more, bytes_front, permutation_long, permutation_bytes}
 use Rattle.sim_import.proofs.OccupiedLaws.{occupied_end, occupied_step, occupied_long, free_one, not_free_one}
@@ -32,12 +33,6 @@ use Rattle.sim_import.proofs.OccupiedLaws.{occupied_end, occupied_step, occupied
 map-append : {A B : Type 0} (f : A → B) (xs ys : List A) → map f (xs ++ ys) ≡ map f xs ++ map f ys
 map-append f [] ys = refl
 map-append f (x ∷ xs) ys = ap (λ l. f x ∷ l) (map-append f xs ys)
-
-take-set : (xs : List ℕ) (k v : ℕ) → take k (set xs k v) ≡ take k xs
-take-set [] zero v = refl
-take-set [] (suc k) v = refl
-take-set (x ∷ xs) zero v = refl
-take-set (x ∷ xs) (suc k) v = ap (λ l. x ∷ l) (take-set xs k v)
 
 take-set_more : (xs : List ℕ) (k v : ℕ) → k < length xs → take (suc k) (set xs k v) ≡ take k xs ++ (v ∷ [])
 take-set_more [] k v h = absurd (omega arith)
@@ -65,47 +60,41 @@ module _ (x : ℕ) (dump old new : List ℕ) (k at : ℕ) (p : Placed x dump old
       (sym (append-nil (map (record_at x dump) (take k new)))
       ∙ ap (λ l. map (record_at x dump) (take k new) ++ map (record_of x) l) (sym none) ∙ p.all)
 
-  module _ (adn : List ℕ) (f : adn ≡ part dump at (x + 14)) (h : at < length dump) where
+  module _ (h : at < length dump) where
     abbrev later : List (List ℕ)
     later = occupied x (drop (at + (x + 14)) dump)
 
-    step : occupied x (drop at dump) ≡ not_free (adn ∷ []) ++ later
-    step = rw f (occupied_step x dump at h)
+    abbrev adn : List ℕ
+    adn = part dump at (x + 14)
 
-    -- one more, or none
-    pub placed_more : (n : ℕ) → n ≡ length (not_free (adn ∷ [])) → Placed x dump old (set new k at) (k + n) (at + (x + 14))
-    placed_more n g = go (is_filled adn) refl
-      where
-        go : (b : Bool) → is_filled adn ≡ b → Placed x dump old (set new k at) (k + n) (at + (x + 14))
-        go true q =
-            let none = free_one adn q in
-            let same : occupied x (drop at dump) ≡ later = step ∙ ap (λ l. l ++ later) none in
-            let n-0 : n ≡ 0 = g ∙ ap length none in
-            let k-0 : k + n ≡ k = omega arith in
-            record {
-              long = simp length-set p.long;
-              few = omega (arith, p.few);
-              many = rw (k-0, ← same) p.many;
-              all = rw (k-0, take-set new k at, ← same) p.all;
-            }
-        go false q =
-            let one = not_free_one adn q in
-            let more : occupied x (drop at dump) ≡ adn ∷ later = step ∙ ap (λ l. l ++ later) one in
-            let n-1 : n ≡ 1 = g ∙ ap length one in
-            let k-1 : k + n ≡ suc k = omega arith in
-            let count : length (occupied x (drop at dump)) ≡ suc (length later) = ap length more in
-            let many : k + length (occupied x (drop at dump)) ≡ length (occupied x dump) = p.many in
-            let within : k < length new = omega (arith, p.long) in
-            record {
-              long = simp length-set p.long;
-              few = omega (arith, p.few);
-              many = omega arith;
-              all =
-                  rw (k-1, take-set_more new k at within, map-append (record_at x dump) (take k new) (at ∷ []))
-                  (append_assoc (map (record_at x dump) (take k new)) (record_at x dump at ∷ []) (map (record_of x) later)
-                  ∙ ap (λ r. map (record_at x dump) (take k new) ++ (r ∷ map (record_of x) later)) (sym (record_at_lem x dump adn at f))
-                  ∙ ap (λ l. map (record_at x dump) (take k new) ++ map (record_of x) l) (sym more) ∙ p.all);
-            }
+    -- a free record is passed over
+    pub placed_free : is_filled (part dump at (x + 14)) ≡ true → Placed x dump old new k (at + (x + 14))
+    placed_free q =
+        let same : occupied x (drop at dump) ≡ later = occupied_step x dump at h ∙ ap (λ l. l ++ later) (free_one adn q) in
+        record {
+          long = p.long;
+          few = omega (arith, p.few);
+          many = rw (← same) p.many;
+          all = rw (← same) p.all;
+        }
+
+    -- one more
+    pub placed_more : is_filled (part dump at (x + 14)) ≡ false → Placed x dump old (set new k at) (k + 1) (at + (x + 14))
+    placed_more q =
+        let more : occupied x (drop at dump) ≡ adn ∷ later = occupied_step x dump at h ∙ ap (λ l. l ++ later) (not_free_one adn q) in
+        let count : length (occupied x (drop at dump)) ≡ suc (length later) = ap length more in
+        let many : k + length (occupied x (drop at dump)) ≡ length (occupied x dump) = p.many in
+        let within : k < length new = omega (arith, p.long) in
+        record {
+          long = simp length-set p.long;
+          few = omega (arith, p.few);
+          many = omega arith;
+          all =
+              rw (add-one, take-set_more new k at within, map-append (record_at x dump) (take k new) (at ∷ []))
+              (append_assoc (map (record_at x dump) (take k new)) (record_at x dump at ∷ []) (map (record_of x) later)
+              ∙ ap (λ r. map (record_at x dump) (take k new) ++ (r ∷ map (record_of x) later)) (sym (record_at_lem x dump adn at refl))
+              ∙ ap (λ l. map (record_at x dump) (take k new) ++ map (record_of x) l) (sym more) ∙ p.all);
+        }
 
 -- ---- one record
 
@@ -114,14 +103,14 @@ unfolding stored_length
 stored_length_fits o at s h = rw (fits_some o at s h)
 
 -- a number, a name and the rest, stored one after the other, are a record after its length
-module _ (x : ℕ) (dump : List ℕ) (from : ℕ) (adn name rest old : List ℕ) (at number : ℕ) (a : adn ≡ part dump from (x + 14))
-    (f : name ≡ name_of (take x adn)) (g : rest ≡ drop x adn) (n : number ≡ stored_length old at (encoding (length name + length rest)))
+module _ (x : ℕ) (dump : List ℕ) (from : ℕ) (field name rest old : List ℕ) (at number : ℕ) (a : field ≡ take x (part dump from (x + 14)))
+    (f : name ≡ name_of field) (g : rest ≡ drop x (part dump from (x + 14))) (n : number ≡ stored_length old at (encoding (length name + length rest)))
     (h : at + length (text_bytes (record_at x dump from)) ≤ length old) where
   abbrev r : List ℕ
   r = record_at x dump from
 
   e : name ++ rest ≡ r
-  e = record_parts x adn name rest f g ∙ record_at_lem x dump adn from a
+  e = parts_record x dump from field name rest a f g
 
   abbrev digits : List ℕ
   digits = encoding (length name + length rest)

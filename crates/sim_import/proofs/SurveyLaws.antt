@@ -7,17 +7,17 @@ use Prim.Native.Nat.{ℕ, ◌+◌, ◌*◌, ◌^◌, ◌≤◌, ◌<◌}
 use native.Mathlib.Omega.{arith}
 use lib.ListN.{length, take, drop, length-append, length-take, length-map}
 use Rattle.part.specs.Part.{part}
-use Rattle.outcome.specs.Outcome.{Outcome, answer, refused, ◌>>=◌, number_of, count_of}
-use Rattle.outcome.proofs.OutcomeLaws.{bind_answer, bind_refused}
+use Rattle.outcome.specs.Outcome.{Outcome, answer, refused, ◌>>=◌, ◌>>◌}
+use Rattle.outcome.proofs.OutcomeLaws.{answer_injective, answer_not_refused, bind_answer, bind_refused, map_refused⁻¹}
 use Rattle.uleb128.specs.Encoding.{encoding}
 use Rattle.uleb128.proofs.EncodingLaws.{encoding-length}
 use Rattle.layout.specs.Blocks.{text_bytes, records_bytes}
 use Rattle.layout.proofs.ReadBackLaws.{length_text}
-use Rattle.sim.specs.Adn.{is_filled, name_of, record_of, imported}
-use Rattle.sim.proofs.AdnLaws.{record_short, record_parts}
+use Rattle.sim.specs.Adn.{is_filled, name_of, judged, record_of}
+use Rattle.sim.proofs.AdnLaws.{imported_judged, record_short, record_parts}
 use Rattle.sim_import.specs.declared.survey.Survey.{Survey}
 use Rattle.sim_import.specs.Import.{not_free, occupied, imported_all}
-use Rattle.sim_import.specs.Survey.{survey_of}
+use Rattle.sim_import.specs.Survey.{surveyed, survey_of}
 use Rattle.sim_import.specs.Steps.{Whole}
 use Rattle.sim_import.proofs.BytesLaws.{bytes_append, bytes_one, text_short}
 use Rattle.sim_import.proofs.OccupiedLaws.{
@@ -30,32 +30,32 @@ use Rattle.sim_import.proofs.OccupiedLaws.{
   some,
   none,
   known,
-  imported_some,
   free_one,
   not_free_one,
 }
 
 -- ---- one record
 
+pub part_short : (s : List ℕ) (at n : ℕ) → length (part s at n) ≤ n
+unfolding part
+part_short s at n = let t = length-take n (drop at s) in omega arith
+
 module _ (x : ℕ) (adn : List ℕ) where
-  pub survey_free : is_filled adn ≡ true → record { number = 0; count = 0; length = 0 } ≡ survey_of (imported_all x (not_free (adn ∷ [])))
-  unfolding survey_of imported_all number_of count_of records_bytes flat_map ◌>>=◌
+  pub survey_free : is_filled adn ≡ true → answer (record { count = 0; length = 0 }) ≡ survey_of (imported_all x (not_free (adn ∷ [])))
+  unfolding survey_of surveyed imported_all records_bytes flat_map ◌>>=◌
   survey_free e = rw (free_one adn e)
 
-  pub survey_refused : (n : ℕ) → is_filled adn ≡ false → n ≡ number_of (imported x adn) → (n ≡ 0 → ⊥)
-      → record { number = n; count = 0; length = 0 } ≡ survey_of (imported_all x (not_free (adn ∷ [])))
-  unfolding survey_of imported_all number_of count_of ◌>>=◌
-  survey_refused n e f h = rw (not_free_one adn e) (go (imported x adn) f)
-    where
-      go : (o : Outcome (List ℕ)) → n ≡ number_of o
-          → ◌≡◌ {A = Survey} (record { number = n; count = 0; length = 0 }) (survey_of (o >>= λ r. answer [] >>= λ rs. answer (r ∷ rs)))
-      go (answer r) g = absurd (h g)
-      go (refused m p) g = rw g
+  -- what stops the import of a record that isn't free stops the pass
+  pub survey_refused : (n : ℕ) → is_filled adn ≡ false → refused n 0 ≡ judged (take x adn) (drop x adn)
+      → refused n 0 ≡ survey_of (imported_all x (not_free (adn ∷ [])))
+  unfolding survey_of imported_all ◌>>=◌ ◌>>◌
+  survey_refused n e f = rw (not_free_one adn e, imported_judged x adn, ← f)
 
-  pub survey_some : (size number : ℕ) → is_filled adn ≡ false → 0 ≡ number_of (imported x adn) → length (text_bytes (record_of x adn)) ≡ number + size
-      → record { number = 0; count = 1; length = number + size } ≡ survey_of (imported_all x (not_free (adn ∷ [])))
-  unfolding survey_of imported_all number_of count_of ◌>>=◌
-  survey_some size number e f g = rw (not_free_one adn e, imported_some x adn f, bytes_one (record_of x adn), g)
+  pub survey_some : (size number : ℕ) → is_filled adn ≡ false → answer tt ≡ judged (take x adn) (drop x adn)
+      → length (text_bytes (record_of x adn)) ≡ number + size
+      → answer (record { count = 1; length = number + size }) ≡ survey_of (imported_all x (not_free (adn ∷ [])))
+  unfolding survey_of surveyed imported_all ◌>>=◌ ◌>>◌
+  survey_some size number e f g = rw (not_free_one adn e, imported_judged x adn, ← f, bytes_one (record_of x adn), g)
 
   -- its size, in its two parts
   module _ (name rest : List ℕ) (number : ℕ) (e : name ≡ name_of (take x adn)) (f : rest ≡ drop x adn)
@@ -110,10 +110,6 @@ unfolding ◌>>=◌
 joined (answer qs) a b = rw (append_assoc a b qs)
 joined (refused n p) a b = refl
 
-part_short : (s : List ℕ) (at n : ℕ) → length (part s at n) ≤ n
-unfolding part
-part_short s at n = let t = length-take n (drop at s) in omega arith
-
 -- the counts of at most one record
 one_small : (x : ℕ) (adn : List ℕ) → x < 256 → length adn ≤ x + 14
     → (length (not_free (adn ∷ [])) ≤ 1) × (length (records_bytes (map (record_of x) (not_free (adn ∷ [])))) ≤ 2 * (x + 14))
@@ -127,46 +123,44 @@ one_small x adn h l = go (is_filled adn) refl
 
 module _ (x : ℕ) (dump : List ℕ) (count size at : ℕ) (s : Surveyed x dump count size at) where
   -- nothing is left
-  pub surveyed_all : length dump ≤ at → record { number = 0; count = count; length = size } ≡ survey_of (imported_all x (occupied x dump))
-  unfolding survey_of number_of count_of imported_all records_bytes ◌>>=◌
+  pub surveyed_all : length dump ≤ at → answer (record { count = count; length = size }) ≡ survey_of (imported_all x (occupied x dump))
+  unfolding survey_of surveyed imported_all records_bytes ◌>>=◌
   surveyed_all h =
       rw (s.many, s.total, s.goes, occupied_end x dump at h, append-nil s.records)
 
-  module _ (one : Survey) (adn : List ℕ) (e : one ≡ survey_of (imported_all x (not_free (adn ∷ [])))) (f : adn ≡ part dump at (x + 14))
-      (h : at < length dump) where
+  module _ (h : at < length dump) where
     abbrev rest : Outcome (List (List ℕ))
     rest = imported_all x (occupied x (drop (at + (x + 14)) dump))
 
-    here : imported_all x (occupied x (drop at dump)) ≡ (imported_all x (not_free (adn ∷ [])) >>= λ rs. rest >>= λ qs. answer (rs ++ qs))
-    here =
-        ap (imported_all x) (occupied_step x dump at h)
-        ∙ imported_append x (not_free (part dump at (x + 14) ∷ [])) (occupied x (drop (at + (x + 14)) dump)) ∙ rw f
+    abbrev one : List (List ℕ)
+    one = not_free (part dump at (x + 14) ∷ [])
+
+    here : imported_all x (occupied x (drop at dump)) ≡ (imported_all x one >>= λ rs. rest >>= λ qs. answer (rs ++ qs))
+    here = ap (imported_all x) (occupied_step x dump at h) ∙ imported_append x one (occupied x (drop (at + (x + 14)) dump))
 
     -- a refusal is that of all
-    pub surveyed_refused : (one.number ≡ 0 → ⊥) → one ≡ survey_of (imported_all x (occupied x dump))
-    unfolding survey_of number_of
-    surveyed_refused n = go (imported_all x (not_free (adn ∷ []))) (known x (not_free (adn ∷ []))) refl
-      where
-        go : (o : Outcome (List (List ℕ))) → Known x (not_free (adn ∷ [])) o → imported_all x (not_free (adn ∷ [])) ≡ o
-            → one ≡ survey_of (imported_all x (occupied x dump))
-        go o some q = absurd (n (ap (λ (t : Survey). t.number) (e ∙ ap survey_of q)))
-        go o (none m k) q =
-            let all = s.goes ∙ bind_refused _ _ m 0 (here ∙ bind_refused _ _ m 0 q) in
-            e ∙ ap survey_of (q ∙ sym all)
+    pub surveyed_refused : (n : ℕ) → refused n 0 ≡ survey_of (imported_all x (not_free (part dump at (x + 14) ∷ [])))
+        → refused n 0 ≡ survey_of (imported_all x (occupied x dump))
+    unfolding survey_of
+    surveyed_refused n e =
+        let this = map_refused⁻¹ (imported_all x one) surveyed n 0 (sym e) in
+        sym (bind_refused _ _ n 0 (s.goes ∙ bind_refused _ _ n 0 (here ∙ bind_refused _ _ n 0 this)))
 
     -- one more, or none
-    pub surveyed_more : x < 256 → one.number ≡ 0 → Surveyed x dump (count + one.count) (size + one.length) (at + (x + 14))
-    unfolding survey_of number_of count_of
-    surveyed_more l z = go (imported_all x (not_free (adn ∷ []))) (known x (not_free (adn ∷ []))) refl
+    pub surveyed_more : (more : Survey) → x < 256 → answer more ≡ survey_of (imported_all x (not_free (part dump at (x + 14) ∷ [])))
+        → Surveyed x dump (count + more.count) (size + more.length) (at + (x + 14))
+    unfolding survey_of surveyed ◌>>=◌
+    surveyed_more more l e = go (imported_all x one) (known x one) refl
       where
-        go : (o : Outcome (List (List ℕ))) → Known x (not_free (adn ∷ [])) o → imported_all x (not_free (adn ∷ [])) ≡ o
-            → Surveyed x dump (count + one.count) (size + one.length) (at + (x + 14))
-        go o (none m k) q = absurd (k (sym (ap (λ (t : Survey). t.number) (e ∙ ap survey_of q)) ∙ z))
+        go : (o : Outcome (List (List ℕ))) → Known x one o → imported_all x one ≡ o
+            → Surveyed x dump (count + more.count) (size + more.length) (at + (x + 14))
+        go o (none m) q = absurd (answer_not_refused more m 0 (e ∙ ap survey_of q))
         go o some q =
-            let qs : List (List ℕ) = map (record_of x) (not_free (adn ∷ [])) in
-            let many : one.count ≡ length qs = ap (λ (t : Survey). t.count) (e ∙ ap survey_of q) in
-            let total : one.length ≡ length (records_bytes qs) = ap (λ (t : Survey). t.length) (e ∙ ap survey_of q) in
-            let small = one_small x adn l (rw f (part_short dump at (x + 14))) in
+            let qs : List (List ℕ) = map (record_of x) one in
+            let same : more ≡ surveyed qs = answer_injective more (surveyed qs) (e ∙ ap survey_of q) in
+            let many : more.count ≡ length qs = ap (λ (t : Survey). t.count) same in
+            let total : more.length ≡ length (records_bytes qs) = ap (λ (t : Survey). t.length) same in
+            let small = one_small x (part dump at (x + 14)) l (part_short dump at (x + 14)) in
             let count_small : length qs ≤ 1 = rw length-map small.0 in
             let size_small : length (records_bytes qs) ≤ 2 * (x + 14) = small.1 in
             record {

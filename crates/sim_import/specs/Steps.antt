@@ -1,10 +1,15 @@
 -- What the functions within the import promise.
 use Rattle.std.specs.Prelude.{ℕ, ◌+◌, ◌*◌, ◌-◌, ◌%◌, ◌≤◌, ◌≡◌, length, drop}
 use mathlib.Core.List.{List, map, Memᴰ}
+use Rattle.outcome.specs.Outcome.{Outcome, answer, ◌>>=◌}
 use Rattle.layout.specs.Blocks.{records_bytes}
 use Rattle.slots.specs.Slots.{slots}
 use Rattle.sim.specs.Adn.{record_of, record_at}
 use Rattle.sim_import.specs.Import.{occupied}
+
+-- how many bytes are put, or the refusal
+unfoldable pub length_of : Outcome (List ℕ) → Outcome ℕ
+length_of o = o >>= λ bytes. answer (length bytes)
 
 -- the dump is whole records
 unfoldable pub Whole : (x : ℕ) (dump : List ℕ) → Type 0

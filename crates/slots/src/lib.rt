@@ -12,9 +12,10 @@ pub fn load(s: &[u8], k: usize) -> u64
     ensures { result ≡ get_or (slots 8 s.now) k 0 }
 {
     if k < s.len() / WIDTH {
-        return endian::le64_at(s, WIDTH * k);
+        endian::le64_at(s, WIDTH * k)
+    } else {
+        0
     }
-    0
 }
 
 // Stores a number into slot k.
@@ -24,6 +25,5 @@ pub fn store(s: &mut [u8], k: usize, value: u64)
     if s.len() / WIDTH <= k {
         return;
     }
-    let bytes = endian::le64_bytes(value);
-    output_bytes::put(s, WIDTH * k, &bytes);
+    output_bytes::put(s, WIDTH * k, &endian::le64_bytes(value));
 }

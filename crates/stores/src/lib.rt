@@ -1,7 +1,7 @@
 // The stores of a finished file, by which it is written so that a power cut leaves no wrong one.
 #![tactic(auto)]
 
-ghost use Rattle.std.specs.Prelude.{true, ◌&&◌, ◌≡◌};
+ghost use Rattle.std.specs.Prelude.{true, ◌&&◌, ◌-◌, ◌≤◌, ◌≡◌};
 ghost use Rattle.stores.specs.FileStores.{has_stores, store_part};
 
 use header::Header;
@@ -16,37 +16,30 @@ pub fn store(file: &[u8], i: u64) -> Part
     ensures { result ≡ store_part file.now i }
 {
     if !has_stores(file) {
-        return Part {
-            offset: 0,
-            length: 0,
-        };
+        return Part::NONE;
     }
     let blocks = Header::AROUND + endian::le64_at(file, Header::EXTENT_AT) as usize;
     match i {
-        0 => Part {
-            offset: 0,
-            length: MAGIC,
-        },
-        1 => Part {
-            offset: blocks,
-            length: file.len() - blocks,
-        },
-        2 => Part {
-            offset: MAGIC,
-            length: blocks - MAGIC,
-        },
-        3 => Part {
-            offset: 0,
-            length: MAGIC,
-        },
-        _ => Part {
-            offset: 0,
-            length: 0,
-        },
+        0 | 3 => part(0, MAGIC),
+        1 => part(blocks, file.len()),
+        2 => part(MAGIC, blocks),
+        _ => Part::NONE,
+    }
+}
+
+// The bytes from `from` up to `end`.
+fn part(from: usize, end: usize) -> Part
+    requires { from ≤ end }
+    ensures { result ≡ record { offset = from; length = end - from } }
+{
+    Part {
+        offset: from,
+        length: end - from,
     }
 }
 
 // Whether the bytes begin with the magic of a finished file, and hold their header.
+#[tactic(auto, unfolding(crate::specs::FileStores::has_stores))]
 fn has_stores(file: &[u8]) -> bool
     ensures { result ≡ has_stores file.now }
 {

@@ -5,7 +5,7 @@ use mathlib.Core.List.{List, [], ◌∷◌, flat_map}
 use Prim.Native.Nat.{ℕ}
 use native.Mathlib.Omega.{arith}
 use lib.ListN.{length}
-use Rattle.byte_string.specs.Order.{order, or_else, is_more, at_most, begins}
+use Rattle.byte_string.specs.Order.{order, at_most, begins}
 use Rattle.endian.specs.FixedWidth as fixed
 use Rattle.uleb128.specs.Number.{continuing, sevens, reading}
 use Rattle.crc64.specs.Crc64 as crc
@@ -56,7 +56,7 @@ unfolding smallest_file count_of accept_of check_with head.header_of head.size_r
     head.codec_none head.field_at meta.is_metadata utf8.is_utf8 utf8.utf8_from utf8.due_after json.is_object json.is_done json.object_end json.object_over
     json.structural_end json.container_end json.skip_while json.is_space json.one_of json.◌>>=◌ head.H head.M head.holds_header head.header_crc_right
     head.holds_metadata part items_from keep any all
-    order or_else is_more at_most begins fixed.little_endian continuing sevens reading crc.crc64 crc.crc_of crc.register_start crc.register crc.byte_step
+    order at_most begins fixed.little_endian continuing sevens reading crc.crc64 crc.crc_of crc.register_start crc.register crc.byte_step
     crc.bit_steps crc.bit_step
     crc.all_ones crc.polynomial crc.reversed frame.read_as frame.number_at frame.framed frame.frame_at frame.crc_right frame.sound_frame_at payload.text_at
     payload.entry_sized payload.entry_at payload.rising_from payload.rising payload.payload_at payload.records_at payload.entries_at block.is_data

@@ -2,12 +2,12 @@
 -- Assumes nothing.
 use mathlib.Core.Path.{refl}
 use Rattle.uleb128.specs.Number.{reading, continuing, sevens}
-use Rattle.byte_string.specs.Order.{order, or_else, signed, agreeing, comparison, is_less, is_more, less, at_most, begins}
+use Rattle.byte_string.specs.Order.{order, agreeing, comparison, less, at_most, begins}
 use Rattle.query.specs.Query.{before}
 use Rattle.query.specs.Opening.{may_match, reaches, up_to, admits_prefix}
 use Rattle.theorems_examples.specs.Examples.{answered, table, Confirmed}
 
 pub examples_confirmed : Confirmed
-unfolding Confirmed table answered reading continuing sevens order or_else signed agreeing comparison
-    is_less is_more less at_most begins before may_match reaches up_to admits_prefix
+unfolding Confirmed table answered reading continuing sevens order agreeing comparison
+    less at_most begins before may_match reaches up_to admits_prefix
 examples_confirmed = refl

@@ -1,6 +1,7 @@
 -- The examples P1 to P14 of docs/FORMAT.md as one table: a question, and its answer.
-use Rattle.std.specs.Prelude.{ℕ, ◌-◌, ◌^◌, List, [], ◌∷◌, map, ◌≡◌, Bool, true, false, pos, negsuc}
+use Rattle.std.specs.Prelude.{ℕ, ◌-◌, ◌^◌, List, [], ◌∷◌, map, ◌≡◌, Bool, true, false}
 use Rattle.std.proofs.Math.Option.{Option, none, some}
+use Rattle.std.specs.declared.cmp.Ordering.TheVariants.{Less, Greater}
 use Rattle.uleb128.specs.Number.{Reading, number, refused, reading}
 use Rattle.byte_string.specs.declared.Comparison.{Comparison}
 use Rattle.byte_string.specs.Order.{comparison}
@@ -45,9 +46,9 @@ table =
     ∷ (number_of (0x80 ∷ 0x00 ∷ []) gives is_number (refused 12))
     ∷ (number_of (0xff ∷ 0xff ∷ 0xff ∷ 0xff ∷ 0xff ∷ 0xff ∷ 0xff ∷ 0xff ∷ 0xff ∷ []) gives is_number (refused 11))
     -- P8 to P10: comparison, the sign and how many leading bytes agree
-    ∷ (comparison_of [] (0x00 ∷ []) gives is_comparison (record { sign = negsuc 0; agreeing = 0 }))
-    ∷ (comparison_of (0x61 ∷ []) (0x61 ∷ 0x00 ∷ []) gives is_comparison (record { sign = negsuc 0; agreeing = 1 }))
-    ∷ (comparison_of (0x80 ∷ []) (0x7f ∷ []) gives is_comparison (record { sign = pos 1; agreeing = 0 }))
+    ∷ (comparison_of [] (0x00 ∷ []) gives is_comparison (record { sign = Less; agreeing = 0 }))
+    ∷ (comparison_of (0x61 ∷ []) (0x61 ∷ 0x00 ∷ []) gives is_comparison (record { sign = Less; agreeing = 1 }))
+    ∷ (comparison_of (0x80 ∷ []) (0x7f ∷ []) gives is_comparison (record { sign = Greater; agreeing = 0 }))
     -- P11 to P14: opening
     ∷ (opening_of (0x61 ∷ []) (some (0x62 ∷ [])) (record { start = 0x62 ∷ []; stop = none; prefix = [] }) gives is_opened true)
     ∷ (opening_of (0x63 ∷ []) none (record { start = []; stop = some (0x63 ∷ []); prefix = [] }) gives is_opened false)

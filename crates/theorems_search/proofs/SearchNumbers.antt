@@ -20,6 +20,7 @@ use Rattle.matching.specs.Matching.{matching}
 use Rattle.search.specs.declared.Found.{Found}
 use Rattle.search.specs.declared.opening.Named.{Named}
 use Rattle.search.specs.Search.{Walked, nothing, with_match, with_opened, next_key, root_named, child_named, fitting_block, named_block, open_block, add_matches, walk_over, walk_of, walk_from, search_of, search_answer}
+use Rattle.outcome.specs.Fault.{number}
 use Rattle.theorems_check.proofs.BlockNumbers.{BlockNumber, frame_numbers, inside_numbers}
 use Rattle.theorems_search.proofs.SearchTheorems.{search_refusal}
 
@@ -30,13 +31,13 @@ module _ (Kind : ℕ → Type 0) (low : (n : ℕ) → 1 ≤ n → n ≤ 17 → K
 
   -- ---- one block
 
-  open_refuses : (file : List ℕ) (places from : ℕ) (n : Named) (s : Walked) → Kind n.refusal.number → Refuses Kind (open_block file places from n s)
+  open_refuses : (file : List ℕ) (places from : ℕ) (n : Named) (s : Walked) → Kind (number n.refusal.fault) → Refuses Kind (open_block file places from n s)
   unfolding open_block named_block fitting_block
   open_refuses file places from n s k =
       refuses_rule Kind _ 26 0 _ k26
-      (refuses_rule Kind _ n.refusal.number n.refusal.place _ k
+      (refuses_rule Kind _ (number n.refusal.fault) n.refusal.place _ k
       (refuses_bind Kind (sound_frame_at file n.offset) _ (refuses_more BlockNumber Kind _ by_block (frame_numbers file n.offset))
-      (λ f. refuses_rule Kind _ n.refusal.number n.refusal.place _ k (refuses_more BlockNumber Kind _ by_block (inside_numbers file f)))))
+      (λ f. refuses_rule Kind _ (number n.refusal.fault) n.refusal.place _ k (refuses_more BlockNumber Kind _ by_block (inside_numbers file f)))))
 
   add_refuses : (room : ℕ) (rs : List Text) (s : Walked) → Refuses Kind (add_matches room rs s)
   unfolding add_matches
@@ -59,7 +60,7 @@ module _ (Kind : ℕ → Type 0) (low : (n : ℕ) → 1 ≤ n → n ≤ 17 → K
 
   module _ (file : List ℕ) (q : Query) (places room : ℕ) where
     walk_refuses : (from level : ℕ) (b : Block) (upper : Option (List ℕ)) (s : Walked) → Refuses Kind (walk_of file q places room from level b upper s)
-    unfolding walk_of child_named
+    unfolding walk_of child_named number
     walk_refuses from zero b upper s = add_refuses room (matching q b.records) s
     walk_refuses from (suc level) b upper s =
         over_refuses q _ upper
@@ -69,7 +70,7 @@ module _ (Kind : ℕ → Type 0) (low : (n : ℕ) → 1 ≤ n → n ≤ 17 → K
         b.entries s
 
     pub search_refuses : Refuses Kind (search_of file q places room)
-    unfolding search_of walk_from root_named
+    unfolding search_of walk_from root_named number
     search_refuses =
         refuses_bind Kind (header_of file) _
         (record { among = λ n p e. let numbers = header_refused file n p e in low n numbers.1 (omega arith) })

@@ -10,7 +10,8 @@ use lib.Dec.{leb, ltb}
 use lib.ListN.{length}
 use borrow.Author.Tests.{leb-true, le-leb, lt-leb, ltb-true, ltb-false}
 use Rattle.lists.specs.Groups.{last_or}
-use Rattle.byte_string.specs.Order.{order, is_more, at_most}
+use Rattle.byte_string.specs.Order.{at_most}
+use Rattle.byte_string.proofs.OrderLaws.{nil_at_most}
 use Rattle.outcome.specs.Outcome.{Outcome, number_of, ◌>>=◌, ◌>>◌, must}
 use Rattle.outcome.proofs.OutcomeLaws.{kept, broken}
 use Rattle.header.specs.Metadata.{Metadata, is_metadata}
@@ -83,11 +84,6 @@ not_exceeds room long f =
     (λ e. by_test (ltb (2 ^ 30) long) (λ g. inr (omega (arith, ltb-true (2 ^ 30) long g)))
     (λ g. absurd (f (omega (arith, ltb-false room long e), omega (arith, ltb-false (2 ^ 30) long g)))))
 
-least : (r : List ℕ) → at_most [] r ≡ true
-unfolding at_most order is_more
-least [] = refl
-least (x ∷ r) = refl
-
 last_is : (rs earlier : List (List ℕ)) (last : List ℕ) → rs ≡ earlier ++ (last ∷ []) → last_or [] rs ≡ last
 unfolding last_or
 last_is rs earlier last e = ap (last_or []) e ∙ last_or_append [] earlier (last ∷ [])
@@ -103,7 +99,7 @@ tells_next d r =
     go : ((earlier : List (List ℕ)) (last : List ℕ) → draft_records d ≡ earlier ++ (last ∷ []) → at_most last r ≡ true)
         → (draft_records d ≡ []) ⊎ ((earlier : List (List ℕ)) × ((last : List ℕ) × (draft_records d ≡ earlier ++ (last ∷ []))))
         → at_most (last_or [] (draft_records d)) r ≡ true
-    go f (inl e) = ap (λ (rs : List (List ℕ)). at_most (last_or [] rs) r) e ∙ least r
+    go f (inl e) = ap (λ (rs : List (List ℕ)). at_most (last_or [] rs) r) e ∙ nil_at_most r
     go f (inr p) =
         ap (λ (l : List ℕ). at_most l r) (last_is (draft_records d) p.0 p.1.0 p.1.1) ∙ f p.0 p.1.0 p.1.1
 

@@ -1,12 +1,13 @@
 -- Laws of the shortest form: what is written is read back, and it is the only form that is read so.
 -- Assumes nothing.
-use mathlib.Core.Path.{◌≡◌, refl, sym, ◌∙◌, subst}
+use mathlib.Core.Path.{◌≡◌, refl, sym, ◌∙◌}
 use mathlib.Core.Bool.{Bool, true, false, ◌&&◌, cond, false≢true}
 use mathlib.Core.List.{List, [], ◌∷◌, ◌++◌}
-use Prim.Native.Nat.{ℕ, zero, suc, ◌+◌, ◌-◌, ◌*◌, ◌/◌, ◌%◌, ◌^◌, ◌≤◌, ◌<◌}
-use native.Mathlib.Nat.{pow-zero, pow-succ'}
+use Prim.Native.Nat.{ℕ, zero, suc, ◌+◌, ◌*◌, ◌/◌, ◌%◌, ◌^◌, ◌≤◌, ◌<◌, max}
+use native.Mathlib.Nat.{pow-zero, pow-succ', one-le-pow}
 use native.Mathlib.Numerals.{add-one}
 use native.Mathlib.Omega.{arith}
+use lib.Pow.{pow-add, pow_mono}
 use lib.Dec.{ltb, eqb}
 use lib.ListN.{length, take, get_or, length-append}
 use lib.Seq.{take-append_seam}
@@ -14,7 +15,7 @@ use borrow.Author.Tests.{lt-ltb, le-ltb, ltb-true, ltb-false}
 use Rattle.byte_string.specs.Order.{AreBytes}
 use Rattle.uleb128.specs.Number.{number, reading, continuing, sevens}
 use Rattle.uleb128.specs.Encoding.{encoding_with, encoding}
-use Rattle.uleb128.proofs.NumberLaws.{continuing_low, continuing_high, reading_number, shortest_one, shortest_last, IsNumber, reading⇒IsNumber}
+use Rattle.uleb128.proofs.NumberLaws.{continuing_low, continuing_high, reading_number, shortest, IsNumber, reading⇒IsNumber}
 
 -- ---- the two cases
 
@@ -127,17 +128,16 @@ encoding_reads n t h = read (reads_back 9 n (omega arith)) (encoding-length 8 n 
     read w few =
         let ends = w.ends t in
         rw (
-          reading_number (bytes ++ t) (continuing (bytes ++ t)) (omega arith) (rw (length-append bytes t) (omega arith)) (shortest (ltb 0 n) refl) refl,
+          reading_number (bytes ++ t) (continuing (bytes ++ t)) (omega arith) (rw (length-append bytes t) (omega arith)) (shortest _ _ (last (ltb 0 n) refl)) refl,
           ends,
           take-append_seam bytes t,
           w.value,
         )
       where
-        shortest : (b : Bool) → ltb 0 n ≡ b → (ltb 0 (continuing (bytes ++ t)) && eqb (get_or (bytes ++ t) (continuing (bytes ++ t)) 0) 0) ≡ false
-        shortest true e = shortest_last (bytes ++ t) (continuing (bytes ++ t)) (w.last (ltb-true 0 n e) t)
-        shortest false e =
-            shortest_one (bytes ++ t) (continuing (bytes ++ t))
-            (let ends = w.ends t in let one = encoding_with-length 0 9 n (let zero = ltb-false 0 n e in omega arith) in omega arith)
+        last : (b : Bool) → ltb 0 n ≡ b → 0 < continuing (bytes ++ t) → get_or (bytes ++ t) (continuing (bytes ++ t)) 0 ≡ 0 → ⊥
+        last true e more ended = w.last (ltb-true 0 n e) t ended
+        last false e more ended =
+            let ends = w.ends t in let one = encoding_with-length 0 9 n (let none = ltb-false 0 n e in omega arith) in omega arith
 
 -- ---- the only shortest form
 
@@ -222,38 +222,32 @@ encoding_bytes n h = by_digits (λ more n. AreBytes (encoding_with more n))
     (λ more n l h ih. rw (encoding_with_high more n l) (omega arith, ih))
     9 n (omega arith)
 
--- ---- counting the bytes
+-- ---- how many bytes a number takes
 
--- `count` bytes are counted up to the one that holds the lowest bits of `rest`
-pub record Counted (value rest count : ℕ) : Type 0 where
-  pub few : (1 ≤ count) × (count ≤ 10)
-  pub small : rest < 128 ^ suc (10 - count)
-  pub counted : length (encoding value) + 1 ≡ count + length (encoding_with (10 - count) rest)
+-- a power of 128 as one of 2
+sevens_of_bits : (k : ℕ) → 128 ^ k ≡ 2 ^ (7 * k)
+sevens_of_bits zero = pow-zero 128
+sevens_of_bits (suc k) =
+    let more : 7 * suc k ≡ 7 + 7 * k = omega arith in
+    rw (pow-succ' 128 k, more, pow-add 2 7 (7 * k), sevens_of_bits k)
 
-pub counted_one : (value : ℕ) → value < 2 ^ 64 → Counted value value 1
+-- a byte for each seven bits
+encoding_with_sized : (k more n : ℕ) → k ≤ more → (0 < k → 128 ^ k ≤ n) → n < 128 ^ suc k → length (encoding_with more n) ≡ suc k
+encoding_with_sized zero more n few low high =
+    rw (encoding_with_low more n (let one = pow-succ' 128 0 in let none = pow-zero 128 in omega arith))
+encoding_with_sized (suc k) zero n few low high = absurd (omega arith)
+encoding_with_sized (suc k) (suc more) n few low high =
+    let some : 128 ^ suc k ≤ n = low (omega arith) in
+    let split = pow-succ' 128 k in
+    let one = one-le-pow k 128 (omega arith) in
+    rw (encoding_with_high more n (omega arith), encoding_with_sized k more (n / 128) (omega arith) (λ p. omega arith) (digits (suc k) n high))
+
+-- where the highest bit is known, and 0 counts as 1
+pub encoding_sized : (n top : ℕ) → 2 ^ top ≤ max n 1 → max n 1 < 2 * 2 ^ top → top < 64 → top / 7 + 1 ≡ length (encoding n)
 unfolding encoding
-counted_one value h = record { few = (omega arith, omega arith); small = omega arith; counted = omega arith }
-
--- a byte more
-pub counted_more : (value rest count : ℕ) → 128 ≤ rest → Counted value rest count → Counted value (rest / 128) (count + 1)
-counted_more value rest count h c = go (10 - count) refl
-  where
-    go : (more : ℕ) → 10 - count ≡ more → Counted value (rest / 128) (count + 1)
-    go zero e = absurd (let small : rest < 128 ^ suc zero = subst (λ m. rest < 128 ^ suc m) e c.small in
-        let one = pow-succ' 128 0 in let none = pow-zero 128 in omega arith)
-    go (suc more) e =
-        let left : 10 - (count + 1) ≡ more = omega arith in
-        let small : rest < 128 ^ suc (suc more) = subst (λ m. rest < 128 ^ suc m) e c.small in
-        let counted : length (encoding value) + 1 ≡ count + length (encoding_with (suc more) rest) =
-        subst (λ m. length (encoding value) + 1 ≡ count + length (encoding_with m rest)) e c.counted in
-        record {
-          few = (omega arith, let few = c.few.0 in omega arith);
-          small = rw left (digits (suc more) rest small);
-          counted = rw left (let all : length (encoding_with (suc more) rest) ≡ suc (length (encoding_with more (rest / 128))) = rw (encoding_with_high more rest h) in omega arith);
-        }
-
-pub counted_all : (value rest count : ℕ) → rest < 128 → Counted value rest count → count ≡ length (encoding value)
-counted_all value rest count h c =
-    let one : length (encoding_with (10 - count) rest) ≡ 1 = rw (encoding_with_low (10 - count) rest h) in
-    let all = c.counted in
-    omega arith
+encoding_sized n top low high few =
+    let k = top / 7 in
+    let below : 128 ^ k ≤ 2 ^ top = rw (sevens_of_bits k) (pow_mono (omega arith)) in
+    let above : 2 ^ suc top ≤ 128 ^ suc k = rw (sevens_of_bits (suc k)) (pow_mono (omega arith)) in
+    let doubled = pow-succ' 2 top in
+    sym (encoding_with_sized k 9 n (omega arith) (λ p. let big : 2 ^ 7 ≤ 2 ^ top = pow_mono {i = 7} {j = top} (omega arith) in omega arith) (omega arith) ∙ sym (add-one k))

@@ -10,7 +10,8 @@ use native.Mathlib.Omega.{arith}
 use lib.Dec.{leb, ltb, eqb}
 use lib.ListN.{length, take, drop, get_or, drop_of_length-le, length-take}
 use lib.Seq.{drop-cons, take-suc, get_or-take, length-take-le}
-use borrow.Author.Tests.{le-leb, lt-leb, lt-ltb, le-ltb, ne_eqb, leb-false}
+use borrow.Author.Tests.{le-leb, lt-leb, lt-ltb, leb-false}
+use Rattle.std.proofs.lemmas.Grind.{common_steps}
 use Rattle.uleb128.specs.Number.{Reading, number, cut_off, refused, reading, continuing, sevens}
 
 -- ---- how far the bytes from 80 hex up go
@@ -81,16 +82,9 @@ unfolding reading
 reading_long s n few h more zero-last e =
     rw (e, lt-leb 9 n few, lt-leb (length s) n h, lt-ltb 0 n more, zero-last)
 
--- a number of one byte is shortest, and so is one whose last byte is not 00
-pub shortest_one : (s : List ℕ) (n : ℕ) → n ≤ 0 → (ltb 0 n && eqb (get_or s n 0) 0) ≡ false
-shortest_one s n h = rw (le-ltb 0 n h)
-
-pub shortest_last : (s : List ℕ) (n : ℕ) → (get_or s n 0 ≡ 0 → ⊥) → (ltb 0 n && eqb (get_or s n 0) 0) ≡ false
-shortest_last s n h = rw (ne_eqb (get_or s n 0) 0 h) (at (ltb 0 n))
-  where
-    at : (b : Bool) → (b && false) ≡ false
-    at true = refl
-    at false = refl
+-- a number is shortest unless it has another byte before a last byte 00
+pub shortest : (s : List ℕ) (n : ℕ) → (0 < n → get_or s n 0 ≡ 0 → ⊥) → (ltb 0 n && eqb (get_or s n 0) 0) ≡ false
+shortest s n h = grind (arith, common_steps)
 
 pub reading_number : (s : List ℕ) (n : ℕ) → n < 9 → n < length s → (ltb 0 n && eqb (get_or s n 0) 0) ≡ false → continuing s ≡ n
     → reading s ≡ number (sevens (take (n + 1) s)) (n + 1)
@@ -102,7 +96,7 @@ pub reading-first : (s : List ℕ) → 0 < length s → get_or s 0 0 < 128 → r
 unfolding sevens
 reading-first s h low =
     let value : sevens (take 1 s) ≡ get_or s 0 0 = sevens_more s 0 h ∙ sum (get_or s 0 0) low in
-    reading_number s 0 (omega arith) h (shortest_one s 0 (omega arith)) (passed_ends s 0 h low (passed_none s)) ∙ ap (λ (v : ℕ). number v 1) value
+    reading_number s 0 (omega arith) h (shortest s 0 (λ more zero. omega arith)) (passed_ends s 0 h low (passed_none s)) ∙ ap (λ (v : ℕ). number v 1) value
   where
     sum : (b : ℕ) → b < 128 → 0 + b % 128 * 1 ≡ b
     sum b l = omega arith

@@ -3,7 +3,6 @@
 use mathlib.Core.Path.{◌≡◌, refl, sym, ap, ◌∙◌}
 use mathlib.Core.Bool.{false, ◌&&◌}
 use mathlib.Core.List.{List}
-use mathlib.Core.Logic.{◌⊎◌, ⊎_elim}
 use Prim.Native.Nat.{ℕ, ◌+◌, ◌-◌, ◌*◌, ◌%◌, ◌^◌, ◌≤◌, ◌<◌}
 use native.Mathlib.Nat.{pow-succ', pow-le-pow_right, mul-le-mul_right, mul_comm, add-mul}
 use native.Mathlib.Numerals.{add-one}
@@ -12,7 +11,7 @@ use lib.Dec.{ltb, eqb}
 use lib.ListN.{length, take, drop, get_or}
 use Rattle.uleb128.specs.Number.{number, cut_off, refused, reading, continuing, sevens}
 use Rattle.uleb128.proofs.NumberLaws.{passed_none, passed_more, passed_ends, passed_all, sevens_more, reading_wide, reading-cut, reading_long}
-use Rattle.uleb128.proofs.NumberLaws.{reading_number, shortest_one, shortest_last}
+use Rattle.uleb128.proofs.NumberLaws.{reading_number, shortest}
 
 -- a digit below 128 on top of a value below the scale
 pub digit_fits : (value scale digit : ℕ) → value < scale → digit < 128 → value + digit * scale < 128 * scale
@@ -74,17 +73,17 @@ module _ (s : List ℕ) (value scale n : ℕ) (p : Passed s value scale n) where
       }
 
   -- the byte here is the last
-  pub passed_value : n < length s → get_or s n 0 < 128 → (n ≤ 0) ⊎ (get_or s n 0 ≡ 0 → ⊥) → reading s ≡ number (value + get_or s n 0 * scale) (n + 1)
+  pub passed_value : n < length s → get_or s n 0 < 128 → (0 < n → get_or s n 0 ≡ 0 → ⊥) → reading s ≡ number (value + get_or s n 0 * scale) (n + 1)
   passed_value here low last =
       let b = get_or s n 0 in
-      let shortest : (ltb 0 n && eqb b 0) ≡ false = ⊎_elim (shortest_one s n) (shortest_last s n) last in
+      let enough : (ltb 0 n && eqb b 0) ≡ false = shortest s n last in
       let same : b % 128 ≡ b = omega arith in
       let sum : sevens (take (n + 1) s) ≡ value + b * scale =
       sevens_more s n here
       ∙ ap (λ (d : ℕ). sevens (take n s) + d * 128 ^ n) same
       ∙ ap (λ (k : ℕ). sevens (take n s) + b * k) (sym p.scaled)
       ∙ ap (λ (v : ℕ). v + b * scale) (sym p.sum) in
-      reading_number s n (omega arith) here shortest (passed_ends s n here low p.high) ∙ ap (λ (v : ℕ). number v (n + 1)) sum
+      reading_number s n (omega arith) here enough (passed_ends s n here low p.high) ∙ ap (λ (v : ℕ). number v (n + 1)) sum
 
   pub passed_long : n < length s → 0 < n → get_or s n 0 ≡ 0 → reading s ≡ refused 12
   passed_long here more last = reading_long s n (omega arith) here more last (passed_ends s n here (omega arith) p.high)

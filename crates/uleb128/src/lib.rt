@@ -29,39 +29,29 @@ pub fn read_number(part: &[u8]) -> Result<Number, NumberFault>
 {
     let mut value: u64 = 0;
     let mut scale: u64 = 1;
-    let mut n = 0;
-    while n < part.len() {
-        let b = part[n] as u64;
+    for (n, &b) in part.iter().enumerate() {
         if b < 128 {
-            if b == 0 {
-                if 0 < n {
-                    return Err(NumberFault::NotShortest);
-                }
+            if b == 0 && 0 < n {
+                return Err(NumberFault::NotShortest);
             }
             return Ok(Number {
-                value: value + b * scale,
+                value: value + b as u64 * scale,
                 used: n + 1,
             });
         }
         if n == 8 {
             return Err(NumberFault::TooWide);
         }
-        value += (b - 128) * scale;
+        value += (b as u64 - 128) * scale;
         scale *= 128;
-        n += 1;
     }
     Err(NumberFault::CutOff)
 }
 
-// How many bytes the shortest form of a number takes.
+// How many bytes the shortest form of a number takes: one for every seven bits, and one for 0.
+#[tactic(auto, using(crate::proofs::EncodingLaws::encoding_sized))]
 pub fn number_length(value: u64) -> usize
     ensures { result ≡ length (encoding value) }
 {
-    let mut rest = value;
-    let mut count: usize = 1;
-    while 128 <= rest {
-        rest /= 128;
-        count += 1;
-    }
-    count
+    value.max(1).ilog2() as usize / 7 + 1
 }

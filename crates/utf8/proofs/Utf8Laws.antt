@@ -3,18 +3,14 @@
 use mathlib.Core.Path.{◌≡◌, refl, sym, ◌∙◌}
 use mathlib.Core.Bool.{Bool, true, false, ◌&&◌, cond, and-eq-true_iff}
 use mathlib.Core.List.{List, [], ◌∷◌, ◌++◌}
-use Prim.Native.Nat.{ℕ, zero, suc, ◌+◌, ◌-◌, ◌≤◌, ◌<◌}
-use native.Mathlib.Numerals.{add-one}
+use Prim.Native.Nat.{ℕ, zero, suc, ◌-◌}
 use native.Mathlib.Omega.{arith}
-use lib.Dec.{leb, eqb}
-use lib.ListN.{length, get_or, drop, drop_of_length-le}
-use lib.Seq.{drop-cons}
-use borrow.Author.Tests.{leb-true, leb-false, le-leb, lt-leb, eqb-true, eq-eqb, ne_eqb}
+use lib.Dec.{leb}
+use borrow.Author.Tests.{leb-true, leb-false, le-leb, lt-leb, eqb-true, ne_eqb}
 use Rattle.byte_range.specs.Range.{In, within}
-use Rattle.byte_range.proofs.RangeLaws.{within⇒in, in⇒within, not_in⇒not_within}
-use Rattle.utf8.specs.declared.Due.{Due}
+use Rattle.byte_range.proofs.RangeLaws.{within⇒in, in⇒within}
 use Rattle.utf8.specs.Utf8.{Tail, Character, UTF8_1, UTF8_2, UTF8_3_e0, UTF8_3_e1, UTF8_3_ed, UTF8_3_ee, UTF8_4_f0, UTF8_4_f1, UTF8_4_f4}
-use Rattle.utf8.specs.Utf8.{Utf8, nothing, more, due, Row, rows, due_by, due_after, utf8_from, is_utf8}
+use Rattle.utf8.specs.Utf8.{Utf8, nothing, more, Due, due, Row, rows, due_by, due_after, utf8_from, is_utf8}
 
 -- ---- limits
 
@@ -49,35 +45,6 @@ due_by-same (r ∷ l) a z b h e =
 pub due_after-same : (a z b : ℕ) → In a z b → sides rows a ≡ sides rows z → due_after a ≡ due_after b
 unfolding due_after
 due_after-same a z b h e = sym (due_by-same rows a z b h e)
-
--- ---- the test as the loop makes it
-
--- the bytes before i are passed: going on from there with what is due gives what the whole gives
-pub record Passed (s : List ℕ) (d : Due) (i : ℕ) : Type 0 where
-  pub same : is_utf8 s ≡ utf8_from d (drop i s)
-
-pub passed_none : (s : List ℕ) → Passed s (due 0 0x80 0xbf) 0
-unfolding is_utf8
-passed_none s = record { same = refl }
-
-module _ {s : List ℕ} {d : Due} {i : ℕ} (p : Passed s d i) where
-  pub passed_all : length s ≤ i → eqb d.count 0 ≡ is_utf8 s
-  unfolding utf8_from
-  passed_all end = rw (p.same, drop_of_length-le s end)
-
-  -- a character begins
-  pub passed_first : i < length s → d.count ≡ 0 → Passed s (due_after (get_or s i 0)) (i + 1)
-  unfolding utf8_from
-  passed_first here z = record { same = rw (p.same, drop-cons s i 0 here, add-one i, eq-eqb d.count 0 z) }
-
-  -- a character goes on, or not as it should
-  pub passed_due : i < length s → (d.count ≡ 0 → ⊥) → In d.low d.high (get_or s i 0) → Passed s (due (d.count - 1) 0x80 0xbf) (i + 1)
-  unfolding utf8_from
-  passed_due here n w = record { same = rw (p.same, drop-cons s i 0 here, add-one i, ne_eqb d.count 0 n, in⇒within _ _ _ w) }
-
-  pub passed_wrong : i < length s → (d.count ≡ 0 → ⊥) → (In d.low d.high (get_or s i 0) → ⊥) → false ≡ is_utf8 s
-  unfolding utf8_from
-  passed_wrong here n w = rw (p.same, drop-cons s i 0 here, ne_eqb d.count 0 n, not_in⇒not_within d.low d.high (get_or s i 0) w)
 
 -- ---- the test and the relation
 

@@ -1,7 +1,6 @@
 -- UTF-8, as RFC 3629 (section 4) has it: no overlong forms, no surrogates, nothing above 10FFFF.
 use Rattle.std.specs.Prelude.{ℕ, ◌-◌, Bool, ◌&&◌, cond, List, [], ◌∷◌, ◌++◌, eqb}
 use Rattle.byte_range.specs.Range.{In, within}
-use Rattle.utf8.specs.declared.Due.{Due}
 
 -- ---- as a relation
 
@@ -28,6 +27,11 @@ pub data Utf8 : List ℕ → Type 0 where
 -- ---- as a test, byte by byte
 
 -- what is due: so many bytes of the character, the first of them from `low` to `high`, the others tails
+pub record Due : Type 0 where
+  pub count : ℕ
+  pub low : ℕ
+  pub high : ℕ
+
 abbrev pub due : (count low high : ℕ) → Due
 due count low high = record { count = count; low = low; high = high }
 

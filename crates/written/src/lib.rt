@@ -3,7 +3,10 @@
 
 ghost use Rattle.std.specs.Prelude.{◌≡◌};
 ghost use Rattle.outcome.specs.Outcome.{refused};
+ghost use Rattle.outcome.specs.Fault.{number};
 ghost use Rattle.written.specs.Written.{written_answer};
+
+use outcome::Fault;
 
 // Number and place of a refusal, both 0 without one, and how many bytes were written.
 #[repr(C)]
@@ -12,6 +15,19 @@ pub struct Written {
     pub number: u64,
     pub place: u64,
     pub length: u64,
+}
+
+// The answer after a fault, which has no place.
+impl From<Fault> for Written {
+    ghost from_gives = { λ fault w. w ≡ written_answer (refused (number fault) 0) };
+
+    fn from(fault: Fault) -> Written {
+        Written {
+            number: fault.number(),
+            place: 0,
+            length: 0,
+        }
+    }
 }
 
 // The answer after a refusal with this number, which has no place.

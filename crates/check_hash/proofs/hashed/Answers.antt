@@ -1,44 +1,50 @@
-use mathlib.Core.Path.{sym, ap, ◌∙◌, subst}
+-- `hashed` meets its contract: a frame more is a block more, and where no frame can be read all blocks are seen.
+use mathlib.Core.Path.{sym, ◌∙◌, subst}
 use native.Mathlib.Omega.{arith}
-use Rattle.framing.specs.Answers.{frame_said}
-use Rattle.framing.proofs.FrameLaws.{frame⇒Framed}
-use Rattle.check_hash.proofs.HashLaws.{Passed, passed_start, passed_end, passed_refused, passed_more}
+use borrow.Author.Tests.{eq-eqb, ne_eqb}
+use Rattle.outcome.specs.Fault.{said_at}
+use Rattle.part.specs.Part.{part}
+use Rattle.block.specs.Block.{is_data}
+use Rattle.framing.proofs.FrameLaws.{Framed, frame⇒Framed}
+use Rattle.check_hash.proofs.HashLaws.{Passed, passed_start, passed_over, passed_more}
+use Rattle.check_hash.proofs.hashed.Goals.{In-Ok, then-frame-eq0, else-frame-eq0}
 use Rattle.check_hash.proofs.hashed.Goals as goal
 
-pub loop-at-init : goal.loop-at-init
-loop-at-init c =
+framed : (c : In-Ok) → Framed c.args.file.now c.loop-frame.at c.in-Ok.frame
+unfolding said_at
+framed c = frame⇒Framed c.args.file.now c.loop-frame.at c.in-Ok.frame (sym c.in-Ok.ensures)
+
+pub loop-frame-init : goal.loop-frame-init
+loop-frame-init c =
     subst (Passed c.args.file.now c.args.from c.args.from) (sym c.begin-state.ensures) (passed_start c.args.file.now c.args.from)
 
-pub returns-in-Refused : goal.returns-in-Refused
-unfolding frame_said
-returns-in-Refused c =
-    passed_refused c.args.file.now c.args.from _ _ c.loop-at.invariant c.loop-at-test.true _ _ (sym c.frame_at-found.ensures ∙ ap (frame_said
-    c.loop-at.at) c.in-Refused.is)
+pub overflow_add-frame : goal.overflow_add-frame
+overflow_add-frame c = let f = framed (goal.at.overflow_add-frame c).In-Ok in omega (arith, f.some, f.sized, f.within)
 
-pub passed-next-requires : goal.passed-next-requires
-unfolding frame_said
-passed-next-requires c =
-    let f = frame⇒Framed c.args.file.now c.loop-at.at _ (sym c.frame_at-found.ensures ∙ ap (frame_said c.loop-at.at) c.in-Answer.is)
-    in let some = f.some in let sized = f.sized in let within = f.within in (some, omega arith)
+pub slice_bounds-absorb-count : goal.slice_bounds-absorb-count
+slice_bounds-absorb-count c = let f = framed (goal.at.slice_bounds-absorb-count c).In-Ok in omega (arith, f.some)
+
+pub slice_bounds-absorb-start : goal.slice_bounds-absorb-start
+slice_bounds-absorb-start c = let f = framed (goal.at.slice_bounds-absorb-start c).In-Ok in omega (arith, f.some, f.sized, f.within)
+
+pub slice_bounds-absorb-end : goal.slice_bounds-absorb-end
+slice_bounds-absorb-end c = let f = framed (goal.at.slice_bounds-absorb-end c).In-Ok in omega (arith, f.some, f.sized, f.within)
 
 pub overflow_add-at : goal.overflow_add-at
-unfolding frame_said
-overflow_add-at c =
-    let f = frame⇒Framed c.args.file.now c.loop-at.at _ (sym c.frame_at-found.ensures ∙ ap (frame_said c.loop-at.at) c.in-Answer.is) in let
-    within = f.within in omega (arith, c.well_formed)
+overflow_add-at c = let f = framed (goal.at.overflow_add-at c).In-Ok in omega (arith, f.sized, f.within, c.well_formed)
 
-pub loop-at-smaller : goal.loop-at-smaller
-unfolding frame_said
-loop-at-smaller c =
-    let f = frame⇒Framed c.args.file.now c.loop-at.at _ (sym c.frame_at-found.ensures ∙ ap (frame_said c.loop-at.at) c.in-Answer.is) in let
-    number = f.number in let some = f.some in let sized = f.sized in omega arith
+pub loop-frame-smaller : goal.loop-frame-smaller
+loop-frame-smaller c = let f = framed (goal.at.loop-frame-smaller c).In-Ok in omega (arith, f.number, f.some, f.sized, f.within)
 
-pub loop-at-preserved : goal.loop-at-preserved
-unfolding frame_said
-loop-at-preserved c =
-    passed_more c.args.file.now c.args.from _ _ c.loop-at.invariant c.loop-at-test.true _ (sym c.frame_at-found.ensures ∙ ap (frame_said c.loop-at.at)
-    c.in-Answer.is) _ c.passed-next.ensures
+pub loop-frame-preserved : goal.loop-frame-preserved
+unfolding said_at is_data part
+loop-frame-preserved c =
+    passed_more c.args.file.now c.args.from c.loop-frame.at c.loop-frame.state c.loop-frame.invariant c.in-Ok.frame (sym c.in-Ok.ensures) _
+    (elim c.if-frame-eq0.branch [
+      | then-frame-eq0 w ↦ rw (eq-eqb _ _ w.if-frame-eq0.true) (w.state-is ∙ w.absorb-state.ensures)
+      | else-frame-eq0 w ↦ rw (ne_eqb _ _ w.if-frame-eq0.false) w.state-is
+    ])
 
 pub returns : goal.returns
-returns c =
-    passed_end c.args.file.now c.args.from _ _ c.loop-at.invariant c.loop-at-test.false
+unfolding said_at
+returns c = passed_over c.args.file.now c.args.from c.loop-frame.at c.loop-frame.state c.loop-frame.invariant _ _ (sym c.in_default.ensures)

@@ -4,8 +4,8 @@ use lib.ListN.{length}
 use Rattle.check_hash.proofs.HashLaws.{Passed}
 use Rattle.check_hash.proofs.hashed.Given as goal
 
-abbrev pub invariant-loop-at : goal.invariant-loop-at
-invariant-loop-at l = Passed l.file l.from l.at l.state
+abbrev pub invariant-loop-frame : goal.invariant-loop-frame
+invariant-loop-frame l = Passed l.file l.from l.at l.state
 
-abbrev pub decreases-loop-at : goal.decreases-loop-at
-decreases-loop-at l = length l.file - l.at
+abbrev pub decreases-loop-frame : goal.decreases-loop-frame
+decreases-loop-frame l = length l.file - l.at

@@ -1,36 +1,33 @@
+use Prim.Native.Nat.{◌-◌}
 use native.Mathlib.Omega.{arith}
-use Rattle.encoder.proofs.PutLaws.{putting_none, putting_more, putting_last, putting_full, putting_within}
+use mathlib.Core.Path.{◌≡◌}
+use Rattle.uleb128.proofs.EncodingLaws.{encoding_some}
+use Rattle.encoder.proofs.PutLaws.{putting_none, putting_more, putting_last, putting_full}
 use Rattle.encoder.proofs.put_number.Goals as goal
 
 pub returns-then-output-at : goal.returns-then-output-at
 returns-then-output-at c = putting_full _ _ _ (omega arith)
 
-pub returns-then-output-at-2 : goal.returns-then-output-at-2
-returns-then-output-at-2 c =
-    putting_full _ _ _ (omega arith)
+pub overflow_sub-last : goal.overflow_sub-last
+overflow_sub-last c = omega (arith, encoding_some c.args.value)
 
-pub loop-rest-init : goal.loop-rest-init
-loop-rest-init c =
-    putting_none _ _ _ (omega arith) (omega arith)
+pub loop-i-init : goal.loop-i-init
+loop-i-init c = putting_none _ _ _ (omega arith) (omega arith)
 
-pub overflow_add-output-in-loop-rest : goal.overflow_add-output-in-loop-rest
-overflow_add-output-in-loop-rest c = omega arith
+pub loop-i-preserved : goal.loop-i-preserved
+loop-i-preserved c = putting_more _ _ _ _ _ _ (omega arith) c.loop-i.invariant
 
-pub bounds-output-at : goal.bounds-output-at
-bounds-output-at c = putting_within _ _ _ _ _ _ c.loop-rest.invariant
-
-pub overflow_add-i : goal.overflow_add-i
-overflow_add-i c = omega arith
-
-pub loop-rest-preserved : goal.loop-rest-preserved
-loop-rest-preserved c = putting_more _ _ _ _ _ _ (omega arith) c.loop-rest.invariant
-
-pub overflow_add-output-2 : goal.overflow_add-output-2
-overflow_add-output-2 c = omega arith
+pub overflow_cast-output-2 : goal.overflow_cast-output-2
+overflow_cast-output-2 c =
+    let some = encoding_some c.args.value in
+    let last = putting_last _ _ _ _ _ _ (omega arith) c.loop-i.invariant in omega (arith, last.0)
 
 pub bounds-output-at-2 : goal.bounds-output-at-2
-bounds-output-at-2 c = putting_within _ _ _ _ _ _ c.loop-rest.invariant
+bounds-output-at-2 c = omega (arith, encoding_some c.args.value)
 
 pub returns : goal.returns
 returns c =
-    rw c.number_length-length.ensures (putting_last _ _ _ _ _ _ (omega arith) c.loop-rest.invariant)
+    let some = encoding_some c.args.value in
+    let at_last : c.number_length-length.result - 1 ≡ c.loop-i.i = omega arith in
+    let last = putting_last _ _ _ _ _ _ (omega arith) c.loop-i.invariant in
+    rw (at_last, c.number_length-length.ensures) (last.1, last.2)

@@ -2,8 +2,5 @@
 use Rattle.encoder.proofs.PutLaws.{Putting}
 use Rattle.encoder.proofs.put_number.Given as goal
 
-abbrev pub invariant-loop-rest : goal.invariant-loop-rest
-invariant-loop-rest l = Putting l.initial.output l.at l.value l.output l.rest l.i
-
-abbrev pub decreases-loop-rest : goal.decreases-loop-rest
-decreases-loop-rest l = l.rest
+abbrev pub invariant-loop-i : goal.invariant-loop-i
+invariant-loop-i l = Putting l.initial.output l.at l.value l.output l.rest l.i

@@ -1,16 +1,15 @@
 -- `counts_fit` meets its contract. Assumes nothing.
-use native.Mathlib.Omega.{arith}
-use Rattle.file_encoder.proofs.CountsLaws.{counts_block_low, counts_block_high, counts_index_low, counts_asked}
+use mathlib.Core.Path.{◌∙◌}
+use Rattle.file_encoder.proofs.CountsLaws.{in_range, counts_block, counts_index}
 use Rattle.file_encoder.proofs.counts_fit.Goals as goal
 
-pub returns-then-per_block-lt1 : goal.returns-then-per_block-lt1
-returns-then-per_block-lt1 c = counts_block_low _ _ (omega arith)
+pub returns-then-contains : goal.returns-then-contains
+returns-then-contains c =
+    counts_index _ _ (in_range 1 65535 _ c.if-contains.ensures.value c.new.ensures.start c.new.ensures.end c.new.ensures.exhausted)
+    (in_range 2 65535 _ c.contains-then-contains.ensures.value c.new-then-contains.ensures.start c.new-then-contains.ensures.end
+    c.new-then-contains.ensures.exhausted)
 
-pub returns-then-per_block-gt65535 : goal.returns-then-per_block-gt65535
-returns-then-per_block-gt65535 c = counts_block_high _ _ (omega arith) (omega arith)
-
-pub returns-then-per_index-lt2 : goal.returns-then-per_index-lt2
-returns-then-per_index-lt2 c = counts_index_low _ _ (omega arith) (omega arith) (omega arith)
-
-pub returns : goal.returns
-returns c = counts_asked _ _ (omega arith) (omega arith) (omega arith)
+pub returns-else-contains : goal.returns-else-contains
+returns-else-contains c =
+    c.if-contains.false ∙ counts_block _ _ (in_range 1 65535 _ c.if-contains.ensures.value c.new.ensures.start c.new.ensures.end
+    c.new.ensures.exhausted)

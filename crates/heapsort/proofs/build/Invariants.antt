@@ -1,4 +1,4 @@
--- `heapsort::build` meets its contract. The loop's invariant: the slots from `start` on are a heap. The measure is `start`.
+-- `heapsort::build` meets its contract. The loop's invariant: the slots from `start` on are a heap.
 -- Assumes nothing.
 use mathlib.Core.Path.{◌≡◌}
 use lib.ListN.{length}
@@ -8,7 +8,4 @@ use Rattle.slots.specs.Slots.{slots}
 use Rattle.heapsort.proofs.build.Given as goal
 
 abbrev pub invariant-loop-start : goal.invariant-loop-start
-invariant-loop-start l = (Building (record_at l.x l.dump) l.n (slots 8 l.initial.s) (slots 8 l.s) l.start) × (length l.s ≡ length l.initial.s)
-
-abbrev pub decreases-loop-start : goal.decreases-loop-start
-decreases-loop-start l = l.start
+invariant-loop-start l = (Building (record_at l.dump.name_length l.dump.bytes.now) l.n (slots 8 l.initial.s) (slots 8 l.s) l.start) × (length l.s ≡ length l.initial.s)

@@ -1,4 +1,3 @@
-use Prim.Native.Nat.{◌-◌}
 use native.Mathlib.Omega.{arith}
 use mathlib.Core.Path.{refl, ◌∙◌}
 use Rattle.heapsort.proofs.HeapsortLaws.{sifting_start, sifting_last, sifting_stop, sifting_more}

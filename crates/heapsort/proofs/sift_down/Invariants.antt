@@ -9,7 +9,9 @@ use Rattle.slots.specs.Slots.{slots}
 use Rattle.heapsort.proofs.sift_down.Given as goal
 
 abbrev pub invariant-loop-hole : goal.invariant-loop-hole
-invariant-loop-hole l = (Sifting (record_at l.x l.dump) l.start l.end (slots 8 l.initial.s) (slots 8 l.s) l.hole) × (length l.s ≡ length l.initial.s)
+invariant-loop-hole l =
+    Sifting (record_at l.dump.name_length l.dump.bytes.now) l.start l.end (slots 8 l.initial.s) (slots 8 l.s) l.hole
+    × (length l.s ≡ length l.initial.s)
 
 abbrev pub decreases-loop-hole : goal.decreases-loop-hole
 decreases-loop-hole l = l.end - l.hole

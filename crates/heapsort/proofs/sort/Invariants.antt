@@ -1,5 +1,4 @@
 -- `heapsort::sort` meets its contract. The loop's invariant: the slots before `end` are a heap, and each after them is at least all before it.
--- The measure is `end`.
 -- Assumes nothing.
 use mathlib.Core.Path.{◌≡◌}
 use lib.ListN.{length}
@@ -9,7 +8,4 @@ use Rattle.slots.specs.Slots.{slots}
 use Rattle.heapsort.proofs.sort.Given as goal
 
 abbrev pub invariant-loop-end : goal.invariant-loop-end
-invariant-loop-end l = (Taking (record_at l.x l.dump) (slots 8 l.initial.s) (slots 8 l.s) l.end) × (length l.s ≡ length l.initial.s)
-
-abbrev pub decreases-loop-end : goal.decreases-loop-end
-decreases-loop-end l = l.end
+invariant-loop-end l = (Taking (record_at l.dump.name_length l.dump.bytes.now) (slots 8 l.initial.s) (slots 8 l.s) l.end) × (length l.s ≡ length l.initial.s)

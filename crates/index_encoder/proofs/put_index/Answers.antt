@@ -1,18 +1,19 @@
 -- `put_index` meets its contract: after a refusal the output is cleared from `to` on. Assumes nothing.
-use native.Mathlib.Omega.{arith}
-use Rattle.index_encoder.proofs.RaiseLaws.{index_put, index_cleared, index_short}
+use Rattle.index_encoder.proofs.RaiseLaws.{index_cleared, index_left}
 use Rattle.index_encoder.proofs.put_index.Goals as goal
 
-pub returns-then-output-to : goal.returns-then-output-to
-returns-then-output-to c = let both = (index_short c.args.output.now _ c.args.from c.args.to _ _ _ c.in-Refused.is
-    (c.raise-raised.ensures.result_value, c.raise-raised.ensures.index_put) c.raise-raised.auto.output (omega arith)) in
-    record { result_value = both.0; output_after = both.1 }
+pub returns-then-to-output : goal.returns-then-to-output
+returns-then-to-output c =
+    record {
+      result_value = c.raise-raised.ensures.result_value;
+      output_after = index_cleared c.args.output.now _ c.args.from c.args.to _ c.raise-raised.auto.output _
+          (c.raise-raised.ensures.result_value, c.raise-raised.ensures.index_put) c.if-is_err.ensures.value c.clear.ensures;
+    }
 
-pub returns-in-Answer : goal.returns-in-Answer
-returns-in-Answer c = let both = (index_put c.args.output.now _ c.args.from c.args.to _ _ _ c.in-Answer.is
-    (c.raise-raised.ensures.result_value, c.raise-raised.ensures.index_put)) in record { result_value = both.0; output_after = both.1 }
-
-pub returns-else-output-to : goal.returns-else-output-to
-returns-else-output-to c = let both = (index_cleared c.args.output.now _ c.args.from c.args.to _ _ _ c.in-Refused.is
-    (c.raise-raised.ensures.result_value, c.raise-raised.ensures.index_put) c.raise-raised.auto.output
-    c.clear.ensures) in record { result_value = both.0; output_after = both.1 }
+pub returns-else-is_err : goal.returns-else-is_err
+returns-else-is_err c =
+    record {
+      result_value = c.raise-raised.ensures.result_value;
+      output_after = index_left c.args.output.now _ c.args.from c.args.to _ c.raise-raised.auto.output _
+          (c.raise-raised.ensures.result_value, c.raise-raised.ensures.index_put) c.is_err.ensures.value c.else-is_err.either;
+    }

@@ -4,45 +4,40 @@ use Rattle.index_encoder.specs.Level.{LevelPut}
 use Rattle.index_encoder.proofs.LevelsLaws.{raising_none, raising_requires, raising_refused, raising_nothing, raising_root, raising_more, raising_ends}
 use Rattle.index_encoder.proofs.put_levels.Goals as goal
 
-pub loop-end-init : goal.loop-end-init
-loop-end-init c = raising_none _ _ _ _ c.requires.0 c.requires.2 c.requires.1
+pub loop-put-init : goal.loop-put-init
+loop-put-init c = raising_none _ _ _ _ c.requires.0 c.requires.2 c.requires.1
 
-pub put_level-put-requires : goal.put_level-put-requires
-put_level-put-requires c =
-    raising_requires _ _ _ _ c.requires.0 c.requires.2 _ _ _ _ c.loop-end.invariant
+pub put_level-requires : goal.put_level-requires
+put_level-requires c =
+    raising_requires _ _ _ _ c.requires.0 c.requires.2 _ _ _ _ c.loop-put.invariant
 
-pub returns-in_default : goal.returns-in_default
-returns-in_default c =
-    raising_refused _ _ _ _ c.requires.0 c.requires.2 _ _ _ _ c.loop-end.invariant _
-    (subst (LevelPut _ _ _ _) c.in_default.is c.put_level-put.ensures)
+pub returns-in_err-put : goal.returns-in_err-put
+returns-in_err-put c =
+    raising_refused _ _ _ _ c.requires.0 c.requires.2 _ _ _ _ c.loop-put.invariant _ _ c.put_level.ensures
+    c.in_err-put.ensures.ok_part c.in_err-put.ensures.value _ c.from_residual.ensures.1
 
-pub returns-then-blocks-eq0 : goal.returns-then-blocks-eq0
-returns-then-blocks-eq0 c =
-    raising_nothing _ _ _ _ c.requires.0 c.requires.2 _ _ _ _ c.loop-end.invariant _ _ _
-    (subst (LevelPut _ _ _ _) c.in-Answer.is c.put_level-put.ensures)
-    (omega arith)
+pub returns-in-0 : goal.returns-in-0
+returns-in-0 c =
+    raising_nothing _ _ _ _ c.requires.0 c.requires.2 _ _ _ _ c.loop-put.invariant _ _
+    (subst (LevelPut _ _ _ _) c.in_ok-put.ensures.ok_part c.put_level.ensures) c.in-0.is
 
 pub overflow_sub-result : goal.overflow_sub-result
 overflow_sub-result c =
-    let ends = raising_ends _ _ _ _ c.requires.0 c.requires.2 _ _ _ _ c.loop-end.invariant _ _ _ (subst (LevelPut _ _ _ _) c.in-Answer.is
-    c.put_level-put.ensures) in omega arith
+    raising_ends _ _ _ _ c.requires.0 c.requires.2 _ _ _ _ c.loop-put.invariant _ _
+    (subst (LevelPut _ _ _ _) c.in_ok-put.ensures.ok_part c.put_level.ensures)
 
-pub returns-then-blocks-eq1 : goal.returns-then-blocks-eq1
-returns-then-blocks-eq1 c =
-    raising_root _ _ _ _ c.requires.0 c.requires.2 _ _ _ _ c.loop-end.invariant _ _ _
-    (subst (LevelPut _ _ _ _) c.in-Answer.is c.put_level-put.ensures) (omega
-    arith)
+pub returns-in-1 : goal.returns-in-1
+returns-in-1 c =
+    raising_root _ _ _ _ c.requires.0 c.requires.2 _ _ _ _ c.loop-put.invariant _ _
+    (subst (LevelPut _ _ _ _) c.in_ok-put.ensures.ok_part c.put_level.ensures) c.in-1.is
 
 pub overflow_add-level : goal.overflow_add-level
-overflow_add-level c =
-    let low = c.loop-end.invariant.low in omega arith
+overflow_add-level c = let low = c.loop-put.invariant.low in omega arith
 
-pub loop-end-smaller : goal.loop-end-smaller
-loop-end-smaller c =
-    let low = c.loop-end.invariant.low in omega arith
+pub loop-put-smaller : goal.loop-put-smaller
+loop-put-smaller c = let low = c.loop-put.invariant.low in omega arith
 
-pub loop-end-preserved : goal.loop-end-preserved
-loop-end-preserved c =
-    raising_more _ _ _ _ c.requires.0 c.requires.2 _ _ _ _ c.loop-end.invariant _ _ _
-    (subst (LevelPut _ _ _ _) c.in-Answer.is c.put_level-put.ensures) (omega
-    arith)
+pub loop-put-preserved : goal.loop-put-preserved
+loop-put-preserved c =
+    raising_more _ _ _ _ c.requires.0 c.requires.2 _ _ _ _ c.loop-put.invariant _ _
+    (subst (LevelPut _ _ _ _) c.in_ok-put.ensures.ok_part c.put_level.ensures) (omega arith)

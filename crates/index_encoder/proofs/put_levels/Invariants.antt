@@ -3,8 +3,8 @@ use Prim.Native.Nat.{◌-◌}
 use Rattle.index_encoder.proofs.LevelsLaws.{Raising}
 use Rattle.index_encoder.proofs.put_levels.Given as goal
 
-abbrev pub invariant-loop-end : goal.invariant-loop-end
-invariant-loop-end l = Raising l.initial.output l.per_index l.from l.to l.output l.level l.a l.b
+abbrev pub invariant-loop-put : goal.invariant-loop-put
+invariant-loop-put l = Raising l.initial.output l.per_index l.from l.to l.output l.level l.a l.b
 
-abbrev pub decreases-loop-end : goal.decreases-loop-end
-decreases-loop-end l = 32 - l.level
+abbrev pub decreases-loop-put : goal.decreases-loop-put
+decreases-loop-put l = 32 - l.level

@@ -1,66 +1,54 @@
+-- `collect_records` meets its contract: each way on is one law of `RecordsLaws`. Assumes nothing.
 use mathlib.Core.Path.{sym, ap, ◌∙◌}
-use Prim.Native.Nat.{◌-◌}
+use Prim.Native.Nat.{◌+◌, ◌<◌, ◌≤◌}
 use native.Mathlib.Omega.{arith}
+use lib.ListN.{length}
 use Rattle.payload.specs.Answers.{text_said}
+use Rattle.query.specs.Asked.{asked}
+use Rattle.query.specs.Query.{matches}
 use Rattle.matching.proofs.CollectLaws.{collected_start}
-use Rattle.matching.proofs.RecordsLaws.{text_bounds, records_kept, records_passed, records_end, records_refused}
+use Rattle.matching.proofs.RecordsLaws.{text_bounds, records_kept, records_passed, records_end}
 use Rattle.matching.proofs.collect_records.Goals as goal
+use Rattle.matching.proofs.collect_records.Goals.{In-Ok}
 
-pub loop-at-init : goal.loop-at-init
-loop-at-init c = collected_start _ _ _ _ _ _
+pub loop-text-init : goal.loop-text-init
+loop-text-init c = collected_start _ _ _ _ _ _
 
-pub returns-in-Refused : goal.returns-in-Refused
+-- where the record that was read lies
+placed : (c : In-Ok) → (c.loop-text.at < c.in-Ok.text.offset) × (c.in-Ok.text.offset + c.in-Ok.text.length ≤ length c.args.s.now)
 unfolding text_said
-returns-in-Refused c place =
-    records_refused _ _ _ _ _ _ c.loop-at.invariant c.loop-at-test.true place _ (sym (c.text_at-step.ensures place) ∙ ap (text_said place c.args.s.now)
-    c.in-Refused.is)
+placed c = text_bounds 0 c.args.s.now c.loop-text.at _ _ (sym (c.in-Ok.ensures 0))
 
-pub overflow_add-end : goal.overflow_add-end
-unfolding text_said
-overflow_add-end c =
-    let b = text_bounds 0 c.args.s.now c.loop-at.at _ _ (sym (c.text_at-step.ensures 0) ∙ ap (text_said 0 c.args.s.now) c.in-Answer.is) in
-    let forward = b.0 in let within = b.1 in omega (arith, c.well_formed)
+pub end-at-requires : goal.end-at-requires
+end-at-requires c = let b = placed (goal.at.end-at-requires c).In-Ok in omega (arith, c.well_formed)
 
-pub slice_bounds-matches-end : goal.slice_bounds-matches-end
-unfolding text_said
-slice_bounds-matches-end c =
-    let b = text_bounds 0 c.args.s.now c.loop-at.at _ _ (sym (c.text_at-step.ensures 0) ∙ ap (text_said 0 c.args.s.now) c.in-Answer.is) in
-    let forward = b.0 in let within = b.1 in omega (arith, c.well_formed)
+pub of-requires : goal.of-requires
+of-requires c = (placed (goal.at.of-requires c).In-Ok).1
 
 pub put_match-requires : goal.put_match-requires
-unfolding text_said
-put_match-requires c =
-    let b = text_bounds 0 c.args.s.now c.loop-at.at _ _ (sym (c.text_at-step.ensures 0) ∙ ap (text_said 0 c.args.s.now) c.in-Answer.is) in
-    let forward = b.0 in let within = b.1 in (omega arith, omega arith)
+put_match-requires c = let b = placed (goal.at.put_match-requires c).In-Ok in (omega arith, omega arith)
 
 pub overflow_add-found : goal.overflow_add-found
-overflow_add-found c =
-    omega arith
+overflow_add-found c = let b = placed (goal.at.overflow_add-found c).In-Ok in let few = c.loop-text.invariant.few in omega arith
 
-pub loop-at-smaller-then-matches : goal.loop-at-smaller-then-matches
-unfolding text_said
-loop-at-smaller-then-matches c =
-    let b = text_bounds 0 c.args.s.now c.loop-at.at _ _ (sym (c.text_at-step.ensures 0) ∙ ap (text_said 0 c.args.s.now) c.in-Answer.is) in
-    let forward = b.0 in let within = b.1 in omega arith
+pub loop-text-smaller-then-matches : goal.loop-text-smaller-then-matches
+loop-text-smaller-then-matches c = let b = placed (goal.at.loop-text-smaller-then-matches c).In-Ok in let is = c.end-at.ensures in omega arith
 
-pub loop-at-preserved-then-matches : goal.loop-at-preserved-then-matches
+pub loop-text-preserved-then-matches : goal.loop-text-preserved-then-matches
 unfolding text_said
-loop-at-preserved-then-matches c =
-    records_kept _ _ _ _ _ _ c.loop-at.invariant c.loop-at-test.true _ _
-    (λ place. (sym (c.text_at-step.ensures place) ∙ ap (text_said place c.args.s.now) c.in-Answer.is))
-    (sym c.matches.ensures ∙ c.if-matches.true) _ c.put_match.ensures
+loop-text-preserved-then-matches c =
+    rw c.end-at.ensures (records_kept _ _ _ _ _ _ c.loop-text.invariant _ _ (λ place. sym (c.in-Ok.ensures place))
+    (ap (matches (asked c.args.query)) (sym c.of.ensures.result_value) ∙ sym c.matches.ensures ∙ c.if-matches.true) _ c.put_match.ensures)
 
-pub loop-at-smaller : goal.loop-at-smaller
-unfolding text_said
-loop-at-smaller c =
-    let b = text_bounds 0 c.args.s.now c.loop-at.at _ _ (sym (c.text_at-step.ensures 0) ∙ ap (text_said 0 c.args.s.now) c.in-Answer.is) in
-    let forward = b.0 in let within = b.1 in omega arith
+pub loop-text-smaller : goal.loop-text-smaller
+loop-text-smaller c = let b = placed (goal.at.loop-text-smaller c).In-Ok in let is = c.end-at.ensures in omega arith
 
-pub loop-at-preserved : goal.loop-at-preserved
+pub loop-text-preserved : goal.loop-text-preserved
 unfolding text_said
-loop-at-preserved c =
-    records_passed _ _ _ _ _ _ c.loop-at.invariant c.loop-at-test.true _ _
-    (λ place. (sym (c.text_at-step.ensures place) ∙ ap (text_said place c.args.s.now) c.in-Answer.is)) (sym c.matches.ensures ∙ c.if-matches.false)
+loop-text-preserved c =
+    rw c.end-at.ensures (records_passed _ _ _ _ _ _ c.loop-text.invariant _ _ (λ place. sym (c.in-Ok.ensures place))
+    (ap (matches (asked c.args.query)) (sym c.of.ensures.result_value) ∙ sym c.matches.ensures ∙ c.if-matches.false))
 
 pub returns : goal.returns
-returns c place = records_end _ _ _ _ _ _ c.loop-at.invariant c.loop-at-test.false place
+unfolding text_said
+returns c place = records_end _ _ _ _ _ _ c.loop-text.invariant place _ (sym (c.in_default.ensures place))

@@ -2,13 +2,13 @@
 -- Assumes nothing.
 use Prim.Native.Nat.{◌-◌}
 use lib.ListN.{length}
-use Rattle.query.specs.Query.{query_of}
+use Rattle.query.specs.Asked.{asked}
 use Rattle.matching.proofs.RecordsLaws.{RecordsCollected}
 use Rattle.matching.proofs.collect_records.Given as goal
 
-abbrev pub invariant-loop-at : goal.invariant-loop-at
-invariant-loop-at l = RecordsCollected l.s l.from (query_of l.start l.stop_given l.stop l.prefix)
+abbrev pub invariant-loop-text : goal.invariant-loop-text
+invariant-loop-text l = RecordsCollected l.s l.from (asked l.query)
     (record { count = l.count; list = l.initial.results }) l.at (record { count = l.found; list = l.results })
 
-abbrev pub decreases-loop-at : goal.decreases-loop-at
-decreases-loop-at l = length l.s - l.at
+abbrev pub decreases-loop-text : goal.decreases-loop-text
+decreases-loop-text l = length l.s - l.at

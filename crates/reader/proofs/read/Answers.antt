@@ -1,32 +1,39 @@
--- `read` meets its contract: the header, then the blocks, over a list that was cleared. Assumes nothing.
-use mathlib.Core.Path.{sym, ap, ◌∙◌}
+-- `read` meets its contract: over a list that was cleared, and that is cleared again after a refusal. Assumes nothing.
+use mathlib.Core.Path.{ap, ◌∙◌}
+use Prim.Native.Nat.{ℕ}
 use lib.ListN.{length}
-use Rattle.header.specs.Header.{header_said}
-use Rattle.header.proofs.HeaderLaws.{is_header, blocks_within}
-use Rattle.query.specs.Query.{query_of}
-use Rattle.reader.proofs.ReadLaws.{told_refusal, header_refuses, still_zeros, read_after}
+use Rattle.output_list.specs.OutputList.{zeros}
+use Rattle.outcome.specs.Fault.{said}
+use Rattle.query.specs.Asked.{asked}
+use Rattle.reader.specs.Read.{read_of, read_answer, read_list, counted}
+use Rattle.reader.proofs.ReadLaws.{told_count, told_refusal, still_zeros, still_long}
 use Rattle.reader.proofs.read.Goals as goal
 
-pub read_blocks-requires : goal.read_blocks-requires
-unfolding header_said
-read_blocks-requires c =
-    let accepted = sym c.read-made.ensures ∙ ap header_said c.in-Answer.is in (
-      (is_header c.args.file.now _ accepted).small,
-      blocks_within c.args.file.now _ accepted,
-      still_zeros c.args.results.now _
-          c.clear.ensures,
-    )
+pub read_file-requires : goal.read_file-requires
+read_file-requires c = still_zeros c.args.results.now _ c.clear.ensures
 
-pub returns-in-Refused : goal.returns-in-Refused
-unfolding header_said
-returns-in-Refused c = let both = (told_refusal _ _ _ _ (header_refuses c.args.file.now
-    (query_of c.args.start.now c.args.stop_given c.args.stop.now c.args.prefix.now) (length c.args.results.now) _ _
-    (sym c.read-made.ensures ∙ ap header_said c.in-Refused.is)) _ _ c.refusal.ensures
-    c.clear.ensures) in record { value = both.0; results_after = both.1 }
+pub returns-in-Ok-clause-value : goal.returns-in-Ok-clause-value
+unfolding said
+returns-in-Ok-clause-value c =
+    told_count _ _ c.in-Ok.ensures.value
+    ∙ ap (λ (n : ℕ). read_answer (read_of c.args.file.now (asked c.args.query) n)) (still_long c.args.results.now _ c.clear.ensures)
 
-pub returns-in-Answer : goal.returns-in-Answer
-unfolding header_said
-returns-in-Answer c = let both = (read_after c.args.results.now _ c.clear.ensures c.args.file.now
-    (query_of c.args.start.now c.args.stop_given c.args.stop.now c.args.prefix.now) _
-    (sym c.read-made.ensures ∙ ap header_said c.in-Answer.is) _ _ (c.read_blocks.ensures.value, c.read_blocks.ensures.results_after)) in
-    record { value = both.0; results_after = both.1 }
+pub returns-in-Ok-clause-results_after : goal.returns-in-Ok-clause-results_after
+returns-in-Ok-clause-results_after c =
+    c.in-Ok.ensures.results_after
+    ∙ ap (λ (n : ℕ). read_list n (read_of c.args.file.now (asked c.args.query) n)) (still_long c.args.results.now _ c.clear.ensures)
+
+pub returns-in-Err-clause-value : goal.returns-in-Err-clause-value
+unfolding said
+returns-in-Err-clause-value c =
+    c.into.ensures
+    ∙ (told_refusal 0 _ _ c.in-Err.ensures.value).0
+    ∙ ap (λ (n : ℕ). read_answer (read_of c.args.file.now (asked c.args.query) n)) (still_long c.args.results.now _ c.clear.ensures)
+
+pub returns-in-Err-clause-results_after : goal.returns-in-Err-clause-results_after
+unfolding said
+returns-in-Err-clause-results_after c =
+    c.clear-in-Err.ensures
+    ∙ ap zeros (c.read_file.auto.results ∙ still_long c.args.results.now _ c.clear.ensures)
+    ∙ (told_refusal (length c.args.results.now) _ _ (c.in-Err.ensures.value
+    ∙ ap (λ (n : ℕ). counted (read_of c.args.file.now (asked c.args.query) n)) (still_long c.args.results.now _ c.clear.ensures))).1

@@ -8,5 +8,5 @@ use Rattle.slots.proofs.load.Goals as goal
 pub returns-then-k-s : goal.returns-then-k-s
 returns-then-k-s c = c.le64_at.ensures ∙ get_or_slots _ _ _ (omega arith)
 
-pub returns : goal.returns
-returns c = get_or_slots_none _ _ _ (omega arith)
+pub returns-else-k-s : goal.returns-else-k-s
+returns-else-k-s c = get_or_slots_none _ _ _ (omega arith)

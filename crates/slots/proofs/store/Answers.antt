@@ -9,4 +9,4 @@ returns-then-s-k c = slots_store_none _ _ _ _ (omega arith)
 
 pub returns : goal.returns
 returns c =
-    slots_store _ _ _ _ _ _ _ (omega arith) (omega arith) c.ranges.value.fits c.le64_bytes-bytes.ensures c.put.ensures.1
+    slots_store _ _ _ _ _ _ _ (omega arith) (omega arith) c.ranges.value.fits c.le64_bytes.ensures c.put.ensures.1

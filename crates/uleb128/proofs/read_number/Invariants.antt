@@ -1,12 +1,7 @@
 -- `read_number` meets its contract. The loop's invariant: the n bytes passed are from 80 hex up, and value and scale are
 -- what they stand for. Assumes nothing.
-use Prim.Native.Nat.{◌-◌}
-use lib.ListN.{length}
 use Rattle.uleb128.proofs.PassedLaws.{Passed}
 use Rattle.uleb128.proofs.read_number.Given as goal
 
 abbrev pub invariant-loop-n : goal.invariant-loop-n
 invariant-loop-n l = Passed l.part l.value l.scale l.n
-
-abbrev pub decreases-loop-n : goal.decreases-loop-n
-decreases-loop-n l = length l.part - l.n

@@ -1,25 +1,24 @@
 -- `block_at` meets its contract: the frame, then the block in it. Assumes nothing.
 use mathlib.Core.Path.{sym, ap, ◌∙◌}
 use Prim.Native.Nat.{ℕ}
-use Rattle.framing.specs.Answers.{frame_said}
+use Rattle.outcome.proofs.ResultLaws.{fault_on}
+use Rattle.outcome.specs.Fault.{said_at}
 use Rattle.framing.proofs.FrameLaws.{frame_bounds, frame_start}
-use Rattle.block.specs.Answers.{block_said}
 use Rattle.block.proofs.BlockLaws.{block_framed, block_unframed}
 use Rattle.block.proofs.pass.block_at.Goals as goal
 
+pub returns-in_err-frame : goal.returns-in_err-frame
+unfolding said_at
+returns-in_err-frame c =
+    fault_on _ _ _ c.from_residual.ensures.1 ∙ sym (block_unframed c.args.file.now c.args.at _ _ (sym c.in_err-frame.ensures))
+
 pub block_in-requires : goal.block_in-requires
-unfolding frame_said
-block_in-requires c =
-    frame_bounds c.args.file.now c.args.at _ (sym c.sound_frame_at-found.ensures ∙ ap (frame_said c.args.at) c.in-Answer.is)
+unfolding said_at
+block_in-requires c = frame_bounds c.args.file.now c.args.at _ (sym c.in_ok-frame.ensures)
 
-pub returns-in-Refused : goal.returns-in-Refused
-unfolding frame_said block_said
-returns-in-Refused c =
-    sym (block_unframed c.args.file.now c.args.at _ _ (sym c.sound_frame_at-found.ensures ∙ ap (frame_said c.args.at)
-    c.in-Refused.is))
-
-pub returns-in-Answer : goal.returns-in-Answer
-unfolding frame_said
-returns-in-Answer c =
-    let e = (sym c.sound_frame_at-found.ensures ∙ ap (frame_said c.args.at) c.in-Answer.is) in block_framed c.args.file.now c.args.at _ _ e
-    (ap (λ (p : ℕ). block_said p c.block_in.result) (sym (frame_start c.args.file.now c.args.at _ e)) ∙ c.block_in.ensures)
+pub returns : goal.returns
+unfolding said_at
+returns c =
+    let e = sym c.in_ok-frame.ensures in
+    block_framed c.args.file.now c.args.at _ _ e
+    (ap (λ (p : ℕ). said_at p c.block_in.result) (sym (frame_start c.args.file.now c.args.at _ e)) ∙ c.block_in.ensures)

@@ -1,20 +1,30 @@
 use mathlib.Core.Path.{sym, ◌∙◌}
+use borrow.Author.Tests.{eq-eqb, ne_eqb}
+use Rattle.outcome.specs.Fault.{number, said}
 use Rattle.check_names.proofs.CountLaws.{counting_start, counting_more, counting_broken, counting_end}
+use Rattle.check_names.proofs.names.count_names.Goals.{then-start-root, else-start-root}
 use Rattle.check_names.proofs.names.count_names.Goals as goal
 
-pub loop-i-init : goal.loop-i-init
-loop-i-init c = counting_start _ _ _
+pub loop-word-init : goal.loop-word-init
+loop-word-init c = counting_start c.args.work.now c.args.root
 
-pub returns-then-work-i : goal.returns-then-work-i
-returns-then-work-i c =
-    λ file first k. counting_broken c.args.work.now c.args.n c.args.root c.loop-i.i c.loop-i.invariant c.loop-i-test.true file first k (λ e.
-    c.if-work-i.true (e ∙ sym c.wanted.ensures))
+pub returns-then-word-wanted : goal.returns-then-word-wanted
+unfolding said number
+returns-then-word-wanted c file first k =
+    counting_broken c.args.work.now c.args.root c.loop-word.word-index c.loop-word.invariant c.loop-word-test.true file first k
+    (λ e. c.if-word-wanted.true (e ∙ sym (elim c.if-start-root.branch [
+      | then-start-root w ↦ rw (eq-eqb _ _ w.if-start-root.true) w.wanted-is
+      | else-start-root w ↦ rw (ne_eqb _ _ w.if-start-root.false) w.wanted-is
+    ])))
 
-pub loop-i-preserved : goal.loop-i-preserved
-loop-i-preserved c =
-    counting_more c.args.work.now c.args.n c.args.root c.loop-i.i c.loop-i.invariant c.loop-i-test.true (c.if-work-i.false ∙
-    c.wanted.ensures)
+pub loop-word-preserved : goal.loop-word-preserved
+loop-word-preserved c =
+    counting_more c.args.work.now c.args.root c.loop-word.word-index c.loop-word.invariant c.loop-word-test.true
+    (c.if-word-wanted.false ∙ elim c.if-start-root.branch [
+      | then-start-root w ↦ rw (eq-eqb _ _ w.if-start-root.true) w.wanted-is
+      | else-start-root w ↦ rw (ne_eqb _ _ w.if-start-root.false) w.wanted-is
+    ])
 
 pub returns : goal.returns
-returns c =
-    counting_end c.args.work.now c.args.n c.args.root c.loop-i.i c.loop-i.invariant c.loop-i-test.false
+unfolding said
+returns c = counting_end c.args.work.now c.args.root c.loop-word.word-index c.loop-word.invariant c.loop-word-test.false

@@ -4,8 +4,8 @@ use Prim.Native.Nat.{◌-◌}
 use Rattle.check_names.proofs.EntriesLaws.{Marked}
 use Rattle.check_names.proofs.names.name_entries.Given as goal
 
-abbrev pub invariant-loop-at : goal.invariant-loop-at
-invariant-loop-at l = Marked l.file l.level l.from l.end l.initial.work l.n l.work l.at
+abbrev pub invariant-loop-step : goal.invariant-loop-step
+invariant-loop-step l = Marked l.file l.frame l.initial.work l.work l.at
 
-abbrev pub decreases-loop-at : goal.decreases-loop-at
-decreases-loop-at l = l.end - l.at
+abbrev pub decreases-loop-step : goal.decreases-loop-step
+decreases-loop-step l = l.frame.end - l.at

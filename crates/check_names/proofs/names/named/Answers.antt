@@ -1,38 +1,34 @@
--- `named` meets its contract: the search finds the block, and its frame tells size and level. Assumes nothing.
-use mathlib.Core.Path.{sym, ap, ◌∙◌}
-use Rattle.framing.specs.Answers.{frame_said}
+-- `named` meets its contract: the search finds the block, and its frame tells size and level.
+use Rattle.payload.specs.Answers.{entry_in}
 use Rattle.check_names.proofs.EntryLaws.{named_none, named_framed, named_unfit, named_fit}
+use Rattle.check_names.proofs.names.named.Goals.{else-frame-entry-via-then-frame-entry+else-frame-level, else-frame-entry-via-else-frame-entry}
 use Rattle.check_names.proofs.names.named.Goals as goal
 
-pub returns-then-n-i : goal.returns-then-n-i
-returns-then-n-i c =
-    λ from seen key k. named_none c.args.file.now from seen c.args.work.now c.args.n k _ c.args.level
-    c.find-i.result c.find-i.ensures c.if-n-i.true
+pub returns-in_err-i-clause-value : goal.returns-in_err-i-clause-value
+unfolding entry_in
+returns-in_err-i-clause-value c from seen s k =
+    rw c.from_residual.ensures
+    (named_none c.args.file.now from seen c.args.work.now k (entry_in s c.args.entry) c.args.level c.in_err-i.ensures.located)
 
-pub returns-then-f-size : goal.returns-then-f-size
-unfolding frame_said
-returns-then-f-size c =
-    λ from seen key k. named_unfit c.args.file.now from seen c.args.work.now c.args.n k _ c.args.level c.find-i.result
-    c.find-i.ensures c.if-n-i.false _ (sym c.frame_at-frame.ensures ∙ ap (frame_said c.args.offset) c.in-Answer.is)
-    (λ size lower. c.if-f-size.true size)
+pub returns-in_err-frame-clause-value : goal.returns-in_err-frame-clause-value
+unfolding entry_in
+returns-in_err-frame-clause-value c from seen s k =
+    absurd (named_framed c.args.file.now from seen c.args.work.now k (entry_in s c.args.entry) c.args.level c.in_ok-i.i c.in_ok-i.ensures.inside
+    c.in_ok-i.ensures.located c.frame_at.result c.in_err-frame.ensures.value c.frame_at.ensures)
 
-pub returns-then-f-level : goal.returns-then-f-level
-unfolding frame_said
-returns-then-f-level c =
-    λ from seen key k. named_unfit c.args.file.now from seen c.args.work.now c.args.n k _ c.args.level c.find-i.result
-    c.find-i.ensures c.if-n-i.false _ (sym c.frame_at-frame.ensures ∙ ap (frame_said c.args.offset) c.in-Answer.is)
-    (λ size lower. c.if-f-level.true lower)
+pub returns-then-frame-level-clause-value : goal.returns-then-frame-level-clause-value
+unfolding entry_in
+returns-then-frame-level-clause-value c from seen s k =
+    named_fit c.args.file.now from seen c.args.work.now k (entry_in s c.args.entry) c.args.level c.in_ok-i.i c.in_ok-i.ensures.inside
+    c.in_ok-i.ensures.located c.frame_at.result c.in_ok-frame.frame c.in_ok-frame.ensures.value c.frame_at.ensures
+    c.if-frame-entry.true c.if-frame-level.true
 
-pub returns-in-Refused : goal.returns-in-Refused
-unfolding frame_said
-returns-in-Refused c =
-    λ from seen key k. absurd (named_framed c.args.file.now from seen c.args.work.now c.args.n k
-    (record { key = key; offset = c.args.offset; size = c.args.size }) c.args.level c.find-i.result c.find-i.ensures c.if-n-i.false _ _
-    (sym c.frame_at-frame.ensures ∙ ap (frame_said c.args.offset) c.in-Refused.is))
-
-pub returns-else-f-level : goal.returns-else-f-level
-unfolding frame_said
-returns-else-f-level c =
-    λ from seen key k. named_fit c.args.file.now from seen c.args.work.now c.args.n k _ c.args.level c.find-i.result
-    c.find-i.ensures c.if-n-i.false _ (sym c.frame_at-frame.ensures ∙ ap
-    (frame_said c.args.offset) c.in-Answer.is) c.if-f-size.false c.if-f-level.false
+pub returns-else-frame-entry-clause-value : goal.returns-else-frame-entry-clause-value
+unfolding entry_in
+returns-else-frame-entry-clause-value c from seen s k =
+    named_unfit c.args.file.now from seen c.args.work.now k (entry_in s c.args.entry) c.args.level c.in_ok-i.i c.in_ok-i.ensures.inside
+    c.in_ok-i.ensures.located c.frame_at.result c.in_ok-frame.frame c.in_ok-frame.ensures.value c.frame_at.ensures
+    (λ size lower. elim c.else-frame-entry.branch [
+      | else-frame-entry-via-then-frame-entry+else-frame-level w ↦ w.if-frame-level.false lower
+      | else-frame-entry-via-else-frame-entry w ↦ w.if-frame-entry.false size
+    ])

@@ -5,8 +5,8 @@ use lib.ListN.{length}
 use Rattle.check_names.proofs.HopLaws.{Hopped}
 use Rattle.check_names.proofs.starts.fill.Given as goal
 
-abbrev pub invariant-loop-at : goal.invariant-loop-at
-invariant-loop-at l = Hopped l.file l.from l.initial.work l.work l.at l.count
+abbrev pub invariant-loop-frame : goal.invariant-loop-frame
+invariant-loop-frame l = Hopped l.file l.from l.initial.work l.work l.at l.count
 
-abbrev pub decreases-loop-at : goal.decreases-loop-at
-decreases-loop-at l = length l.file - l.at
+abbrev pub decreases-loop-frame : goal.decreases-loop-frame
+decreases-loop-frame l = length l.file - l.at

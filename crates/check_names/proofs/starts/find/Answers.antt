@@ -1,25 +1,12 @@
-use native.Mathlib.Omega.{arith}
-use Rattle.check_names.specs.Starts.{start_at}
-use Rattle.check_names.proofs.SearchLaws.{bracket_start, bracket_up, bracket_down, bracket_found, bracket_none}
+-- `find` meets its contract: what the binary search says of words whose starts rise.
+use Prim.Native.Nat.{◌%◌, ◌^◌}
+use borrow.Author.Rules.{rules}
+use Rattle.std.proofs.lemmas.List.Sorted.{answers_always}
+use Rattle.check_names.proofs.SearchLaws.{located}
 use Rattle.check_names.proofs.starts.find.Goals as goal
 
-pub loop-low-init : goal.loop-low-init
-loop-low-init c = bracket_start _ _ _
-
-pub returns-then-start-target : goal.returns-then-start-target
-unfolding start_at
-returns-then-start-target c =
-    λ rise. bracket_found _ _ _ _ _ c.loop-low.invariant _ (omega arith) c.if-start-target.true
-
-pub loop-low-preserved-then-start-target-2 : goal.loop-low-preserved-then-start-target-2
-unfolding start_at
-loop-low-preserved-then-start-target-2 c =
-    bracket_up _ _ _ _ _ c.loop-low.invariant _ (omega arith) (omega arith) c.if-start-target-2.true
-
-pub loop-low-preserved : goal.loop-low-preserved
-unfolding start_at
-loop-low-preserved c =
-    bracket_down _ _ _ _ _ c.loop-low.invariant _ (omega arith) (omega arith) (omega arith)
-
-pub returns : goal.returns
-returns c = λ rise. bracket_none _ _ _ _ _ c.loop-low.invariant c.loop-low-test.false rise
+pub returns-clause-located : goal.returns-clause-located
+returns-clause-located c =
+    rw c.ok.ensures.value
+    (located c.args.work.now c.args.start c.binary_search_by_key.result (c.binary_search_by_key.ensures.position (λ word. word % 2 ^ 30)
+    (answers_always _ _ _ (λ f word r later k. search rules))))

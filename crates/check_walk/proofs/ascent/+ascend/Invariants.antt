@@ -1,5 +1,5 @@
 -- What the recursion of `ascend` goes by: the level. The loop's invariant: going on from here gives what the whole walk gives.
-use Rattle.std.proofs.Common.{◌-◌, take}
+use Rattle.std.proofs.Common.{◌-◌, length}
 use Rattle.payload.specs.Payload.{entry_at}
 use Rattle.items.proofs.GoingLaws.{Going}
 use Rattle.check_walk.specs.Ascent.{ascent_over, ascent_of}
@@ -8,10 +8,10 @@ use Rattle.check_walk.proofs.ascent.+ascend.Given as goal
 abbrev pub decreases-ascend : goal.decreases-ascend
 decreases-ascend l = l.level
 
-abbrev pub invariant-loop-place : goal.invariant-loop-place
-invariant-loop-place l =
-    Going (ascent_over (ascent_of l.file (l.level - 1))) (entry_at l.at (take l.end l.file)) l.end
+abbrev pub invariant-loop-step : goal.invariant-loop-step
+invariant-loop-step l =
+    Going (ascent_over (ascent_of l.file (l.level - 1))) (entry_at l.at l.entries) (length l.entries)
     (ascent_of l.file l.level l.at l.least) l.place l.low
 
-abbrev pub decreases-loop-place : goal.decreases-loop-place
-decreases-loop-place l = l.end - l.place
+abbrev pub decreases-loop-step : goal.decreases-loop-step
+decreases-loop-step l = length l.entries - l.place

@@ -1,14 +1,10 @@
--- `earlier` meets its contract by its two tests. Assumes nothing.
-use Rattle.check_walk.proofs.KeyLaws.{earlier_none, earlier-less, earlier_kept}
+-- `earlier` meets its contract by its test. Assumes nothing.
+use mathlib.Core.Path.{◌∙◌}
+use Rattle.check_walk.proofs.KeyLaws.{earlier_none, earlier_some}
 use Rattle.check_walk.proofs.keys.earlier.Goals as goal
 
 pub returns-then-m-eq0 : goal.returns-then-m-eq0
 returns-then-m-eq0 c = earlier_none c.args.m c.args.at c.if-m-eq0.true
 
-pub returns-then-at-m : goal.returns-then-at-m
-returns-then-at-m c =
-    earlier-less c.args.m c.args.at c.if-m-eq0.false c.if-at-m.true
-
-pub returns : goal.returns
-returns c =
-    earlier_kept c.args.m c.args.at c.if-m-eq0.false c.if-at-m.false
+pub returns-else-m-eq0 : goal.returns-else-m-eq0
+returns-else-m-eq0 c = c.min.ensures ∙ earlier_some c.args.m c.args.at c.if-m-eq0.false

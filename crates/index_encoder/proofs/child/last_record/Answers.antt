@@ -1,45 +1,31 @@
 use mathlib.Core.Path.{sym, ap, ◌∙◌}
 use native.Mathlib.Omega.{arith}
-use borrow.Author.Rules.{rules}
+use Rattle.payload.specs.Payload.{text_at}
 use Rattle.payload.specs.Answers.{text_said}
 use Rattle.index_encoder.specs.Children.{Within}
-use Rattle.index_encoder.proofs.LastRecordLaws.{passing_start, passing_end, passing_refused, passing_forward, passing_more}
+use Rattle.index_encoder.proofs.LastRecordLaws.{passing_start, passing_refused, passing_forward, passing_more}
 use Rattle.index_encoder.proofs.child.last_record.Goals as goal
 
-pub overflow_add-at : goal.overflow_add-at
+pub loop-next-init : goal.loop-next-init
+loop-next-init c = passing_start _ _ c.requires
+
+pub end-requires : goal.end-requires
 unfolding Within
-overflow_add-at c = search rules
+end-requires c = let within = c.loop-next.invariant.within in omega (arith, c.well_formed)
 
-pub loop-at-init : goal.loop-at-init
-loop-at-init c =
-    passing_start _ _ c.requires
-
-pub returns-in-Refused : goal.returns-in-Refused
+pub loop-next-smaller : goal.loop-next-smaller
 unfolding text_said
-returns-in-Refused c = let both = (passing_refused _ _ _ _ c.loop-at.invariant c.loop-at-test.true _ _
-    (sym (c.text_at-step.ensures 0) ∙ ap (text_said 0 _) c.in-Refused.is)) in record { result_value = both.0; within = both.1 }
+loop-next-smaller c =
+    let forward = passing_forward _ _ _ c.loop-next.invariant _
+    (ap (text_at 0 c.args.s.now) (sym c.end.ensures) ∙ sym (c.in-Ok.ensures 0)) in omega arith
 
-pub overflow_add-at-in-Answer : goal.overflow_add-at-in-Answer
+pub loop-next-preserved : goal.loop-next-preserved
 unfolding text_said
-overflow_add-at-in-Answer c =
-    omega (
-      arith,
-      c.well_formed,
-      (passing_forward _ _ _ _ c.loop-at.invariant c.loop-at-test.true _ (sym (c.text_at-step.ensures 0) ∙ ap (text_said 0 _)
-          c.in-Answer.is)).1,
-    )
-
-pub loop-at-smaller : goal.loop-at-smaller
-unfolding text_said
-loop-at-smaller c =
-    let before = c.loop-at-test.true in let forward = passing_forward _ _ _ _ c.loop-at.invariant c.loop-at-test.true _
-    (sym (c.text_at-step.ensures 0) ∙ ap
-    (text_said 0 _) c.in-Answer.is) in omega (arith, forward.0, forward.1)
-
-pub loop-at-preserved : goal.loop-at-preserved
-unfolding text_said
-loop-at-preserved c =
-    passing_more _ _ _ _ c.loop-at.invariant c.loop-at-test.true _ (sym (c.text_at-step.ensures 0) ∙ ap (text_said 0 _) c.in-Answer.is)
+loop-next-preserved c =
+    passing_more _ _ _ c.loop-next.invariant _ (ap (text_at 0 c.args.s.now) (sym c.end.ensures) ∙ sym (c.in-Ok.ensures 0))
 
 pub returns : goal.returns
-returns c = let both = (passing_end _ _ _ _ c.loop-at.invariant c.loop-at-test.false) in record { result_value = both.0; within = both.1 }
+unfolding text_said
+returns c =
+    let both = passing_refused _ _ _ c.loop-next.invariant _ _
+    (ap (text_at 0 c.args.s.now) (sym c.end.ensures) ∙ sym (c.in_default.ensures 0)) in record { result_value = both.0; within = both.1 }

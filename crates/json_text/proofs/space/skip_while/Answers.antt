@@ -1,17 +1,15 @@
-use mathlib.Core.Path.{refl, sym, ◌∙◌}
-use Rattle.json_text.proofs.PositionLaws.{skip_end, skip_stop, skip_more}
+-- Each byte that is passed, or at which it stops, is one case of the definition. Assumes nothing.
+use Rattle.std.proofs.Common.{◌∙◌}
+use Rattle.json_text.proofs.FrontLaws.{skip_none, skip_stop, skip_more}
 use Rattle.json_text.proofs.space.skip_while.Goals as goal
 
-pub loop-at-init : goal.loop-at-init
-loop-at-init c = refl
+pub returns-then-not-test : goal.returns-then-not-test
+returns-then-not-test g c = λ p said.
+    skip_stop p _ c.in-len1-up.len_at_least (said _ _ c.if-not-test.ensures) ∙ c.loop-rest.invariant p said
 
-pub returns-then-not-is_of : goal.returns-then-not-is_of
-returns-then-not-is_of c =
-    skip_stop _ _ _ c.loop-at-test.true (sym c.is_of.ensures ∙ c.if-not-is_of.true) ∙ c.loop-at.invariant
-
-pub loop-at-preserved : goal.loop-at-preserved
-loop-at-preserved c =
-    skip_more _ _ _ c.loop-at-test.true (sym c.is_of.ensures ∙ c.if-not-is_of.false) ∙ c.loop-at.invariant
+pub loop-rest-preserved : goal.loop-rest-preserved
+loop-rest-preserved g c = λ p said.
+    skip_more p _ c.in-len1-up.len_at_least (said _ _ c.if-not-test.ensures) ∙ c.loop-rest.invariant p said
 
 pub returns : goal.returns
-returns c = skip_end _ _ _ c.loop-at-test.false ∙ c.loop-at.invariant
+returns g c = λ p said. skip_none p _ c.in_default.len_below ∙ c.loop-rest.invariant p said

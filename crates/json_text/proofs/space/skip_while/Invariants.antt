@@ -1,14 +1,11 @@
--- `skip_while` meets its contract. The loop's invariant: going on from here gives what the whole gives. The measure is what is left.
--- Assumes nothing.
-use Prim.Native.Nat.{◌-◌}
-use mathlib.Core.Path.{◌≡◌}
-use lib.ListN.{length, drop}
+-- The loop's invariant: going on from here gives what the whole gives. The measure is what is left.
+use Rattle.std.proofs.Common.{◌≡◌, ℕ, Bool, length}
 use Rattle.json_grammar.specs.Recogniser.{skip_while}
-use Rattle.json_text.specs.Answers.{is_of}
 use Rattle.json_text.proofs.space.skip_while.Given as goal
 
-abbrev pub invariant-loop-at : goal.invariant-loop-at
-invariant-loop-at l = skip_while (is_of l.kind) (drop l.at l.s) ≡ skip_while (is_of l.kind) (drop l.from l.s)
+abbrev pub invariant-loop-rest : goal.invariant-loop-rest
+invariant-loop-rest g l =
+    (p : ℕ → Bool) → ((b : ℕ) (r : Bool) → goal.F-post g l.test b r → r ≡ p b) → skip_while p l.rest ≡ skip_while p l.fn.s
 
-abbrev pub decreases-loop-at : goal.decreases-loop-at
-decreases-loop-at l = length l.s - l.at
+abbrev pub decreases-loop-rest : goal.decreases-loop-rest
+decreases-loop-rest g l = length l.rest

@@ -1,13 +1,10 @@
--- `chars` meets its contract. The loop's invariant: going on from here gives what the whole gives. The measure is what is left.
--- Assumes nothing.
-use Prim.Native.Nat.{◌-◌}
-use mathlib.Core.Path.{◌≡◌}
-use lib.ListN.{length, drop}
+-- The loop's invariant: going on from here gives what the whole gives. The measure is what is left.
+use Rattle.std.proofs.Common.{◌≡◌, length}
 use Rattle.json_grammar.specs.Recogniser.{chars_end}
 use Rattle.json_text.proofs.string.chars.Given as goal
 
-abbrev pub invariant-loop-at : goal.invariant-loop-at
-invariant-loop-at l = chars_end l.due (drop l.at l.s) ≡ chars_end 0 (drop l.from l.s)
+abbrev pub invariant-loop-rest : goal.invariant-loop-rest
+invariant-loop-rest l = chars_end 0 l.rest ≡ chars_end 0 l.fn.s
 
-abbrev pub decreases-loop-at : goal.decreases-loop-at
-decreases-loop-at l = length l.s - l.at
+abbrev pub decreases-loop-rest : goal.decreases-loop-rest
+decreases-loop-rest l = length l.rest

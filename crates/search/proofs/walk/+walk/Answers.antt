@@ -1,6 +1,5 @@
-use Prim.Native.Nat.{◌-◌}
 use native.Mathlib.Omega.{arith}
-use borrow.Fn.PlainCycle.{is}
+use Rattle.outcome.proofs.ResultLaws.{err_on}
 use Rattle.search.proofs.OnwardLaws.{onward_start, onward_index, onward_end}
 use Rattle.search.proofs.StepLaws.{told_within, onward_passed, onward_unopened, child_place, child_asks, onward_stopped, onward_more}
 use Rattle.search.proofs.walk.+walk.Goals as goal
@@ -17,69 +16,71 @@ pub overflow_add-at : goal.overflow_add-at
 overflow_add-at t c =
     let some = c.requires.frame.body in let within = c.requires.frame.end in let small = c.requires.small in omega arith
 
-pub loop-child-init : goal.loop-child-init
-loop-child-init t c =
+pub loop-entry-init : goal.loop-entry-init
+loop-entry-init t c =
     onward_start _ c.requires c.if-f-eq0.false
 
-pub child_at-entry-requires : goal.child_at-entry-requires
-child_at-entry-requires t c = onward_index c.loop-child.invariant
+pub child_at-requires : goal.child_at-requires
+child_at-requires t c = onward_index c.loop-entry.invariant
 
-pub returns-in_default : goal.returns-in_default
-returns-in_default t c =
-    onward_end c.loop-child.invariant c.child_at-entry.ensures.child_said c.in_default.is
+pub returns : goal.returns
+returns t c =
+    onward_end c.loop-entry.invariant c.child_at.ensures.child_said c.in_default.is
 
 pub admits-requires : goal.admits-requires
 admits-requires t c =
-    let within = told_within c.in-Answer.is c.child_at-entry.ensures.child_stays in (within.key, within.upper)
+    let within = told_within c.in-Some.is c.child_at.ensures.child_stays in (within.key, within.upper)
 
-pub loop-child-smaller-then-not-admits : goal.loop-child-smaller-then-not-admits
-loop-child-smaller-then-not-admits t c =
-    let within = told_within c.in-Answer.is c.child_at-entry.ensures.child_stays in let forward = within.forward in let before = within.before in
-    omega arith
-
-pub loop-child-preserved-then-not-admits : goal.loop-child-preserved-then-not-admits
-loop-child-preserved-then-not-admits t c =
-    onward_passed c.loop-child.invariant c.child_at-entry.ensures.child_said c.in-Answer.is c.child_at-entry.ensures.child_stays c.admits.ensures
-    c.if-not-admits.true
-
-pub returns-in-Refused : goal.returns-in-Refused
-returns-in-Refused t c =
-    onward_unopened c.loop-child.invariant c.child_at-entry.ensures.child_said c.in-Answer.is c.child_at-entry.ensures.child_stays
-    c.admits.ensures c.if-not-admits.false
-    c.open_block-opening.ensures.result_value c.open_block-opening.ensures.opened_after c.in-Refused.is
+pub returns-in_err-c : goal.returns-in_err-c
+returns-in_err-c t c =
+    rw (err_on _ _ c.from_residual.ensures.1)
+    (onward_unopened c.loop-entry.invariant c.child_at.ensures.child_said c.in-Some.is c.child_at.ensures.child_stays
+    c.admits.ensures c.if-admits.true
+    c.open_block.ensures.result_value c.open_block.ensures.opened_after c.in_err-c.was)
 
 pub overflow_add-so_far : goal.overflow_add-so_far
 overflow_add-so_far t c =
-    let few = child_place c.loop-child.invariant c.child_at-entry.ensures.child_said c.in-Answer.is c.child_at-entry.ensures.child_stays
-    c.admits.ensures c.if-not-admits.false c.open_block-opening.ensures.result_value c.open_block-opening.ensures.opened_after
-    c.in-Answer-opening.is in omega (arith, c.well_formed)
+    let few = child_place c.loop-entry.invariant c.child_at.ensures.child_said c.in-Some.is c.child_at.ensures.child_stays
+    c.admits.ensures c.if-admits.true c.open_block.ensures.result_value c.open_block.ensures.opened_after
+    c.in_ok-c.was in omega (arith, c.well_formed)
 
-pub walk-reached-requires : goal.walk-reached-requires
-walk-reached-requires t c =
-    let asks = child_asks c.loop-child.invariant c.child_at-entry.ensures.child_said c.in-Answer.is c.child_at-entry.ensures.child_stays
+pub walk-requires : goal.walk-requires
+walk-requires t c =
+    let asks = child_asks c.loop-entry.invariant c.child_at.ensures.child_said c.in-Some.is c.child_at.ensures.child_stays
     c.admits.ensures
-    c.if-not-admits.false c.open_block-opening.ensures.result_value c.open_block-opening.ensures.opened_after c.in-Answer-opening.is in
+    c.if-admits.true c.open_block.ensures.result_value c.open_block.ensures.opened_after c.in_ok-c.was in
     let less = asks.0 in (
       omega arith,
       asks.1,
     )
 
-pub returns-in_default-reached : goal.returns-in_default-reached
-returns-in_default-reached t c =
-    onward_stopped c.loop-child.invariant c.child_at-entry.ensures.child_said c.in-Answer.is c.child_at-entry.ensures.child_stays
-    c.admits.ensures c.if-not-admits.false
-    c.open_block-opening.ensures.result_value c.open_block-opening.ensures.opened_after c.in-Answer-opening.is c.walk-reached.ensures
-    c.in_default-reached.is
+pub returns-in_err-so_far : goal.returns-in_err-so_far
+returns-in_err-so_far t c =
+    rw (err_on _ _ c.from_residual-in_err-so_far.ensures.1, ← c.in_err-so_far.was)
+    (onward_stopped c.loop-entry.invariant c.child_at.ensures.child_said c.in-Some.is c.child_at.ensures.child_stays
+    c.admits.ensures c.if-admits.true
+    c.open_block.ensures.result_value c.open_block.ensures.opened_after c.in_ok-c.was c.walk.ensures
+    c.in_err-so_far.was)
 
-pub loop-child-smaller : goal.loop-child-smaller
-loop-child-smaller t c =
-    let within = told_within c.in-Answer.is c.child_at-entry.ensures.child_stays in let forward = within.forward in let before = within.before in
+pub loop-entry-smaller-then-admits : goal.loop-entry-smaller-then-admits
+loop-entry-smaller-then-admits t c =
+    let within = told_within c.in-Some.is c.child_at.ensures.child_stays in let forward = within.forward in let before = within.before in
     omega arith
 
-pub loop-child-preserved : goal.loop-child-preserved
-loop-child-preserved t c =
-    onward_more c.loop-child.invariant c.child_at-entry.ensures.child_said c.in-Answer.is c.child_at-entry.ensures.child_stays c.admits.ensures
-    c.if-not-admits.false
-    c.open_block-opening.ensures.result_value c.open_block-opening.ensures.opened_after c.in-Answer-opening.is c.walk-reached.ensures
-    c.in-Answer-reached.is
-    c.walk-reached.auto.opened c.walk-reached.auto.results
+pub loop-entry-preserved-then-admits : goal.loop-entry-preserved-then-admits
+loop-entry-preserved-then-admits t c =
+    onward_more c.loop-entry.invariant c.child_at.ensures.child_said c.in-Some.is c.child_at.ensures.child_stays c.admits.ensures
+    c.if-admits.true
+    c.open_block.ensures.result_value c.open_block.ensures.opened_after c.in_ok-c.was c.walk.ensures
+    c.in_ok-so_far.was
+    c.walk.auto.opened c.walk.auto.results
+
+pub loop-entry-smaller : goal.loop-entry-smaller
+loop-entry-smaller t c =
+    let within = told_within c.in-Some.is c.child_at.ensures.child_stays in let forward = within.forward in let before = within.before in
+    omega arith
+
+pub loop-entry-preserved : goal.loop-entry-preserved
+loop-entry-preserved t c =
+    onward_passed c.loop-entry.invariant c.child_at.ensures.child_said c.in-Some.is c.child_at.ensures.child_stays c.admits.ensures
+    c.if-admits.false

@@ -3,7 +3,8 @@
 use mathlib.Core.Path.{sym, ◌∙◌}
 use native.Mathlib.Omega.{arith}
 use lib.Seq.{length-take-le}
-use Rattle.query.specs.Query.{query_of}
+use Rattle.query.specs.Asked.{asked}
+use Rattle.outcome.specs.Fault.{at_front}
 use Rattle.matching.proofs.ResultListLaws.{room_for_some}
 use Rattle.search.proofs.FindLaws.{find_overflow, find_fit}
 use Rattle.search.proofs.walk.find.Goals as goal
@@ -18,11 +19,12 @@ collect_records-found-requires c =
     let room = c.requires.fits in let few = room_for_some c.args.p.found in (omega (arith, c.well_formed), omega arith)
 
 pub returns-then-not-has_room : goal.returns-then-not-has_room
+unfolding at_front
 returns-then-not-has_room c opened_list from above used =
-    find_overflow (query_of c.args.start.now c.args.stop_given c.args.stop.now c.args.prefix.now) c.args.results.now c.requires
-    c.collect_records-found.ensures opened_list from above used (sym c.has_room.ensures ∙ c.if-not-has_room.true)
+    rw c.into.ensures (find_overflow (asked c.args.query) c.args.results.now c.requires
+    c.collect_records-found.ensures opened_list from above used (sym c.has_room.ensures ∙ c.if-not-has_room.true))
 
 pub returns : goal.returns
 returns c opened_list from above used =
-    find_fit (query_of c.args.start.now c.args.stop_given c.args.stop.now c.args.prefix.now) c.args.results.now c.requires
+    find_fit (asked c.args.query) c.args.results.now c.requires
     c.collect_records-found.ensures opened_list from above used (sym c.has_room.ensures ∙ c.if-not-has_room.false)

@@ -8,7 +8,7 @@ use Rattle.sim_import.proofs.RecordLaws.{Placed}
 use Rattle.sim_import.proofs.records.put_offsets.Given as goal
 
 abbrev pub invariant-loop-at : goal.invariant-loop-at
-invariant-loop-at l = (length l.s ≡ length l.initial.s) × Placed l.x l.dump (slots 8 l.initial.s) (slots 8 l.s) l.k l.at
+invariant-loop-at l = (length l.s ≡ length l.initial.s) × Placed l.dump.name_length l.dump.bytes.now (slots 8 l.initial.s) (slots 8 l.s) l.k l.at
 
 abbrev pub decreases-loop-at : goal.decreases-loop-at
-decreases-loop-at l = length l.dump - l.at
+decreases-loop-at l = l.at-end - l.at

@@ -1,0 +1,40 @@
+-- `read_file` meets its contract: each way out is one law of `ReadLaws`. Assumes nothing.
+use mathlib.Core.Path.{sym, ◌∙◌}
+use Rattle.outcome.specs.Fault.{number, said_at, said, at_front}
+use Rattle.header.specs.Header.{blocks_from}
+use Rattle.header.proofs.HeaderLaws.{is_header}
+use Rattle.query.specs.Asked.{asked}
+use Rattle.outcome.proofs.ResultLaws.{refusal_on, front_on}
+use Rattle.reader.proofs.ReadLaws.{header_stops, read_refused, read_overflow, read_fit}
+use Rattle.reader.proofs.read_file.Goals as goal
+
+pub returns-in_err-header-clause-value : goal.returns-in_err-header-clause-value
+unfolding said_at
+returns-in_err-header-clause-value c =
+    front_on _ _ c.from_residual.ensures.1 ∙ header_stops c.args.file.now (asked c.args.query) _ _ _ (sym c.in_err-header.ensures)
+
+pub returns-in_err-survey-clause-value : goal.returns-in_err-survey-clause-value
+unfolding said said_at blocks_from
+returns-in_err-survey-clause-value c =
+    refusal_on _ _ c.from_residual-in_err-survey.ensures.1
+    ∙ read_refused c.args.file.now (asked c.args.query) _ _ (sym c.in_ok-header.ensures) _ _ (sym c.in_err-survey.ensures)
+
+pub collect-found-requires : goal.collect-found-requires
+unfolding said_at
+collect-found-requires c = (is_header c.args.file.now _ (sym c.in_ok-header.ensures)).small
+
+pub returns-then-not-has_room-clause-value : goal.returns-then-not-has_room-clause-value
+unfolding number said said_at at_front blocks_from
+returns-then-not-has_room-clause-value c =
+    rw c.into.ensures (read_overflow c.args.file.now (asked c.args.query) _ _ (sym c.in_ok-header.ensures) c.args.results.now c.requires _ _
+    c.collect-found.ensures _ (sym c.in_ok-survey.ensures) (sym c.has_room.ensures ∙ c.if-not-has_room.true))
+
+pub returns-clause-value : goal.returns-clause-value
+unfolding said said_at blocks_from
+returns-clause-value c = (read_fit c.args.file.now (asked c.args.query) _ _ (sym c.in_ok-header.ensures) c.args.results.now c.requires _ _
+    c.collect-found.ensures _ (sym c.in_ok-survey.ensures) (sym c.has_room.ensures ∙ c.if-not-has_room.false)).0
+
+pub returns-clause-results_after : goal.returns-clause-results_after
+unfolding said said_at blocks_from
+returns-clause-results_after c = (read_fit c.args.file.now (asked c.args.query) _ _ (sym c.in_ok-header.ensures) c.args.results.now c.requires _ _
+    c.collect-found.ensures _ (sym c.in_ok-survey.ensures) (sym c.has_room.ensures ∙ c.if-not-has_room.false)).1
