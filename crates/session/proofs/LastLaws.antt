@@ -149,9 +149,6 @@ module _ (d : Draft) (session : Session) (output : List ℕ) (held : Held (begun
         ∙ rw (ne_eqb (length (draft_records d)) 0 (λ z. let c = count in omega arith), long) (omega arith)
 
     -- the last record ends before the last CRC
-    pub last_sums : (8 ≤ session.next) × (session.last ≤ session.next - 8)
-    last_sums = let a = next_is in let b = last_is in (omega arith, omega arith)
-
     stands : Lies output session.last last
     unfolding begun_file
     stands =
