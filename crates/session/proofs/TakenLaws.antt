@@ -33,11 +33,6 @@ pub more_than_0 : (m n : ℕ) → m ≡ n → (m ≡ 0 → ⊥) → 1 ≤ n
 more_than_0 zero n e h = absurd (h refl)
 more_than_0 (suc m) n e h = omega arith
 
-pub one_of : (numbers : List ℕ) (n : ℕ) {session : Session} {r : Stepped} → any (λ m. eqb m n) numbers ≡ true
-    → r ≡ record { number = n; place = 0; session = session } → OneOf numbers r.number
-unfolding OneOf
-one_of numbers n h e = rw e h
-
 -- a step that is refused for want of room
 pub no_room : {A : Type 0} (session : Session) (found : Option A) {fault : Fault} → found ≡ None → Err fault ≡ ok_or found OutputRoom
     → (step : Result Session Fault) → IsErrAnd step (λ f. f ≡ fault) → stepped session step ≡ record { number = 31; place = 0; session = session }
