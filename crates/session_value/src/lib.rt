@@ -174,14 +174,20 @@ impl Session {
     pub fn stepped(self, step: Result<Session, Fault>) -> Stepped
         ensures { result ≡ stepped self step }
     {
-        let (number, session) = match step {
-            Ok(session) => (0, session),
-            Err(fault) => (fault.number(), self),
-        };
-        Stepped {
-            number,
-            place: 0,
-            session,
+        match step {
+            Ok(session) => answered(0, session),
+            Err(fault) => answered(fault.number(), self),
         }
+    }
+}
+
+// The answer of a step with this number, which has no place.
+pub fn answered(number: u64, session: Session) -> Stepped
+    ensures { result ≡ record { number = number; place = 0; session = session } }
+{
+    Stepped {
+        number,
+        place: 0,
+        session,
     }
 }

@@ -22,11 +22,7 @@ impl From<Fault> for Written {
     ghost from_gives = { λ fault w. w ≡ written_answer (refused (number fault) 0) };
 
     fn from(fault: Fault) -> Written {
-        Written {
-            number: fault.number(),
-            place: 0,
-            length: 0,
-        }
+        refusal(fault.number())
     }
 }
 
