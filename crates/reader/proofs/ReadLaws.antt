@@ -149,8 +149,7 @@ module _ (file : List ℕ) (q : Query) (room : ℕ) (h : Header) where
           let all = accepted s sound in
           let ms = matching q (records_of all.0) in
           let fits = leb-true (room_for (length ms)) room (same_test all.0 all.1 ∙ few) in
-          let answered = read_is (answer ms) (blocks_fit all.0 all.1 fits) in
-          (
+          let answered = read_is (answer ms) (blocks_fit all.0 all.1 fits) in (
             ap answer (all_counted all.0 all.1) ∙ sym (bind_answer (read_of file q room) _ ms answered),
             ap (λ (t : Stored). t.list) (put_records all.0 all.1 ∙ stored_all room ms fits) ∙ sym (ap (read_list room) answered),
           )

@@ -88,7 +88,9 @@ fn try_add(session: Session, record: &[u8], output: &mut [u8]) -> Result<Session
         return Err(Fault::InputOrder);
     }
     let s = session.unfull();
-    let size = s.framed_size(record.len(), output.len()).ok_or(Fault::OutputRoom)?;
+    let size = s
+        .framed_size(record.len(), output.len())
+        .ok_or(Fault::OutputRoom)?;
     let crc = open_block::put_record(output, s.start as usize, s.payload as usize, s.crc, record);
     Ok(s.added(record.len(), size, crc))
 }
@@ -137,6 +139,6 @@ fn try_finish(session: Session, output: &mut [u8]) -> Result<Session, Fault>
     let from = session.blocks as usize;
     let to = session.next as usize;
     let hash = sha256::finish(check_hash::hashed(&output[..to], from));
-    let total = file_encoder::finish_file(output, from, to, session.perindex, hash).ok_or(Fault::OutputRoom)?;
-    Ok(session.finished(total))
+    let total = file_encoder::finish_file(output, from, to, session.perindex, hash);
+    Ok(session.finished(total.ok_or(Fault::OutputRoom)?))
 }

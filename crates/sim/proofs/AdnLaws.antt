@@ -113,6 +113,8 @@ module _ (field rest : List ℕ) where
   judged_not e l =
       kept (is_name field) 33 0 (must (leb (first_or 0 rest) 11) 34 0) e ∙ must_kept (leb (first_or 0 rest) 11) 34 0 (le-leb (first_or 0 rest) 11 l)
 
+pub ruleset judging = (judged_33, judged_34, judged_not)
+
 -- the record is judged by its two parts
 pub imported_judged : (x : ℕ) (adn : List ℕ) → imported x adn ≡ (judged (take x adn) (drop x adn) >> answer (record_of x adn))
 unfolding imported judged number_length
@@ -153,7 +155,8 @@ module _ (x s y t : List ℕ) (n : ℕ) (h : n ≤ length x) (k : n ≤ length y
       go Equal d = absurd (d refl)
       go Greater d = refl
 
-  pub fronts_agree : (o : Ordering) → Equal ≡ order (take n x) (take n y) → o ≡ order (drop n x ++ s) (drop n y ++ t) → is_le o ≡ at_most (x ++ s) (y ++ t)
+  pub fronts_agree : (o : Ordering) → Equal ≡ order (take n x) (take n y) → o ≡ order (drop n x ++ s) (drop n y ++ t)
+      → is_le o ≡ at_most (x ++ s) (y ++ t)
   unfolding at_most
   fronts_agree o e f = rw (fronts, ← e, f)
 

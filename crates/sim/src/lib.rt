@@ -111,7 +111,7 @@ impl<'a> Adn<'a> {
     }
 
     // Whether the name is one, and the number not too long.
-    #[tactic(auto, unfolding(outcome::specs::Fault::said_at, outcome::specs::Fault::number), using(crate::proofs::AdnLaws::judged_33, crate::proofs::AdnLaws::judged_34, crate::proofs::AdnLaws::judged_not))]
+    #[tactic(auto, unfolding(outcome::specs::Fault::said_at, outcome::specs::Fault::number), using(crate::proofs::AdnLaws::judging))]
     pub fn check(self) -> Result<(), Fault>
         ensures { said_at 0 result ≡ judged self.entry.field.now self.entry.rest.now }
     {

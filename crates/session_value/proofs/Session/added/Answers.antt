@@ -1,6 +1,5 @@
 -- `added` meets its contract. Assumes nothing.
 use native.Mathlib.Omega.{arith}
-use Rattle.session_value.specs.Values.{text_size, added_session}
 use Rattle.session_value.proofs.ValueLaws.{size_least, added_is}
 use Rattle.session_value.proofs.Session.added.Goals as goal
 

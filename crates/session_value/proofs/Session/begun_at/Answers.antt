@@ -1,5 +1,4 @@
 -- `begun_at` meets its contract. Assumes nothing.
-use mathlib.Core.Path.{◌∙◌}
 use Rattle.session_value.specs.Held.{session_of}
 use Rattle.session_value.specs.Values.{begun_session, closed_session}
 use Rattle.session_value.proofs.Session.begun_at.Goals as goal

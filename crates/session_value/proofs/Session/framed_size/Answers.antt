@@ -1,5 +1,4 @@
 -- `framed_size` meets its contract. Assumes nothing.
-use Prim.Native.Nat.{◌+◌, ◌≤◌}
 use native.Mathlib.Omega.{arith}
 use Rattle.uleb128.proofs.EncodingLaws.{encoding-length}
 use Rattle.session_value.proofs.ValueLaws.{size_over, size_is}

@@ -27,10 +27,14 @@ returns-in-Equal c =
     let k : n ≤ length c.name-y.result.now = omega arith in
     let order =
     cmp_from_yields_List {v = λ (y : Bor ℕ). y.now} (λ x y. y ≡ x) _ nat_cmp _ c.cmp-in-Equal.ensures.ran
-    (YieldsList-from_chain (YieldsList-from_slice (drop n c.name-x.result.now) (ap iter_rest c.chain.ensures.first ∙ c.iter.ensures.rest ∙ lent_drop c.name-x.result.now n))
+    (YieldsList-from_chain
+    (YieldsList-from_slice (drop n c.name-x.result.now)
+    (ap iter_rest c.chain.ensures.first ∙ c.iter.ensures.rest ∙ lent_drop c.name-x.result.now n))
     (YieldsList-from_slice c.record-s.result.rest.now c.chain.ensures.second.0) c.chain.ensures.first_done c.chain.ensures.second_done)
     (λ it e. rw e
-    (YieldsList-from_chain (YieldsList-from_slice (drop n c.name-y.result.now) (ap iter_rest c.chain-in-Equal.ensures.first ∙ c.iter-in-Equal.ensures.rest ∙ lent_drop c.name-y.result.now n))
+    (YieldsList-from_chain
+    (YieldsList-from_slice (drop n c.name-y.result.now)
+    (ap iter_rest c.chain-in-Equal.ensures.first ∙ c.iter-in-Equal.ensures.rest ∙ lent_drop c.name-y.result.now n))
     (YieldsList-from_slice c.record-t.result.rest.now c.chain-in-Equal.ensures.second.0) c.chain-in-Equal.ensures.first_done
     c.chain-in-Equal.ensures.second_done))
     (λ x y. refl) in
