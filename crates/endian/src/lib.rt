@@ -11,10 +11,12 @@ ghost use Rattle.endian.specs.FixedWidth.{little_endian, little_bytes, big_endia
 pub fn le64(bytes: &[u8]) -> u64
     ensures { result ≡ little_endian (take 8 bytes.now) }
 {
-    let there = bytes.len().min(8);
-    let mut eight = [0u8; 8];
-    eight[..there].copy_from_slice(&bytes[..there]);
-    u64::from_le_bytes(eight)
+    if let Some(eight) = bytes.first_chunk() {
+        return u64::from_le_bytes(*eight);
+    }
+    let mut fewer = [0u8; 8];
+    fewer[..bytes.len()].copy_from_slice(bytes);
+    u64::from_le_bytes(fewer)
 }
 
 // The 8 bytes from `at` on as a little-endian number.
@@ -28,10 +30,12 @@ pub fn le64_at(s: &[u8], at: usize) -> u64
 fn be32(bytes: &[u8]) -> u32
     ensures { result ≡ big_endian (take 4 bytes.now) }
 {
-    let there = bytes.len().min(4);
-    let mut four = [0u8; 4];
-    four[4 - there..].copy_from_slice(&bytes[..there]);
-    u32::from_be_bytes(four)
+    if let Some(four) = bytes.first_chunk() {
+        return u32::from_be_bytes(*four);
+    }
+    let mut fewer = [0u8; 4];
+    fewer[4 - bytes.len()..].copy_from_slice(bytes);
+    u32::from_be_bytes(fewer)
 }
 
 // The 4 bytes from `at` on as a big-endian number.

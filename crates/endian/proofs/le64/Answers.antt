@@ -1,15 +1,19 @@
--- The array is the first 8 bytes, or those that are there and zeros.
-use Rattle.std.proofs.Common.{◌≡◌, ℕ, length, take, ap, ◌∙◌, arith, min, length-take-le}
-use Rattle.std.proofs.lemmas.List.{take_min}
+-- Eight bytes are the first chunk; fewer have zeros after them.
+use Rattle.std.proofs.Common.{List, ℕ, length, take, sym, ap, ◌∙◌, arith, length-take, take_all}
 use Rattle.endian.specs.FixedWidth.{little_endian}
-use Rattle.endian.proofs.StdLaws.{little_front}
+use Rattle.endian.proofs.StdLaws.{sum_through-little, little_front}
 use Rattle.endian.proofs.le64.Goals as goal
+
+pub returns-in-Some : goal.returns-in-Some
+returns-in-Some c =
+    let s = c.args.bytes.now in
+    let chunk = c.in-Some.ensures.cases in
+    c.from_le_bytes.ensures ∙ sum_through-little 7 c.in-Some.eight.now
+    ∙ ap (λ (l : List ℕ). little_endian (take 8 l)) chunk.same ∙ ap little_endian (take_all 8 (take 8 s) (omega (arith, length-take 8 s)))
 
 pub returns : goal.returns
 returns c =
     let s = c.args.bytes.now in
-    let few : c.min-there.result ≡ min 8 (length s) = omega (arith, c.min-there.ensures) in
     let same = c.copy_from_slice.ensures.after in
-    let long = ap length same ∙ length-take-le c.min-there.result s (omega arith) in
-    c.from_le_bytes.ensures ∙ little_front 7 c.copy_from_slice.new.self c.min-there.result long (omega arith)
-    ∙ ap little_endian (same ∙ ap (λ (n : ℕ). take n s) few ∙ take_min 8 s)
+    c.from_le_bytes-2.ensures ∙ little_front 7 c.copy_from_slice.new.self (length s) (ap length same) (omega (arith, c.in_default.ensures.cases))
+    ∙ ap little_endian (same ∙ sym (take_all 8 s (omega (arith, c.in_default.ensures.cases))))
