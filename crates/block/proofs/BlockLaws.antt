@@ -84,21 +84,21 @@ module _ (file : List ℕ) (f : Frame) where
       bind_refused (block_in file f) _ n p
       (block_data (data_level f.level level) ∙ bind_refused _ _ n p (map_refused⁻¹ (records_at f.start (take f.end file) (f.body + 1)) length n p e))
 
-  pub index_sound : (n : ℕ) → (f.level ≡ 0 → ⊥) → f.level ≤ 63 → counted (entries_at f.start (take f.end file) (f.body + 1)) ≡ answer n → tallied (block_in file f) ≡ answer (record { frame = f; records = 0 })
+  pub index_sound : (n : ℕ) → (f.level ≡ 0 → ⊥) → is_ordinary f.level ≡ true → counted (entries_at f.start (take f.end file) (f.body + 1)) ≡ answer n → tallied (block_in file f) ≡ answer (record { frame = f; records = 0 })
   unfolding tallied counted ◌>>=◌
   index_sound n level o e =
       let all = bind⁻¹ (entries_at f.start (take f.end file) (f.body + 1)) _ n e in
-      rw (block_index (not_data_level f.level level) (ordinary_level f.level o), all.1)
+      rw (block_index (not_data_level f.level level) o, all.1)
 
-  pub index_unsound : (n p : ℕ) → (f.level ≡ 0 → ⊥) → f.level ≤ 63 → counted (entries_at f.start (take f.end file) (f.body + 1)) ≡ refused n p → tallied (block_in file f) ≡ refused n p
+  pub index_unsound : (n p : ℕ) → (f.level ≡ 0 → ⊥) → is_ordinary f.level ≡ true → counted (entries_at f.start (take f.end file) (f.body + 1)) ≡ refused n p → tallied (block_in file f) ≡ refused n p
   unfolding tallied counted
   index_unsound n p level o e =
       bind_refused (block_in file f) _ n p
-      (block_index (not_data_level f.level level) (ordinary_level f.level o) ∙ bind_refused _ _ n p (map_refused⁻¹ (entries_at f.start (take f.end file) (f.body + 1)) length n p e))
+      (block_index (not_data_level f.level level) o ∙ bind_refused _ _ n p (map_refused⁻¹ (entries_at f.start (take f.end file) (f.body + 1)) length n p e))
 
-  pub reserved_sound : 63 < f.level → tallied (block_in file f) ≡ answer (record { frame = f; records = 0 })
+  pub reserved_sound : (f.level ≡ 0 → ⊥) → is_ordinary f.level ≡ false → tallied (block_in file f) ≡ answer (record { frame = f; records = 0 })
   unfolding tallied ◌>>=◌
-  reserved_sound h = rw (block_reserved (not_data_level f.level (λ z. omega arith)) (reserved_level f.level h))
+  reserved_sound level o = rw (block_reserved (not_data_level f.level level) o)
 
 -- ---- a block that was read
 

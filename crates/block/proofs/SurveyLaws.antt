@@ -5,15 +5,14 @@ use mathlib.Core.Bool.{Bool, true, false, ◌||◌, cond, or-false}
 use mathlib.Core.List.{List, [], ◌∷◌, ◌++◌, flat_map, append-nil}
 use Prim.Native.Nat.{ℕ, ◌+◌, ◌≤◌, ◌<◌}
 use native.Mathlib.Omega.{arith}
-use lib.Dec.{leb}
 use lib.ListN.{length, length-append}
-use borrow.Author.Tests.{le-leb, lt-leb, eq-eqb, ne_eqb}
 use Rattle.std.specs.Prelude.{Result, Ok, Err}
 use Rattle.std.specs.Result.{MatchResult, IsErrAnd}
 use Rattle.std.proofs.lemmas.Result.{err_from_is_err_and}
 use Rattle.outcome.specs.declared.Fault.{Fault}
 use Rattle.outcome.specs.declared.Refusal.{Refusal}
 use Rattle.outcome.specs.Fault.{said_at, said}
+use Rattle.std.specs.Int.{from_bool}
 use Rattle.outcome.specs.Outcome.{answer, refused}
 use Rattle.lists.specs.Lists.{keep, any}
 use Rattle.outcome.proofs.OutcomeLaws.{answer_injective, bind_answer, bind_refused, bind⁻¹, map_refused⁻¹}
@@ -29,38 +28,13 @@ use Rattle.block.specs.Answers.{tallied}
 use Rattle.framing.proofs.FrameLaws.{Framed}
 use Rattle.block.proofs.BlockLaws.{BlockRead, block⇒BlockRead}
 
--- ---- the root
-
-pub found_before : (found b : Bool) → found ≡ true → true ≡ (found || b)
-found_before found b e = sym (ap (λ (a : Bool). a || b) e)
-
-pub found_here : (found b c : Bool) → found ≡ false → c ≡ b → c ≡ (found || b)
-found_here found b c e h = h ∙ sym (ap (λ (a : Bool). a || b) e)
-
-module _ (root rootsize : ℕ) (f : Frame) where
-  pub root_elsewhere : (f.start ≡ root → ⊥) → false ≡ is_root root rootsize f
-  unfolding is_root
-  root_elsewhere h = rw (ne_eqb f.start root h)
-
-  pub root_other_size : f.start ≡ root → (f.size ≡ rootsize → ⊥) → false ≡ is_root root rootsize f
-  unfolding is_root
-  root_other_size s h = rw (eq-eqb f.start root s, ne_eqb f.size rootsize h)
-
-  pub root_data : f.start ≡ root → f.size ≡ rootsize → f.level < 1 → false ≡ is_root root rootsize f
-  unfolding is_root
-  root_data s z h = rw (eq-eqb f.start root s, eq-eqb f.size rootsize z, lt-leb 1 f.level h)
-
-  pub root_index : f.start ≡ root → f.size ≡ rootsize → 1 ≤ f.level → leb f.level 63 ≡ is_root root rootsize f
-  unfolding is_root is_ordinary
-  root_index s z h = rw (eq-eqb f.start root s, eq-eqb f.size rootsize z, le-leb 1 f.level h)
-
 -- ---- one block more
 
-pub ordinary_more : (bs : List Block) (b : Block) → length (ordinary (bs ++ (b ∷ []))) ≡ length (ordinary bs) + cond (is_ordinary b.frame.level) 1 0
+pub ordinary_more : (bs : List Block) (b : Block) → length (ordinary (bs ++ (b ∷ []))) ≡ length (ordinary bs) + from_bool (is_ordinary b.frame.level)
 unfolding ordinary keep
 ordinary_more bs b = ap length (keep_append (λ c. is_ordinary c.frame.level) bs (b ∷ [])) ∙ length-append (ordinary bs) _ ∙ ap (λ (n : ℕ). length (ordinary bs) + n) (one (is_ordinary b.frame.level))
   where
-    one : (c : Bool) → length (cond c (b ∷ []) []) ≡ cond c 1 0
+    one : (c : Bool) → length (cond c (b ∷ []) []) ≡ from_bool c
     one true = refl
     one false = refl
 
@@ -72,7 +46,7 @@ pub root_more : (root rootsize : ℕ) (bs : List Block) (b : Block) → any (λ 
 unfolding any
 root_more root rootsize bs b = any_append (λ c. is_root root rootsize c.frame) bs (b ∷ []) ∙ ap (λ (c : Bool). any (λ c. is_root root rootsize c.frame) bs || c) (or-false (is_root root rootsize b.frame))
 
-pub at_most_one : (n : ℕ) (b : Bool) → n ≡ cond b 1 0 → n ≤ 1
+pub at_most_one : (n : ℕ) (b : Bool) → n ≡ from_bool b → n ≤ 1
 at_most_one n true e = omega arith
 at_most_one n false e = omega arith
 
@@ -152,7 +126,7 @@ module _ (file : List ℕ) (from root rootsize : ℕ) where
 
   pub surveyed_more : (at blocks records : ℕ) (found : Bool) → Surveyed at blocks records found → at < length file
       → (f : Frame) (n one : ℕ) (found' : Bool) → tallied (block_at file at) ≡ answer (record { frame = f; records = n })
-      → one ≡ cond (is_ordinary f.level) 1 0 → found' ≡ (found || is_root root rootsize f)
+      → one ≡ from_bool (is_ordinary f.level) → found' ≡ (found || is_root root rootsize f)
       → Surveyed (at + f.size) (blocks + one) (records + n) found'
   surveyed_more at blocks records found p h f n one found' e o r = go (reported file at f n e)
     where
@@ -168,7 +142,7 @@ module _ (file : List ℕ) (from root rootsize : ℕ) where
           record {
             seen = p.seen ++ (b ∷ []);
             progress = progress_more (block_step file) (length file) from at p.seen (record { item = b; next = at + f.size }) p.progress h stepped (omega arith);
-            blocks_are = ap₂ (λ (k l : ℕ). k + l) p.blocks_are (o ∙ ap (λ (g : Frame). cond (is_ordinary g.level) 1 0) (sym q.same_frame)) ∙ sym (ordinary_more p.seen b);
+            blocks_are = ap₂ (λ (k l : ℕ). k + l) p.blocks_are (o ∙ ap (λ (g : Frame). from_bool (is_ordinary g.level)) (sym q.same_frame)) ∙ sym (ordinary_more p.seen b);
             records_are = ap₂ (λ (k l : ℕ). k + l) p.records_are (sym q.same_count) ∙ sym (records_more p.seen b);
             root_is = r ∙ ap₂ (λ (c d : Bool). c || d) p.root_is (ap (is_root root rootsize) (sym q.same_frame)) ∙ sym (root_more root rootsize p.seen b);
             few_blocks = omega arith;

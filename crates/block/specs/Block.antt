@@ -1,5 +1,5 @@
 -- A block at an offset of a file, and the blocks that fill a file.
-use Rattle.std.specs.Prelude.{ℕ, ◌+◌, ◌-◌, Bool, cond, List, [], leb, eqb, length, take}
+use Rattle.std.specs.Prelude.{ℕ, ◌+◌, ◌-◌, cond, List, [], length, take}
 use Rattle.outcome.specs.Outcome.{Outcome, answer, ◌>>=◌}
 use Rattle.items.specs.Items.{items_from}
 use Rattle.items.specs.declared.Step.{Step}

@@ -1,5 +1,5 @@
 // A whole block at an offset, and the pass over all blocks of a file, front to back.
-ghost use Rattle.std.specs.Prelude.{◌+◌, ◌≤◌, ◌<◌, ◌≡◌, ◌||◌, cond, length};
+ghost use Rattle.std.specs.Prelude.{◌+◌, ◌≤◌, ◌<◌, ◌≡◌, length};
 ghost use Rattle.block.specs.Block as blocks;
 ghost use Rattle.block.specs.Survey as surveys;
 ghost use Rattle.block.specs.Answers as answers;
@@ -28,36 +28,18 @@ pub fn block_in(file: &[u8], f: Frame) -> Result<Tallied, Fault>
     let mut records = 0;
     if f.level == 0 {
         records = records_at(payload, from)?;
-    } else if f.level <= Frame::LARGEST_LEVEL {
+    } else if f.is_ordinary() {
         entries_at(payload, from)?;
     }
     Ok(Tallied { frame: f, records })
 }
 
-// 1 for an ordinary block, 0 for a reserved one.
-fn one_if_ordinary(level: u8) -> usize
-    ensures { result ≡ cond (blocks.is_ordinary level) 1 0 }
+// Whether it is an index block's frame, with this start and full size.
+#[tactic(auto, unfolding(crate::specs::Survey::is_root))]
+fn is_root(f: Frame, root: u64, rootsize: u64) -> bool
+    ensures { result ≡ surveys.is_root root rootsize f }
 {
-    if level <= Frame::LARGEST_LEVEL { 1 } else { 0 }
-}
-
-// Whether a block is an index block with this start and full size, or one was found before.
-fn found_root(found: bool, f: Frame, root: u64, rootsize: u64) -> bool
-    ensures { result ≡ (found || surveys.is_root root rootsize f) }
-{
-    if found {
-        return true;
-    }
-    if f.start as u64 != root {
-        return false;
-    }
-    if f.size as u64 != rootsize {
-        return false;
-    }
-    if f.level < 1 {
-        return false;
-    }
-    f.level <= Frame::LARGEST_LEVEL
+    f.start as u64 == root && f.size as u64 == rootsize && 0 < f.level && f.is_ordinary()
 }
 
 // The block stage: every block from an offset to the file's end, front to back. `root` and `rootsize` are the header's.
@@ -65,20 +47,20 @@ pub fn survey(file: &[u8], from: usize, root: u64, rootsize: u64) -> Result<Surv
     ensures { said result ≡ surveys.survey_of file.now from root rootsize }
 {
     let mut at = from;
-    let mut ordinary: usize = 0;
-    let mut records: usize = 0;
-    let mut found = false;
+    let mut seen = Survey {
+        blocks: 0,
+        records: 0,
+        root: false,
+    };
     while at < file.len() {
-        let place = at as u64;
-        let block = block_at(file, at).map_err(|fault| Refusal { fault, place })?;
-        ordinary += one_if_ordinary(block.frame.level);
-        records += block.records;
-        found = found_root(found, block.frame, root, rootsize);
+        let block = block_at(file, at).map_err(|fault| Refusal {
+            fault,
+            place: at as u64,
+        })?;
+        seen.blocks += usize::from(block.frame.is_ordinary());
+        seen.records += block.records;
+        seen.root |= is_root(block.frame, root, rootsize);
         at += block.frame.size;
     }
-    Ok(Survey {
-        blocks: ordinary,
-        records,
-        root: found,
-    })
+    Ok(seen)
 }

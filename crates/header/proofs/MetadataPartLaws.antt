@@ -1,6 +1,6 @@
 -- Laws of the part that the metadata are.
 -- Assumes nothing.
-use mathlib.Core.Path.{◌≡◌, refl, sym, ap, subst, ◌∙◌}
+use mathlib.Core.Path.{◌≡◌, refl, sym, ap, subst}
 use mathlib.Core.List.{List}
 use Prim.Native.Nat.{ℕ, ◌+◌, ◌≤◌}
 use native.Mathlib.Omega.{arith}
@@ -11,18 +11,9 @@ use Rattle.part.proofs.PartLaws.{length_part}
 use Rattle.header.specs.declared.Header.{Header}
 use Rattle.header.specs.Metadata.{Metadata}
 use Rattle.header.specs.Header.{header_of}
-use Rattle.std.specs.Prelude.{Result}
-use Rattle.outcome.specs.declared.Fault.{Fault}
-use Rattle.outcome.specs.Fault.{said_at}
 use Rattle.header.specs.MetadataPart.{metadata_in, metadata_part, HoldsMetadata}
 use Rattle.header.proofs.HeaderLaws.{is_header}
 use Rattle.header.proofs.MetadataLaws.{metadata_long}
-
--- the part that the code hands back, by what `Header::read` answers
-pub metadata_told : (file : List ℕ) (read told : Result Header Fault) → read ≡ told → said_at 0 read ≡ header_of file
-    → metadata_in (said_at 0 told) ≡ metadata_part file
-unfolding metadata_part
-metadata_told file read told same e = ap metadata_in (ap (said_at 0) (sym same) ∙ e)
 
 -- a sound header: the part lies within the file, and its bytes are those that the metadata rule is about
 pub metadata_sound : (file : List ℕ) (h : Header) → header_of file ≡ answer h → HoldsMetadata file (metadata_part file)

@@ -2,24 +2,22 @@
 -- Assumes nothing.
 use mathlib.Core.Path.{◌≡◌, refl, sym, ap, ◌∙◌}
 use mathlib.Core.Bool.{Bool, true, false, ◌&&◌, and-eq-true_iff, and-false}
-use mathlib.Core.List.{List}
+use mathlib.Core.List.{List, [], ◌∷◌}
 use Prim.Native.Nat.{ℕ, ◌+◌, ◌-◌, ◌^◌, ◌≤◌, ◌<◌}
 use native.Mathlib.Nat.{add-sub_cancel_left}
 use native.Mathlib.Omega.{arith}
 use lib.Dec.{leb, eqb}
 use lib.ListN.{length, take, drop}
+use lib.Pointwise.{pointwise}
 use borrow.Author.Tests.{leb-true, leb-false, le-leb, lt-leb, eq-eqb, ne_eqb}
 use Rattle.byte_string.specs.Order.{begins}
-use Rattle.endian.specs.FixedWidth.{little_endian}
-use Rattle.crc64.specs.Crc64.{crc64}
 use Rattle.outcome.specs.Outcome.{answer, refused, ◌>>◌, must}
 use Rattle.part.specs.Part.{part}
-use Rattle.part.proofs.PartLaws.{lent_part, lent_drop}
+use Rattle.part.proofs.PartLaws.{lent_drop}
+use Rattle.framing.specs.Frame.{crc_right}
 use Rattle.header.specs.Metadata.{is_metadata}
 use Rattle.header.specs.Header.{magic, unfinished_magic, codec_none, field_at, H, M, holds_header, header_crc_right, holds_metadata}
 use Rattle.header.specs.Header.{header_numbers, fields_of, data_of, size_rule, front_rules, header_of}
-
--- the name under which the theorems cite it
 
 -- ---- tests
 
@@ -39,6 +37,13 @@ leb_both⁻¹ a b c d e =
 
 leb_both : (a b c d : ℕ) → a ≤ b → c ≤ d → (leb a b && leb c d) ≡ true
 leb_both a b c d h k = rw (le-leb a b h, le-leb c d k)
+
+-- the comparison of the code with the front of a byte string
+pub starts : (p x : List ℕ) → pointwise eqb p (take (length p) x) ≡ begins p x
+unfolding begins
+starts [] x = refl
+starts (a ∷ p) [] = refl
+starts (a ∷ p) (b ∷ x) = ap (λ (t : Bool). eqb a b && t) (starts p x)
 
 -- ---- the header data within the file
 
@@ -91,23 +96,21 @@ metadata_within file held room =
     let inner = holds_metadata⁻¹ file room in
     omega arith
 
+pub codec_within : (file : List ℕ) → holds_header file ≡ true → holds_metadata file ≡ true → 72 ≤ length file
+codec_within file held room = let within = metadata_within file held room in omega arith
+
 -- ---- the CRC
 
--- the number after the header data is compared with the CRC of the data, which are lent
-pub header_crc_right_by : (file : List ℕ) (h : ℕ) → h ≡ H file
-    → header_crc_right file ≡ eqb (little_endian (take 8 (drop (16 + h) file))) (crc64 (take (16 + h - 16) (drop 16 file)))
-unfolding header_crc_right field_at part
-header_crc_right_by file h e = rw (add-sub_cancel_left, e)
+-- the CRC of the bytes between the length and it
+pub header_crc_lent : (file : List ℕ) → crc_right file 16 (16 + H file) ≡ header_crc_right file
+unfolding header_crc_right crc_right field_at
+header_crc_lent file = rw (add-sub_cancel_left)
 
 -- ---- refusals 7 to 9, and the answer
 
 -- the codec is looked for in the rest of the file, which is lent
 pub codec_lent : (file : List ℕ) → begins codec_none (take (length file - 72) (drop 72 file)) ≡ begins codec_none (drop 72 file)
 codec_lent file = ap (begins codec_none) (lent_drop file 72)
-
--- the metadata are tested in a part, which is lent
-pub metadata_lent : (file : List ℕ) (m : ℕ) → m ≡ M file → is_metadata (take (96 + m - 96) (drop 96 file)) ≡ is_metadata (part file 96 (M file))
-metadata_lent file m e = ap is_metadata (lent_part file 96 m ∙ ap (part file 96) e)
 
 -- refusal 7: another codec
 pub fields_codec : (file : List ℕ) → begins codec_none (drop 72 file) ≡ false → fields_of file ≡ refused 7 0
@@ -130,6 +133,11 @@ pub fields_good : (file : List ℕ) → begins codec_none (drop 72 file) ≡ tru
     → is_metadata (part file 96 (M file)) ≡ true → fields_of file ≡ answer (header_numbers file)
 unfolding fields_of must ◌>>◌
 fields_good file codec total kept = rw (codec, eq-eqb (field_at file 32) (length file) total, kept)
+
+pub fields_read : (file : List ℕ) → begins codec_none (drop 72 file) ≡ true → field_at file 32 ≡ length file → is_metadata (part file 96 (M file)) ≡ true
+    → fields_of file ≡ answer (record { blocks = 24 + H file; root = field_at file 16; rootsize = field_at file 24; metadata = M file })
+unfolding header_numbers
+fields_read file codec total kept = fields_good file codec total kept
 
 -- ---- refusals 5 and 6
 
@@ -181,3 +189,15 @@ header_cut file o cut = rw (le-leb (length file) (2 ^ 30) o.small, o.finished, o
 pub header_data_lem : (file : List ℕ) → Opened file → holds_header file ≡ true → header_of file ≡ data_of file
 unfolding header_of size_rule front_rules must ◌>>◌
 header_data_lem file o held = rw (le-leb (length file) (2 ^ 30) o.small, o.finished, o.opens, held)
+
+-- ---- what the proofs of the code take: the cases of each rule
+
+pub ruleset header_rules = (holds_header_short, holds_header_long)
+
+pub ruleset room_rules = (holds_metadata_short, holds_metadata_long)
+
+pub ruleset field_rules = (metadata_within, codec_within, holds_header⁻¹, codec_lent, fields_codec, fields_total, fields_metadata, fields_read)
+
+pub ruleset data_rules = (holds_header⁻¹, header_crc_lent, data_crc, data_room, data_fields)
+
+pub ruleset read_rules = (header_long, header_unfinished, header_magic, header_cut, header_data_lem)

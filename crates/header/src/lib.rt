@@ -8,6 +8,7 @@ ghost use Rattle.header.specs.Header as header;
 ghost use Rattle.header.specs.Metadata.{is_metadata};
 ghost use Rattle.header.specs.MetadataPart.{metadata_part};
 
+use framing::crc_right;
 use outcome::Fault;
 use part::Part;
 
@@ -53,14 +54,14 @@ impl Header {
     pub const LEAST_BLOCKS: usize = 104;
 
     // The header of a file, or the first of the refusals 1 to 9.
+    #[tactic(auto, unfolding(outcome::specs::Fault::said_at, outcome::specs::Fault::number), using(crate::proofs::RuleLaws::read_rules))]
     pub fn read(file: &[u8]) -> Result<Header, Fault>
         ensures { said_at 0 result ≡ header.header_of file.now }
     {
         if Header::MAX_FILE < file.len() {
             return Err(Fault::FileTooLong);
         }
-        let unfinished = b"\xabZStoBe\x01";
-        if byte_string::compare(unfinished, file).begins(unfinished.len()) {
+        if is_unfinished(file) {
             return Err(Fault::Unfinished);
         }
         if !has_magic(file) {
@@ -73,30 +74,60 @@ impl Header {
     }
 }
 
+// The number of 8 bytes at an offset.
+#[tactic(auto, unfolding(crate::specs::Header::field_at, part::specs::Part::part))]
+fn field(file: &[u8], at: usize) -> u64
+    ensures { result ≡ header.field_at file.now at }
+{
+    endian::le64_at(file, at)
+}
+
+// H, the length of the header data.
+#[tactic(auto, unfolding(crate::specs::Header::H))]
+fn extent(file: &[u8]) -> u64
+    ensures { result ≡ header.H file.now }
+{
+    field(file, Header::EXTENT_AT)
+}
+
+// M, the length of the metadata.
+#[tactic(auto, unfolding(crate::specs::Header::M))]
+fn metadata_length(file: &[u8]) -> u64
+    ensures { result ≡ header.M file.now }
+{
+    field(file, Header::METADATA_LENGTH_AT)
+}
+
+// Whether the file begins with the magic of an unfinished one.
+fn is_unfinished(file: &[u8]) -> bool
+    ensures { result ≡ begins header.unfinished_magic file.now }
+{
+    file.starts_with(b"\xabZStoBe\x01")
+}
+
 // Whether the file begins with the magic of a finished one.
 pub fn has_magic(file: &[u8]) -> bool
     ensures { result ≡ begins header.magic file.now }
 {
-    let magic = b"\xabZSfiLe\x01";
-    byte_string::compare(magic, file).begins(magic.len())
+    file.starts_with(b"\xabZSfiLe\x01")
 }
 
 // Whether the header data and their CRC lie within the file.
+#[tactic(auto, using(crate::proofs::RuleLaws::header_rules))]
 pub fn holds_header(file: &[u8]) -> bool
     ensures { result ≡ header.holds_header file.now }
 {
-    if file.len() < Header::AROUND {
-        return false;
-    }
-    endian::le64_at(file, Header::EXTENT_AT) <= (file.len() - Header::AROUND) as u64
+    Header::AROUND <= file.len() && extent(file) <= (file.len() - Header::AROUND) as u64
 }
 
 // The header, or the first of the refusals 5 to 9, which look at the header data.
+#[tactic(auto, unfolding(outcome::specs::Fault::said_at, outcome::specs::Fault::number), using(crate::proofs::RuleLaws::data_rules))]
 fn data(file: &[u8]) -> Result<Header, Fault>
     requires { header.holds_header file.now ≡ true }
     ensures { said_at 0 result ≡ header.data_of file.now }
 {
-    if !crc_right(file) {
+    let end = Header::DATA_AT + extent(file) as usize;
+    if !crc_right(file, Header::DATA_AT, end) {
         return Err(Fault::HeaderCrc);
     }
     if !holds_metadata(file) {
@@ -105,72 +136,64 @@ fn data(file: &[u8]) -> Result<Header, Fault>
     fields(file)
 }
 
-// Whether the CRC after the header data is theirs.
-fn crc_right(file: &[u8]) -> bool
-    requires { header.holds_header file.now ≡ true }
-    ensures { result ≡ header.header_crc_right file.now }
-{
-    let end = Header::DATA_AT + endian::le64_at(file, Header::EXTENT_AT) as usize;
-    endian::le64_at(file, end) == crc64::checksum(&file[Header::DATA_AT..end])
-}
-
 // Whether the header data hold every field and the metadata.
+#[tactic(auto, using(crate::proofs::RuleLaws::room_rules))]
 fn holds_metadata(file: &[u8]) -> bool
     ensures { result ≡ header.holds_metadata file.now }
 {
-    let extent = endian::le64_at(file, Header::EXTENT_AT);
-    if extent < Header::LEAST_EXTENT {
-        return false;
-    }
-    endian::le64_at(file, Header::METADATA_LENGTH_AT) <= extent - Header::LEAST_EXTENT
+    let extent = extent(file);
+    Header::LEAST_EXTENT <= extent && metadata_length(file) <= extent - Header::LEAST_EXTENT
 }
 
 // The metadata rule: the first byte `{`, the last `}`, UTF-8, and one JSON object.
+#[tactic(auto, unfolding(crate::specs::Metadata::is_metadata))]
 pub fn is_metadata(bytes: &[u8]) -> bool
     ensures { result ≡ is_metadata bytes.now }
 {
-    if bytes.len() < 1 {
-        return false;
-    }
-    if bytes[0] != b'{' {
-        return false;
-    }
-    if bytes[bytes.len() - 1] != b'}' {
-        return false;
-    }
-    if !utf8::is_utf8(bytes) {
-        return false;
-    }
-    json_text::is_object(bytes)
+    bytes.starts_with(b"{")
+        && bytes.ends_with(b"}")
+        && utf8::is_utf8(bytes)
+        && json_text::is_object(bytes)
+}
+
+// Whether the rest of the file from the codec on begins with the codec `none`.
+fn has_codec(rest: &[u8]) -> bool
+    ensures { result ≡ begins header.codec_none rest.now }
+{
+    rest.starts_with(b"none\0\0\0\0\0\0\0\0\0\0\0\0")
 }
 
 // The header, or the first of the refusals 7 to 9.
+#[tactic(auto, unfolding(outcome::specs::Fault::said_at, outcome::specs::Fault::number), using(crate::proofs::RuleLaws::field_rules))]
 fn fields(file: &[u8]) -> Result<Header, Fault>
     requires { (header.holds_header file.now ≡ true) × (header.holds_metadata file.now ≡ true) }
     ensures { said_at 0 result ≡ header.fields_of file.now }
 {
-    let codec = b"none\0\0\0\0\0\0\0\0\0\0\0\0";
-    if !byte_string::compare(codec, &file[Header::CODEC_AT..]).begins(codec.len()) {
+    if !has_codec(&file[Header::CODEC_AT..]) {
         return Err(Fault::Codec);
     }
-    if endian::le64_at(file, Header::TOTAL_AT) != file.len() as u64 {
+    if field(file, Header::TOTAL_AT) != file.len() as u64 {
         return Err(Fault::FileLength);
     }
-    let metadata = endian::le64_at(file, Header::METADATA_LENGTH_AT);
-    let end = Header::METADATA_AT + metadata as usize;
-    if !is_metadata(&file[Header::METADATA_AT..end]) {
+    let metadata = metadata_length(file);
+    let text = Part {
+        offset: Header::METADATA_AT,
+        length: metadata as usize,
+    };
+    if !is_metadata(text.of(file)) {
         return Err(Fault::Metadata);
     }
-    let blocks = Header::AROUND + endian::le64_at(file, Header::EXTENT_AT) as usize;
+    let blocks = Header::AROUND + extent(file) as usize;
     Ok(Header {
         blocks,
-        root: endian::le64_at(file, Header::ROOT_AT),
-        rootsize: endian::le64_at(file, Header::ROOT_SIZE_AT),
+        root: field(file, Header::ROOT_AT),
+        rootsize: field(file, Header::ROOT_SIZE_AT),
         metadata,
     })
 }
 
 // Where the metadata lie: M bytes from 96 on where the header is sound, else no bytes at 0.
+#[tactic(auto, unfolding(outcome::specs::Fault::said_at, crate::specs::MetadataPart::metadata_in, crate::specs::MetadataPart::metadata_part))]
 pub fn metadata(file: &[u8]) -> Part
     ensures { result ≡ metadata_part file.now }
 {

@@ -15,7 +15,7 @@ pub returns-in_err-entries_at : goal.returns-in_err-entries_at
 unfolding said_at
 returns-in_err-entries_at c =
     fault_on _ _ _ c.from_residual-in_err-entries_at.ensures.1
-    ∙ sym (index_unsound c.args.file.now c.args.f _ _ c.if-f-eq0.false c.if-f-le-LARGEST_LEVEL.true (sym (c.in_err-entries_at.ensures c.args.f.start)))
+    ∙ sym (index_unsound c.args.file.now c.args.f _ _ c.if-f-eq0.false (sym c.if-is_ordinary.ensures) (sym (c.in_err-entries_at.ensures c.args.f.start)))
 
 pub returns-in_ok-records : goal.returns-in_ok-records
 unfolding said_at
@@ -24,8 +24,8 @@ returns-in_ok-records c = sym (data_sound c.args.file.now c.args.f _ c.if-f-eq0.
 pub returns-in_ok-entries_at : goal.returns-in_ok-entries_at
 unfolding said_at
 returns-in_ok-entries_at c =
-    sym (index_sound c.args.file.now c.args.f _ c.if-f-eq0.false c.if-f-le-LARGEST_LEVEL.true (sym (c.in_ok-entries_at.ensures c.args.f.start)))
+    sym (index_sound c.args.file.now c.args.f _ c.if-f-eq0.false (sym c.if-is_ordinary.ensures) (sym (c.in_ok-entries_at.ensures c.args.f.start)))
 
-pub returns-else-f-le-LARGEST_LEVEL : goal.returns-else-f-le-LARGEST_LEVEL
+pub returns-else-is_ordinary : goal.returns-else-is_ordinary
 unfolding said_at
-returns-else-f-le-LARGEST_LEVEL c = sym (reserved_sound _ _ c.if-f-le-LARGEST_LEVEL.false)
+returns-else-is_ordinary c = sym (reserved_sound _ _ c.if-f-eq0.false (sym c.if-is_ordinary.ensures))

@@ -6,7 +6,7 @@ use Rattle.block.proofs.SurveyLaws.{Surveyed}
 use Rattle.block.proofs.pass.survey.Given as goal
 
 abbrev pub invariant-loop-at : goal.invariant-loop-at
-invariant-loop-at l = Surveyed l.file l.from l.root l.rootsize l.at l.ordinary l.records l.found
+invariant-loop-at l = Surveyed l.file l.from l.root l.rootsize l.at l.seen.blocks l.seen.records l.seen.root
 
 abbrev pub decreases-loop-at : goal.decreases-loop-at
 decreases-loop-at l = length l.file - l.at
