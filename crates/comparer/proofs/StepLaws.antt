@@ -1,5 +1,13 @@
 -- Laws of the steps of the merge.
 -- Assumes nothing.
+use Rattle.cursor.proofs.CursorLaws.{within_told}
+use Rattle.std.proofs.Common.{Some, None}
+use Rattle.shown.specs.declared.place.Which.TheVariants.{First, Second}
+use Rattle.shown.specs.Which.{number, file_of}
+use Rattle.payload.specs.Answers.{text_in}
+use Rattle.part.specs.Part.{part}
+use Rattle.part.specs.declared.Part.{Part}
+use Rattle.comparer.specs.Steps.{next_said, NextWithin}
 use mathlib.Core.Path.{◌≡◌, refl, sym, ap, ap₂, ◌∙◌}
 use mathlib.Core.Bool.{true, false}
 use mathlib.Core.List.{List, [], ◌∷◌, ◌++◌, append-nil, append_assoc, flat_map}
@@ -21,7 +29,51 @@ use Rattle.comparer.proofs.ListLaws.{length-numbers_of}
 
 -- ---- the record that comes next
 
-pub ruleset next_laws = (next_end, next_second_only, next_first_only, next_first, next_second)
+module _ (first second : List ℕ) where
+  pub said_none : next_said first second None ≡ none
+  unfolding next_said
+  said_none = refl
+
+  module _ (p : Part) where
+    pub said_first : next_said first second (Some (First, p)) ≡ next 1 (text_in first p.offset p.length)
+    unfolding next_said file_of number
+    said_first = refl
+
+    pub said_second : next_said first second (Some (Second, p)) ≡ next 2 (text_in second p.offset p.length)
+    unfolding next_said file_of number
+    said_second = refl
+
+    pub within_first : p.offset + p.length ≤ length first → NextWithin first second (Some (First, p))
+    unfolding NextWithin file_of
+    within_first h = h
+
+    pub within_second : p.offset + p.length ≤ length second → NextWithin first second (Some (Second, p))
+    unfolding NextWithin file_of
+    within_second h = h
+
+  pub within_none : NextWithin first second None
+  unfolding NextWithin
+  within_none = tt
+
+pub text_bytes : (s : List ℕ) (at n : ℕ) → (text_in s at n).bytes ≡ part s at n
+unfolding text_in
+text_bytes s at n = refl
+
+pub ruleset next_laws = (
+  next_end,
+  next_second_only,
+  next_first_only,
+  next_first,
+  next_second,
+  said_none,
+  said_first,
+  said_second,
+  within_none,
+  within_first,
+  within_second,
+  within_told,
+  text_bytes,
+)
 
 -- ---- copies that are passed
 
@@ -62,7 +114,7 @@ module _ (x : List ℕ) (records : List Text) (count : ℕ) where
           long = omega arith;
         }
 
-pub ruleset passed_laws = (passed_none, passed_end, passed_other, passed_more)
+pub ruleset passed_laws = (passed_none, passed_end, passed_other, passed_more, within_told)
 
 -- ---- the merge
 

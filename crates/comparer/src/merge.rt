@@ -14,7 +14,7 @@ use part::Part;
 use shown::place::Which;
 
 // The lesser of the records that follow both cursors, and the file that it is of; the first file's where they are the same.
-#[tactic(auto, unfolding(crate::specs::Steps::next_said, crate::specs::Steps::NextWithin, cursor::specs::Cursor::record_said, cursor::specs::Cursor::from_found, cursor::specs::Cursor::RecordWithin, cursor::specs::Cursor::PartWithin, shown::specs::Which::file_of, shown::specs::Which::number, payload::specs::Answers::text_in), using(crate::proofs::StepLaws::next_laws, byte_string::proofs::ComparisonLaws::compared))]
+#[tactic(auto, unfolding(cursor::specs::Cursor::record_said), using(crate::proofs::StepLaws::next_laws, byte_string::proofs::ComparisonLaws::compared))]
 fn least(first: &[u8], a: Cursor, second: &[u8], b: Cursor) -> Option<(Which, Part)>
     ensures next { next_said first.now second.now result
         ≡ next_of (following first.now a) (following second.now b) }
@@ -35,7 +35,7 @@ fn least(first: &[u8], a: Cursor, second: &[u8], b: Cursor) -> Option<(Which, Pa
 }
 
 // How many copies of x follow a cursor, one after the other, and the cursor behind them.
-#[tactic(auto, unfolding(cursor::specs::Cursor::record_said, cursor::specs::Cursor::from_found, cursor::specs::Cursor::RecordWithin, cursor::specs::Cursor::PartWithin, cursor::specs::Cursor::behind, byte_string::specs::Order::same, payload::specs::Answers::text_in), using(crate::proofs::StepLaws::passed_laws))]
+#[tactic(auto, unfolding(cursor::specs::Cursor::record_said), using(crate::proofs::StepLaws::passed_laws))]
 fn pass_copies(file: &[u8], c: Cursor, x: &[u8]) -> (usize, Cursor)
     requires { length (following file.now c) < 2 ^ 64 }
     ensures { (result.0 ≡ leading x.now (following file.now c))

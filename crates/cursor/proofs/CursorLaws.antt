@@ -30,7 +30,7 @@ use Rattle.matching.proofs.FrameRecordsLaws.{data_records}
 use Rattle.cursor.specs.declared.Cursor.{Cursor}
 use Rattle.std.proofs.Common.{Some}
 use Rattle.cursor.specs.declared.Found.{Found}
-use Rattle.cursor.specs.Cursor.{following, behind, from_found, record_said, PartWithin, RecordWithin}
+use Rattle.cursor.specs.Cursor.{following, behind, record_said, PartWithin, RecordWithin}
 
 -- ---- the records of a payload
 
@@ -148,6 +148,6 @@ unfolding RecordWithin PartWithin
 within_told file f p e h = subst (PartWithin file) e h
 
 -- and is the first that follows
-pub found_told : (file : List ℕ) (f : Found) (p : Part) → f.text ≡ Some p → text_in file p.offset p.length ∷ following file (behind f.here p) ≡ record_said file f
-unfolding record_said from_found
+pub found_told : (file : List ℕ) (f : Found) (p : Part) → f.text ≡ Some p → record_said file f ≡ text_in file p.offset p.length ∷ following file (behind f.here p)
+unfolding record_said
 found_told file f p e = rw e

@@ -17,14 +17,9 @@ following file c = records_from 0 (take c.end file) c.at ++ records_of (laid_fro
 unfoldable pub behind : Cursor → Part → Cursor
 behind c p = record c { at = p.offset + p.length }
 
--- a record that was found in front of a cursor, if any, and then what follows the cursor behind it
-unfoldable pub from_found : List ℕ → Option Part → Cursor → List Text
-from_found file (Some p) here = text_in file p.offset p.length ∷ following file (behind here p)
-from_found file None here = []
-
--- what an answer says of the records that follow
+-- what an answer says of the records that follow: the record that was found, if any, and then what follows the cursor behind it
 unfoldable pub record_said : List ℕ → Found → List Text
-record_said file f = from_found file f.text f.here
+record_said file f = elim f.text [ None ↦ [] | Some p ↦ text_in file p.offset p.length ∷ following file (behind f.here p) ]
 
 -- the part lies within the file, where there is one
 unfoldable pub PartWithin : List ℕ → Option Part → Type 0

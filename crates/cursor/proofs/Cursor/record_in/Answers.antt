@@ -4,7 +4,7 @@ use Rattle.outcome.specs.Fault.{said_at}
 use Rattle.framing.proofs.FrameLaws.{Framed, frame⇒Framed}
 use Rattle.payload.specs.Answers.{text_said}
 use Rattle.block.specs.Block.{is_data}
-use Rattle.cursor.specs.Cursor.{behind, from_found, record_said, PartWithin, RecordWithin}
+use Rattle.cursor.specs.Cursor.{behind, record_said, PartWithin, RecordWithin}
 use Rattle.cursor.proofs.CursorLaws.{end_few, follow_cut, follow_text, follow_block, follow_none}
 use Rattle.cursor.proofs.Cursor.record_in.Goals as goal
 use Rattle.cursor.proofs.Cursor.record_in.Goals.{In-Ok-frame_at}
@@ -18,14 +18,14 @@ unfolding said_at
 framed c = frame⇒Framed c.args.file.now c.loop-text.here.block _ (sym c.in-Ok-frame_at.ensures)
 
 pub returns-in-Ok : goal.returns-in-Ok
-unfolding text_said record_said RecordWithin from_found PartWithin behind
+unfolding text_said record_said RecordWithin PartWithin behind
 returns-in-Ok c =
     let text = follow_text c.args.file.now c.loop-text.here.at c.loop-text.here.end c.loop-text.here.block _ _ (sym (c.in-Ok.ensures 0)) in
     let before = text.0 in
     record { result_value = sym text.1 ∙ c.loop-text.invariant.1; record_within = omega arith; here_follows = c.loop-text.invariant.1 }
 
 pub returns-in_default-frame_at : goal.returns-in_default-frame_at
-unfolding text_said said_at record_said RecordWithin from_found PartWithin
+unfolding text_said said_at record_said RecordWithin PartWithin
 returns-in_default-frame_at c =
     record {
       result_value = sym (follow_none c.args.file.now c.loop-text.here.at c.loop-text.here.end c.loop-text.here.block _ _ (sym (c.in_default.ensures 0)) _ _
