@@ -222,7 +222,16 @@ front_agreed (suc m) (a ∷ x) (b ∷ y) h = go (front_agreed m x y) (same_or_no
         omega (arith, agreeing-same a b x y e)
     go ih (inr n) = absurd (omega (arith, agreeing_differ a b (take m x) (take m y) n))
 
--- The loop that finds the place by chunks of eight: the next ones are a and b, of which the first k agree.
+-- The loop that finds the place m elements at a time: k is how many of the m from n on agree.
+
+pub agreed_parted : (x y : List ℕ) (n m k : ℕ) → k ≡ agreeing (take m (drop n x)) (take m (drop n y)) → k < m → Agreed x y n → n + k ≡ agreeing x y
+agreed_parted x y n m k e h i = omega (arith, front_parted m (drop n x) (drop n y) (rw e at h))
+
+pub agreed_front : (x y : List ℕ) (n m k : ℕ) → k ≡ agreeing (take m (drop n x)) (take m (drop n y)) → m ≤ k → Agreed x y n
+    → (next : ℕ) → next ≡ n + m → Agreed x y next
+agreed_front x y n m k e h i next s = rw (s, ← drop-drop m n x, ← drop-drop m n y) (omega (arith, front_agreed m (drop n x) (drop n y) (rw e at h)))
+
+-- The loop by chunks of eight: the next ones are a and b, of which the first k agree.
 
 -- a chunk is a front of what it comes from
 front_chunk : (a p z : List ℕ) → z ≡ a ++ p → length a ≡ 8 → take 8 z ≡ a
@@ -242,11 +251,10 @@ module _ (x y : List ℕ) (n : ℕ) (a b p q : List ℕ) (ex : drop n x ≡ a ++
 
   module _ (k : ℕ) (e : k ≡ agreeing a b) (i : Agreed x y n) where
     pub chunk_parted : k < 8 → n + k ≡ agreeing x y
-    chunk_parted h = let c = chunks_agreeing in omega (arith, front_parted 8 (drop n x) (drop n y) (omega arith))
+    chunk_parted h = agreed_parted x y n 8 k (e ∙ chunks_agreeing) h i
 
     pub chunk_agreed : 8 ≤ k → Agreed x y (n + 8)
-    chunk_agreed h =
-        let c = chunks_agreeing in rw (← drop-drop 8 n x, ← drop-drop 8 n y) (omega (arith, front_agreed 8 (drop n x) (drop n y) (omega arith)))
+    chunk_agreed h = agreed_front x y n 8 k (e ∙ chunks_agreeing) h i (n + 8) refl
 
 -- The pairs at the front whose parts are the same, counted.
 
