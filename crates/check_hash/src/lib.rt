@@ -16,6 +16,7 @@ use outcome::{Fault, Refusal};
 use sha256::State;
 
 // Checks the hash of a file whose blocks begin at `from`: 25 where it is wrong. A file that is too long gets 1, since its hash is not taken.
+#[tactic(auto, unfolding(outcome::specs::Fault::said, outcome::specs::Fault::number, outcome::specs::Fault::at_front, outcome::specs::Outcome::must), using(crate::proofs::HashLaws::hash_long, crate::proofs::HashLaws::hash_tested))]
 pub fn check_hash(file: &[u8], from: usize) -> Result<(), Refusal>
     ensures { said result ≡ hash_of file.now from }
 {

@@ -119,6 +119,7 @@ fn leaf_keys(file: &[u8], at: usize, before: Keys) -> Keys
 }
 
 // Whether a key lies between the last record before and the first record of what its block leads to.
+#[tactic(auto, unfolding(crate::specs::Keys::Within))]
 fn fits_between(file: &[u8], key: Part, before: Span, child: Span) -> bool
     requires { (key.offset + key.length ≤ length file.now) × defs.Within file.now before × defs.Within file.now child }
     ensures { result ≡ defs.fits_between file.now (bytes_in file.now key) before child }

@@ -30,6 +30,14 @@ use Rattle.differences.proofs.MergedDifferences.{merged_differences}
 use Rattle.differences.proofs.SumLaws.{sum_differences}
 use Rattle.cursor.specs.declared.Cursor.{Cursor}
 use Rattle.cursor.specs.Cursor.{following}
+use Rattle.std.proofs.Common.{Some, Result, Ok, Err}
+use Rattle.std.specs.Result.{IsErrAnd}
+use Rattle.std.proofs.lemmas.Result.{err_from_is_err_and}
+use Rattle.shown.specs.declared.place.Which.TheVariants.{First, Second}
+use Rattle.shown.specs.Which.{number}
+use Rattle.comparer.specs.declared.Refused.{Refused}
+use Rattle.shown.specs.declared.place.Which.{Which}
+use Rattle.comparer.specs.Reported.{number_of_file, refused_as, reported, listed_after, CheckSaid}
 use Rattle.comparer.specs.declared.Compared.{Compared}
 use Rattle.comparer.specs.Compare.{listed_in, compare_of, refused_file, sum_in, answered, compare_answer, compare_list}
 use Rattle.output_list.specs.OutputList.{with_numbers}
@@ -89,34 +97,39 @@ module _ (first second : List ℕ) (places room : ℕ) where
 
 -- ---- a file that was checked, and a cursor in front of its records
 
-pub record Checks (file : List ℕ) (places : ℕ) (r : Checked) : Type 0 where
+pub record Checks (file : List ℕ) (places count : ℕ) : Type 0 where
   pub blocks : List Block
   pub checked : check_of file places ≡ answer blocks
   pub accepted : Accepted file blocks
-  pub counted : r.records ≡ length (records_of blocks)
+  pub counted : count ≡ length (records_of blocks)
   pub few : length (records_of blocks) ≤ 2 ^ 30
 
-pub checks : (file : List ℕ) (places : ℕ) (r : Checked) → r ≡ check_answer (check_of file places) → r.number ≡ 0 → Checks file places r
-checks file places r e z =
-    let (bs, checked) = number_0⇒answer file places (ap (λ (a : Checked). a.number) (sym e) ∙ z) in
+pub checks : (file : List ℕ) (places : ℕ) (which : Which) (count : ℕ) → CheckSaid which (Ok count) (check_of file places) → Checks file places count
+unfolding CheckSaid
+checks file places which count (bs, checked, counted) =
     let accepted = (check⇒Accepted file places bs checked).0 in
     let few = accepted_few file bs accepted in
     let small = (is_header file (header_numbers file) accepted.header).small in
-    record {
-      blocks = bs;
-      checked = checked;
-      accepted = accepted;
-      counted = ap (λ (a : Checked). a.records) (e ∙ check_answer_lem file places bs checked);
-      few = omega arith;
-    }
+    record { blocks = bs; checked = checked; accepted = accepted; counted = counted; few = omega arith }
 
-pub refused_check : (file : List ℕ) (places : ℕ) (r : Checked) → r ≡ check_answer (check_of file places) → (r.number ≡ 0 → ⊥)
-    → check_of file places ≡ refused r.number r.place
-refused_check file places r e some =
-    number_some⇒refused file places (λ z. some (ap (λ (a : Checked). a.number) e ∙ z))
-    ∙ ap (λ (a : Checked). refused a.number a.place) (sym e)
+-- what the answer of `check` says
+pub check_counted : (file : List ℕ) (places : ℕ) (which : Which) (r : Checked) → r ≡ check_answer (check_of file places) → r.number ≡ 0
+    → CheckSaid which (Ok r.records) (check_of file places)
+unfolding CheckSaid
+check_counted file places which r e z =
+    let (bs, checked) = number_0⇒answer file places (ap (λ (a : Checked). a.number) (sym e) ∙ z) in
+    (bs, checked, ap (λ (a : Checked). a.records) (e ∙ check_answer_lem file places bs checked))
 
-module _ (file : List ℕ) (places : ℕ) (r : Checked) (k : Checks file places r) (from : ℕ) (begin : (h : Header) → header_of file ≡ answer h → from ≡ blocks_from h)
+pub check_refused : (file : List ℕ) (places : ℕ) (which : Which) (r : Checked) → r ≡ check_answer (check_of file places) → (r.number ≡ 0 → ⊥)
+    → CheckSaid which (Err (record { number = r.number; place = r.place; file = Some which })) (check_of file places)
+unfolding CheckSaid
+check_refused file places which r e some = (
+  number_some⇒refused file places (λ z. some (ap (λ (a : Checked). a.number) e ∙ z))
+      ∙ ap (λ (a : Checked). refused a.number a.place) (sym e),
+  refl,
+)
+
+module _ (file : List ℕ) (places count : ℕ) (k : Checks file places count) (from : ℕ) (begin : (h : Header) → header_of file ≡ answer h → from ≡ blocks_from h)
     (c : Cursor) (at : (f : List ℕ) → following f c ≡ records_of (laid_from f from)) where
   pub follows : following file c ≡ records_of k.blocks
   follows =
@@ -126,7 +139,7 @@ module _ (file : List ℕ) (places : ℕ) (r : Checked) (k : Checks file places 
 
 -- ---- after the merge
 
-module _ (first second : List ℕ) (places room : ℕ) (one two : Checked) (j : Checks first places one) (k : Checks second places two)
+module _ (first second : List ℕ) (places room : ℕ) (one two : ℕ) (j : Checks first places one) (k : Checks second places two)
     (xs ys : List Text) (e : xs ≡ records_of j.blocks) (f : ys ≡ records_of k.blocks) where
   -- there are few records
   pub compare_few : length xs + length ys < 2 ^ 32
@@ -150,7 +163,7 @@ module _ (first second : List ℕ) (places room : ℕ) (one two : Checked) (j : 
     merged_short h = compare_short first second places room j.blocks j.checked k.blocks k.checked (merged xs ys) found (omega arith)
 
     pub merged-listed : count ≤ room / 5 → (before list : List ℕ) → before ≡ zeros room → list ≡ with_numbers before 0 (numbers_of (merged xs ys))
-        → (sum : ℤ) → sum ≡ pos two.records -ℤ pos one.records
+        → (sum : ℤ) → sum ≡ pos two -ℤ pos one
         → Answers first second places room (record { number = 0; place = 0; which = 0; differences = count; sum = sum }) list
     unfolding room_for strings
     merged-listed h before list cleared put sum added =
@@ -165,3 +178,25 @@ module _ (first second : List ℕ) (places room : ℕ) (one two : Checked) (j : 
           put ∙ ap (λ (l : List ℕ). with_numbers l 0 (numbers_of (merged xs ys))) (cleared ∙ sym (padded_nil room))
               ∙ with_numbers-padded room [] 0 (numbers_of (merged xs ys)) refl (omega arith) ∙ given.1,
         )
+
+-- ---- what the results say
+
+-- a refusal that is handed on
+module _ (first second : List ℕ) (places : ℕ) (r : Result Compared Refused) (e : Refused) (err : IsErrAnd r (λ x. x ≡ e)) (list : List ℕ) where
+  -- of the first file
+  pub first_handed : CheckSaid First (Err e) (check_of first places)
+      → (reported r ≡ compare_answer first second places (length list)) × (listed_after r list ≡ compare_list first second places (length list))
+  unfolding CheckSaid reported refused_as listed_after number_of_file number
+  first_handed (why, file) =
+      let p = err_from_is_err_and r err in
+      let told = compare_refused_first first second places (length list) e.number e.place why in
+      (rw (p.1, p.2, file) told.0, rw p.1 told.1)
+
+  -- of the second
+  pub second_handed : (count : ℕ) → Checks first places count → CheckSaid Second (Err e) (check_of second places)
+      → (reported r ≡ compare_answer first second places (length list)) × (listed_after r list ≡ compare_list first second places (length list))
+  unfolding CheckSaid reported refused_as listed_after number_of_file number
+  second_handed count j (why, file) =
+      let p = err_from_is_err_and r err in
+      let told = compare_refused_second first second places (length list) j.blocks j.checked e.number e.place why in
+      (rw (p.1, p.2, file) told.0, rw p.1 told.1)

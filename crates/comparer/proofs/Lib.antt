@@ -2,4 +2,3 @@
 pub mod ListLaws
 pub mod StepLaws
 pub mod CompareLaws
-pub mod SignedLaws

@@ -1,6 +1,6 @@
 -- Laws of the steps of the merge.
 -- Assumes nothing.
-use mathlib.Core.Path.{◌≡◌, refl, sym, ap, ap₂, ◌∙◌, subst}
+use mathlib.Core.Path.{◌≡◌, refl, sym, ap, ap₂, ◌∙◌}
 use mathlib.Core.Bool.{true, false}
 use mathlib.Core.List.{List, [], ◌∷◌, ◌++◌, append-nil, append_assoc, flat_map}
 use Prim.Native.Nat.{ℕ, suc, ◌+◌, ◌≤◌, ◌<◌}
@@ -9,83 +9,19 @@ use native.Mathlib.Omega.{arith}
 use lib.ListN.{length, drop, length-append}
 use lib.Seq.{drop-drop}
 use Rattle.lists.proofs.ListsLaws.{flat_map_append}
-use Rattle.byte_string.specs.Order.{at_most}
-use Rattle.part.specs.Part.{part}
-use Rattle.part.specs.declared.Part.{Part}
 use Rattle.payload.specs.Payload.{Text}
-use Rattle.payload.specs.Answers.{text_in}
-use Rattle.record.proofs.RecordLaws.{within_of}
-use Rattle.part.proofs.PartLaws.{length_part}
-use Rattle.shown.specs.Shown.{file_named, names_part, part_shown, shown_bytes}
-use Rattle.shown.proofs.ShownLaws.{names-first, names_second, named_within, named_place}
 use Rattle.byte_string.specs.Order.{same}
 use Rattle.differences.specs.Differences.{Difference, numbers_of, room_for}
 use Rattle.differences.specs.Merge.{none, next, next_of, leading, listed, merged}
 use Rattle.differences.proofs.MergeLaws.{next_end, next_second_only, next_first_only, next_first, next_second, leading_end, leading_passed, leading_more}
 use Rattle.differences.proofs.MergeLaws.{merged_none, merged_next, merged_falls, listed_none, listed_one}
-use Rattle.comparer.specs.declared.merge.NextOutcome.{NextOutcome}
-use Rattle.comparer.specs.declared.merge.NextOutcome.TheVariants.{Record, End}
-use Rattle.comparer.specs.Steps.{next_said, NextNamed}
 use Rattle.output_list.specs.OutputList.{with_numbers}
 use Rattle.output_list.proofs.OutputListLaws.{with_numbers-append}
 use Rattle.comparer.proofs.ListLaws.{length-numbers_of}
 
 -- ---- the record that comes next
 
-module _ (first second : List ℕ) (xs ys : List Text) where
-  pub least_end : [] ≡ xs → [] ≡ ys → next_said first second End ≡ next_of xs ys
-  unfolding next_said
-  least_end e f = sym next_end ∙ ap₂ next_of e f
-
-  module _ (y : Part) (more : List Text) (f : text_in second y.offset y.length ∷ more ≡ ys) where
-    pub least_second_only : [] ≡ xs → next_said first second (Record 2 y) ≡ next_of xs ys
-    unfolding next_said file_named
-    least_second_only e = sym (next_second_only _ more) ∙ ap₂ next_of e f
-
-  module _ (x : Part) (rest : List Text) (e : text_in first x.offset x.length ∷ rest ≡ xs) where
-    pub least_first_only : [] ≡ ys → next_said first second (Record 1 x) ≡ next_of xs ys
-    unfolding next_said file_named
-    least_first_only f = sym (next_first_only _ rest) ∙ ap₂ next_of e f
-
-    module _ (y : Part) (more : List Text) (f : text_in second y.offset y.length ∷ more ≡ ys) where
-      pub least_first : at_most (part first x.offset x.length) (part second y.offset y.length) ≡ true
-          → next_said first second (Record 1 x) ≡ next_of xs ys
-      unfolding next_said file_named text_in
-      least_first h = sym (next_first _ rest _ more h) ∙ ap₂ next_of e f
-
-      pub least_second : at_most (part first x.offset x.length) (part second y.offset y.length) ≡ false
-          → next_said first second (Record 2 y) ≡ next_of xs ys
-      unfolding next_said file_named text_in
-      least_second h = sym (next_second _ rest _ more h) ∙ ap₂ next_of e f
-
--- it is a part of its file
-module _ (first second : List ℕ) (p : Part) where
-  pub named_first : p.offset + p.length ≤ length first → NextNamed first second (Record 1 p)
-  unfolding NextNamed
-  named_first h = names-first first second 1 p.offset p.length refl ∙ within_of first p.offset p.length h
-
-  pub named_second : p.offset + p.length ≤ length second → NextNamed first second (Record 2 p)
-  unfolding NextNamed
-  named_second h = names_second first second 2 p.offset p.length refl ∙ within_of second p.offset p.length h
-
--- what is known of an answer that names one
-named_told : (first second : List ℕ) (r : NextOutcome) (which : ℕ) (text : Part) → r ≡ Record which text → NextNamed first second r
-    → names_part first second which text.offset text.length ≡ true
-unfolding NextNamed
-named_told first second r which text e h = subst (NextNamed first second) e h
-
-module _ (first second : List ℕ) (r : NextOutcome) (which : ℕ) (text : Part) (e : r ≡ Record which text) (named : NextNamed first second r) where
-  -- its bytes are those that are handed back
-  pub text_shown : (b : List ℕ) → b ≡ shown_bytes first second (part_shown first second which text.offset text.length)
-      → b ≡ (text_in (file_named first second which) text.offset text.length).bytes
-  unfolding shown_bytes text_in
-  text_shown b is = is ∙ ap (shown_bytes first second) (named_place first second which text.offset text.length (named_told first second r which text e named))
-
-  pub text_long : text.length ≡ length (text_in (file_named first second which) text.offset text.length).bytes
-  unfolding text_in
-  text_long =
-      sym (length_part (file_named first second which) text.offset text.length
-      (named_within first second which text.offset text.length (named_told first second r which text e named)))
+pub ruleset next_laws = (next_end, next_second_only, next_first_only, next_first, next_second)
 
 -- ---- copies that are passed
 
@@ -125,6 +61,8 @@ module _ (x : List ℕ) (records : List Text) (count : ℕ) where
           left = ap (drop 1) (e ∙ p.left) ∙ drop-drop 1 count records;
           long = omega arith;
         }
+
+pub ruleset passed_laws = (passed_none, passed_end, passed_other, passed_more)
 
 -- ---- the merge
 

@@ -1,3 +1,4 @@
 -- The meaning of comparing two files.
 pub mod Compare
 pub mod Steps
+pub mod Reported

@@ -1,17 +1,17 @@
 -- The record that comes next in the merge.
-use Rattle.std.specs.Prelude.{ℕ, ◌≡◌, true, List}
+use Rattle.std.specs.Prelude.{ℕ, ◌+◌, ◌≤◌, List, length, Option, Some, None}
+use Rattle.part.specs.declared.Part.{Part}
 use Rattle.payload.specs.Answers.{text_in}
-use Rattle.shown.specs.Shown.{file_named, names_part}
+use Rattle.shown.specs.declared.place.Which.{Which}
+use Rattle.shown.specs.Which.{number, file_of}
 use Rattle.differences.specs.Merge.{Next, none, next}
-use Rattle.comparer.specs.declared.merge.NextOutcome.{NextOutcome}
-use Rattle.comparer.specs.declared.merge.NextOutcome.TheVariants.{Record, End}
 
 -- what an answer says of the record that comes next
-unfoldable pub next_said : (first second : List ℕ) → NextOutcome → Next
-next_said first second (Record which text) = next which (text_in (file_named first second which) text.offset text.length)
-next_said first second End = none
+unfoldable pub next_said : (first second : List ℕ) → Option (Which × Part) → Next
+next_said first second (Some (w, p)) = next (number w) (text_in (file_of first second w) p.offset p.length)
+next_said first second None = none
 
--- the record that an answer names is a part of one of the files
-unfoldable pub NextNamed : (first second : List ℕ) → NextOutcome → Type 0
-NextNamed first second (Record which text) = names_part first second which text.offset text.length ≡ true
-NextNamed first second End = Unit {0}
+-- the record that an answer names lies within its file
+unfoldable pub NextWithin : (first second : List ℕ) → Option (Which × Part) → Type 0
+NextWithin first second (Some (w, p)) = p.offset + p.length ≤ length (file_of first second w)
+NextWithin first second None = Unit {0}

@@ -14,12 +14,13 @@ ghost use Rattle.crc64.specs.Crc64 as crc;
 use crc64_lanes::absorb_by_lanes;
 use crc64_register::absorb_by_bits;
 
-const ALL_ONES: u64 = 0xffff_ffff_ffff_ffff;
+const ALL_ONES: u64 = u64::MAX;
 
 // Pieces of so many bytes and more go in lanes.
 const LONG: usize = 512;
 
 // The register before the first byte.
+#[tactic(auto, unfolding(crate::specs::Crc64::register_start, crate::specs::Crc64::all_ones))]
 pub fn begin() -> u64
     ensures { result ≡ register_start }
 {
@@ -37,6 +38,7 @@ pub fn absorb(register: u64, bytes: &[u8]) -> u64
 }
 
 // The CRC that a register gives.
+#[tactic(auto, unfolding(crate::specs::Crc64::crc_of, crate::specs::Crc64::all_ones))]
 pub fn finish(register: u64) -> u64
     ensures { result ≡ crc_of register }
 {
@@ -44,6 +46,7 @@ pub fn finish(register: u64) -> u64
 }
 
 // The CRC of the bytes.
+#[tactic(auto, unfolding(crate::specs::Crc64::crc64))]
 pub fn checksum(bytes: &[u8]) -> u64
     ensures { result ≡ crc64 bytes.now }
 {

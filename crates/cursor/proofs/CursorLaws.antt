@@ -3,10 +3,12 @@
 use mathlib.Core.Path.{◌≡◌, refl, sym, ap, ◌∙◌, subst}
 use mathlib.Core.Bool.{Bool, true, false, cond}
 use mathlib.Core.List.{List, [], ◌∷◌, ◌++◌, flat_map}
-use Prim.Native.Nat.{ℕ, ◌+◌, ◌-◌, ◌≤◌, ◌<◌}
+use Prim.Native.Nat.{ℕ, min, ◌+◌, ◌-◌, ◌≤◌, ◌<◌}
 use native.Mathlib.Omega.{arith}
 use lib.ListN.{length, take, length-take}
-use borrow.Author.Tests.{eqb-true, eqb-false}
+use lib.Dec.{leb}
+use lib.Seq.{take_all, take-length}
+use borrow.Author.Tests.{eqb-true, eqb-false, leb-true, leb-false}
 use Rattle.outcome.specs.Outcome.{answer, refused}
 use Rattle.items.specs.Items.{sound_from}
 use Rattle.items.proofs.ItemsLaws.{sound_end}
@@ -26,9 +28,9 @@ use Rattle.block.proofs.LaidLaws.{laid_found, laid_refused, laid_forward, laid_n
 use Rattle.matching.specs.Matching.{records_from}
 use Rattle.matching.proofs.FrameRecordsLaws.{data_records}
 use Rattle.cursor.specs.declared.Cursor.{Cursor}
-use Rattle.cursor.specs.declared.RecordOutcome.{RecordOutcome}
-use Rattle.cursor.specs.declared.RecordOutcome.TheVariants.{Answer}
-use Rattle.cursor.specs.Cursor.{following, RecordWithin}
+use Rattle.std.proofs.Common.{Some}
+use Rattle.cursor.specs.declared.Found.{Found}
+use Rattle.cursor.specs.Cursor.{following, behind, from_found, record_said, PartWithin, RecordWithin}
 
 -- ---- the records of a payload
 
@@ -78,10 +80,19 @@ module _ (file : List ℕ) where
   unfolding following records_from sound_from
   follow_start from = refl
 
-  -- only the bytes before the end count
-  pub follow_cut : (at end limit block : ℕ) → take limit file ≡ take end file → follow at limit block ≡ follow at end block
+  -- only the bytes before the file's end count
+  pub follow_cut : (c : Cursor) (limit : ℕ) → limit ≡ min c.end (length file)
+      → (limit ≤ length file) × (following file (record c { end = limit }) ≡ following file c)
   unfolding following
-  follow_cut at end limit block e = ap (λ (s : List ℕ). records_from 0 s at ++ records_of (laid_from file block)) e
+  follow_cut c limit e =
+      (omega arith, ap (λ (s : List ℕ). records_from 0 s c.at ++ records_of (laid_from file c.block)) (go (leb c.end (length file)) refl))
+    where
+      go : (b : Bool) → leb c.end (length file) ≡ b → take limit file ≡ take c.end file
+      go true h = let few = leb-true c.end (length file) h in let is : limit ≡ c.end = omega arith in rw is
+      go false h =
+          let many = leb-false c.end (length file) h in
+          let is : limit ≡ length file = omega arith in
+          rw is (take-length file ∙ sym (take_all c.end file (omega arith)))
 
   -- a record is found in the payload
   pub follow_text : (at end block start n : ℕ) → text_at 0 (take end file) at ≡ answer (record { item = text_in (take end file) start n; next = start + n })
@@ -132,7 +143,11 @@ module _ (file : List ℕ) where
 -- ---- what an answer says
 
 -- the record that it names lies within the file
-pub within_told : (file : List ℕ) (r : RecordOutcome) (text : Part) (here after : Cursor) → r ≡ Answer text here after → RecordWithin file r
-    → text.offset + text.length ≤ length file
-unfolding RecordWithin
-within_told file r text here after e h = subst (RecordWithin file) e h
+pub within_told : (file : List ℕ) (f : Found) (p : Part) → f.text ≡ Some p → RecordWithin file f → p.offset + p.length ≤ length file
+unfolding RecordWithin PartWithin
+within_told file f p e h = subst (PartWithin file) e h
+
+-- and is the first that follows
+pub found_told : (file : List ℕ) (f : Found) (p : Part) → f.text ≡ Some p → text_in file p.offset p.length ∷ following file (behind f.here p) ≡ record_said file f
+unfolding record_said from_found
+found_told file f p e = rw e

@@ -87,6 +87,15 @@ structural_shorter c (b ∷ s) r e =
     let h = skip_shorter s in
     rw (← some_injective (skip s) r x.1) (omega arith)
 
+-- after a name, a value and a comma the other items go on
+pub turn_same : (kind : Kind) (d : ℕ) (s t r q : List ℕ) → some t ≡ name_of kind s → some r ≡ value_end d t → none ≡ structural_end (closing_of kind) r
+    → some q ≡ structural_end 0x2c r → items_end (item_of kind d) (closing_of kind) q ≡ items_end (item_of kind d) (closing_of kind) s
+turn_same kind d s t r q name value unclosed comma =
+    let items = items_end (item_of kind d) (closing_of kind) in
+    let item = item_named kind d s ∙ bind_some (name_of kind s) (value_end d) t (sym name) ∙ sym value in
+    sym (items_turn kind d s ∙ bind_some (item_of kind d s) (item_next (closing_of kind) items) r item
+    ∙ next_more (closing_of kind) items r (sym unclosed) ∙ bind_some (structural_end 0x2c r) items q (sym comma))
+
 -- a name, a value and a comma take bytes
 pub turn_shorter : (kind : Kind) (d : ℕ) (s t r q : List ℕ) → some t ≡ name_of kind s → some r ≡ value_end d t → some q ≡ structural_end 0x2c r
     → length q < length s

@@ -1,10 +1,12 @@
--- Laws of what is left: after the bytes at the front that pass a test, and by two tests that must hold.
+-- Laws of what is left after the bytes at the front that pass a test, and of going on with it.
 -- Assumes nothing.
 use Rattle.std.proofs.Common.{◌≡◌, ℕ, ◌-◌, ◌<◌, ◌≤◌, length, Bool, true, false, ◌&&◌, cond, List, [], ◌∷◌, take, drop, get_or, refl, arith}
 use Rattle.std.proofs.lemmas.Grind.{common_steps}
 use Rattle.std.proofs.Math.Option.{Option, none}
 use Rattle.json_grammar.proofs.BindLaws.{bind_some, bind_none}
 use Rattle.json_grammar.specs.Recogniser.{skip_while}
+
+-- ---- passing over the bytes that a test takes
 
 module _ (test : ℕ → Bool) where
   pub skip_none : (s : List ℕ) → length s < 1 → s ≡ skip_while test s

@@ -7,7 +7,7 @@ use crate::scalar::plain;
 use crate::space::{skip, structural};
 use crate::string::string;
 
-// Containers: values that hold others.
+// The kinds of containers, which are values that hold others.
 #[derive(Clone, Copy)]
 pub enum Kind {
     Object,

@@ -8,7 +8,7 @@ use native.Mathlib.Omega.{arith}
 use lib.Dec.{leb}
 use lib.ListN.{length}
 use borrow.Author.Tests.{leb-true, leb-false, le-leb, lt-leb}
-use Rattle.output_list.specs.OutputList.{zeros}
+use Rattle.output_list.specs.OutputList.{padded, zeros}
 use Rattle.output_list.proofs.OutputListLaws.{length-zeros}
 use Rattle.outcome.specs.Outcome.{Outcome, answer, refused, number_of, place_of, count_of, list_of, ◌>>=◌}
 use Rattle.outcome.proofs.OutcomeLaws.{answer_injective, answer_not_refused, kept, broken, bind_answer, bind_refused, bind⁻¹, map_refused⁻¹}
@@ -24,13 +24,30 @@ use Rattle.block.specs.Laid.{laid_from}
 use Rattle.block.proofs.LaidLaws.{blocks⇒laid}
 use Rattle.query.specs.Query.{Query}
 use Rattle.matching.specs.Matching.{matching}
-use Rattle.matching.specs.ResultList.{room_for, Stored, put_all}
+use Rattle.matching.specs.ResultList.{room_for, numbers_of, Stored, put_all}
 use Rattle.matching.proofs.ResultListLaws.{count_put_all, length_put_all, stored_all}
 use Rattle.reader.specs.Read.{read_blocks, read_of, read_answer, read_list, refused_answer, counted}
 
 -- ---- what is reported
 
--- a count that is answered
+pub answer_of_refusal : (o : Outcome (List Text)) (number place : ℕ) → o ≡ refused number place
+    → read_answer o ≡ record { number = number; place = place; matches = 0 }
+unfolding read_answer number_of place_of count_of
+answer_of_refusal o number place e = rw e
+
+pub list_of_refusal : (room : ℕ) (o : Outcome (List Text)) (number place : ℕ) → o ≡ refused number place → read_list room o ≡ zeros room
+unfolding read_list list_of
+list_of_refusal room o number place e = rw e
+
+pub answer_of_matches : (o : Outcome (List Text)) (ms : List Text) → o ≡ answer ms → read_answer o ≡ record { number = 0; place = 0; matches = length ms }
+unfolding read_answer number_of place_of count_of
+answer_of_matches o ms e = rw e
+
+pub list_of_matches : (room : ℕ) (o : Outcome (List Text)) (ms : List Text) → o ≡ answer ms → read_list room o ≡ padded room (numbers_of ms)
+unfolding read_list list_of
+list_of_matches room o ms e = rw e
+
+-- a count that the code answers
 pub told_count : (o : Outcome (List Text)) (n : ℕ) → answer n ≡ counted o → record { number = 0; place = 0; matches = n } ≡ read_answer o
 unfolding read_answer counted number_of place_of count_of ◌>>=◌
 told_count (answer ms) n e = ap (λ (k : ℕ). record { number = 0; place = 0; matches = k }) (answer_injective n (length ms) e)
@@ -39,10 +56,10 @@ told_count (refused k p) n e = absurd (answer_not_refused n k p e)
 -- a refusal
 pub told_refusal : (room : ℕ) (o : Outcome (List Text)) (r : Refusal) → refused (number r.fault) r.place ≡ counted o
     → (refused_answer r ≡ read_answer o) × (zeros room ≡ read_list room o)
-unfolding read_answer read_list refused_answer counted number_of place_of count_of list_of
+unfolding refused_answer counted
 told_refusal room o r e =
     let is = map_refused⁻¹ o length (number r.fault) r.place (sym e) in
-    (sym (ap read_answer is), sym (ap (read_list room) is))
+    (sym (answer_of_refusal o (number r.fault) r.place is), sym (list_of_refusal room o (number r.fault) r.place is))
 
 -- ---- the blocks
 
@@ -68,10 +85,13 @@ module _ (file : List ℕ) (q : Query) (room : ℕ) (h : Header) where
 
   -- ---- the ways out of the code
 
+  pub header_accepts : header_of file ≡ answer h → read_of file q room ≡ read_blocks file q room h
+  unfolding read_of
+  header_accepts e = bind_answer (header_of file) _ h e
+
   module _ (known : header_of file ≡ answer h) where
     read_is : (o : Outcome (List Text)) → read_blocks file q room h ≡ o → read_of file q room ≡ o
-    unfolding read_of
-    read_is o e = bind_answer (header_of file) _ h known ∙ e
+    read_is o e = header_accepts known ∙ e
 
     pub read_refused : (number place : ℕ) → survey_of file (blocks_from h) h.root h.rootsize ≡ refused number place
         → refused number place ≡ counted (read_of file q room)
@@ -129,19 +149,22 @@ module _ (file : List ℕ) (q : Query) (room : ℕ) (h : Header) where
           let all = accepted s sound in
           let ms = matching q (records_of all.0) in
           let fits = leb-true (room_for (length ms)) room (same_test all.0 all.1 ∙ few) in
-          let answered = read_is (answer ms) (blocks_fit all.0 all.1 fits) in
-          (
+          let answered = read_is (answer ms) (blocks_fit all.0 all.1 fits) in (
             ap answer (all_counted all.0 all.1) ∙ sym (bind_answer (read_of file q room) _ ms answered),
             ap (λ (t : Stored). t.list) (put_records all.0 all.1 ∙ stored_all room ms fits) ∙ sym (ap (read_list room) answered),
           )
 
 -- ---- the header
 
-pub header_refuses : (file : List ℕ) (q : Query) (room number place : ℕ) → header_of file ≡ refused number place
+pub header_refuses : (file : List ℕ) (q : Query) (room number place : ℕ) → header_of file ≡ refused number place → read_of file q room ≡ refused number place
+unfolding read_of
+header_refuses file q room number place e = bind_refused (header_of file) _ number place e
+
+-- what the code answers then
+pub header_stops : (file : List ℕ) (q : Query) (room number place : ℕ) → header_of file ≡ refused number place
     → refused number place ≡ counted (read_of file q room)
-unfolding read_of counted
-header_refuses file q room number place e =
-    sym (bind_refused (read_of file q room) _ number place (bind_refused (header_of file) _ number place e))
+unfolding counted
+header_stops file q room number place e = sym (bind_refused (read_of file q room) _ number place (header_refuses file q room number place e))
 
 -- a list that was cleared is all zeros still
 pub still_zeros : (old list : List ℕ) → list ≡ zeros (length old) → list ≡ zeros (length list)

@@ -7,6 +7,8 @@ use Prim.Native.Nat.{ℕ, ◌+◌, ◌^◌, ◌≤◌}
 use native.Mathlib.Omega.{arith}
 use lib.Dec.{leb}
 use lib.ListN.{length}
+use Rattle.std.specs.Prelude.{Some, None}
+use Rattle.std.specs.Bool.{then_some}
 use Rattle.byte_string.specs.Order.{AreBytes}
 use Rattle.outcome.specs.Outcome.{Outcome, answer}
 use Rattle.outcome.proofs.OutcomeLaws.{kept, broken, bind_answer, bind_refused}
@@ -36,29 +38,29 @@ use Rattle.session.proofs.OpenLaws.{body_stands, open_longer}
 -- ---- the size of the open block with the record, of any session
 
 module _ (s : Session) (n room : ℕ) where
-  pub framed_some : {size : ℕ} → size ≡ framed_size s n room → (size ≡ 0 → ⊥)
+  pub framed_some : {size : ℕ} → Some size ≡ framed_size s n room
       → (size ≡ block_size (s.payload + text_size n)) × (file_fits room (s.start + block_size (s.payload + text_size n)) ≡ true)
   unfolding framed_size
-  framed_some {size} e some = go (file_fits room (s.start + block_size (s.payload + text_size n))) e
+  framed_some {size} e = go (file_fits room (s.start + block_size (s.payload + text_size n))) e
     where
-      go : (b : Bool) → size ≡ cond b (block_size (s.payload + text_size n)) 0 → (size ≡ block_size (s.payload + text_size n)) × (b ≡ true)
-      go true f = (f, refl)
-      go false f = absurd (some f)
+      go : (b : Bool) → Some size ≡ then_some b (block_size (s.payload + text_size n)) → (size ≡ block_size (s.payload + text_size n)) × (b ≡ true)
+      go true f = (cc, refl)
+      go false f = cc
 
-  pub framed_none : {size : ℕ} → size ≡ framed_size s n room → size ≡ 0 → file_fits room (s.start + block_size (s.payload + text_size n)) ≡ false
-  unfolding framed_size block_size
-  framed_none {size} e none = go (file_fits room (s.start + block_size (s.payload + text_size n))) e
+  pub framed_none : None ≡ framed_size s n room → file_fits room (s.start + block_size (s.payload + text_size n)) ≡ false
+  unfolding framed_size
+  framed_none e = go (file_fits room (s.start + block_size (s.payload + text_size n))) e
     where
-      go : (b : Bool) → size ≡ cond b (block_size (s.payload + text_size n)) 0 → b ≡ false
-      go true f = absurd (omega arith)
+      go : (b : Bool) → None ≡ then_some b (block_size (s.payload + text_size n)) → b ≡ false
+      go true f = cc
       go false f = refl
 
 -- what `put_record` and `added` ask for
-pub put_fits : (s : Session) (r : List ℕ) (room : ℕ) {size : ℕ} → size ≡ framed_size s (length r) room → (size ≡ 0 → ⊥)
+pub put_fits : (s : Session) (r : List ℕ) (room : ℕ) {size : ℕ} → Some size ≡ framed_size s (length r) room
     → s.start + block_size (s.payload + length (text_bytes r)) ≤ room
 unfolding text_size
-put_fits s r room e some =
-    subst (λ (n : ℕ). s.start + block_size (s.payload + n) ≤ room) (sym (length_text r)) (fits⁻¹ room _ (framed_some s (length r) room e some).1).0
+put_fits s r room e =
+    subst (λ (n : ℕ). s.start + block_size (s.payload + n) ≤ room) (sym (length_text r)) (fits⁻¹ room _ (framed_some s (length r) room e).1).0
 
 unfull_counts : (session : Session) → ((unfull_session session).records ≡ session.records) × ((unfull_session session).count ≤ session.count)
 unfolding unfull_session closed_session
@@ -68,10 +70,10 @@ unfull_counts session = go (leb session.perblock session.count)
     go true = (refl, omega arith)
     go false = (refl, omega arith)
 
-pub added_fits : (session s : Session) (n room : ℕ) {size : ℕ} → is_begun session room ≡ true → s ≡ unfull_session session → size ≡ framed_size s n room
-    → (size ≡ 0 → ⊥) → (s.start + size ≤ 2 ^ 30) × (block_size (s.payload + text_size n) ≤ size) × (s.records ≤ 2 ^ 30) × (s.count ≤ 65535)
-added_fits session s n room {size} is u e some =
-    let f = framed_some s n room e some in
+pub added_fits : (session s : Session) (n room : ℕ) {size : ℕ} → is_begun session room ≡ true → s ≡ unfull_session session → Some size ≡ framed_size s n room
+    → (s.start + size ≤ 2 ^ 30) × (block_size (s.payload + text_size n) ≤ size) × (s.records ≤ 2 ^ 30) × (s.count ≤ 65535)
+added_fits session s n room {size} is u e =
+    let f = framed_some s n room e in
     let fit = (fits⁻¹ room _ f.1).1 in
     let same = f.0 in
     let known = begun⁻¹ session room is in
@@ -140,7 +142,7 @@ module _ (stage : Stage) (session : Session) (output : List ℕ) (held : Held st
     add_falling n f =
         step_refused stage session output held o 29 (bind_answer (draft_of stage) _ d to_draft ∙ broken (is_next d r) 29 0 _ (sym tried ∙ n)) f
 
-    module _ (yes : next ≡ true) {s : Session} (unfull : s ≡ unfull_session session) {size : ℕ} (framed : size ≡ framed_size s (length r) (length output)) where
+    module _ (yes : next ≡ true) {s : Session} (unfull : s ≡ unfull_session session) where
       -- the draft whose open block has room
       abbrev e : Draft
       e = close_full d
@@ -155,16 +157,16 @@ module _ (stage : Stage) (session : Session) (output : List ℕ) (held : Held st
       unfolding add_to
       end_is = ap (λ (z : Session). z.start + block_size (z.payload + text_size (length r))) s_is ∙ framed_end e r
 
-      pub add_full : {a : Stepped} → size ≡ 0 → a ≡ record { number = 31; place = 0; session = session }
+      pub add_full : {a : Stepped} → None ≡ framed_size s (length r) (length output) → a ≡ record { number = 31; place = 0; session = session }
           → StepTaken stage (add_of stage r (length output)) (length output) a output
       unfolding add_of
       add_full none f =
           step_refused stage session output held o 31
           (bind_answer (draft_of stage) _ d to_draft ∙ kept (is_next d r) 29 0 _ (sym tried ∙ yes)
           ∙ broken (file_fits (length output) (data_end (add_to d r))) 31 0 _
-          (ap (file_fits (length output)) (sym end_is) ∙ framed_none s (length r) (length output) framed none)) f
+          (ap (file_fits (length output)) (sym end_is) ∙ framed_none s (length r) (length output) none)) f
 
-      pub add_done : {a : Stepped} {then : List ℕ} {crc : ℕ} {added : Session} → (size ≡ 0 → ⊥) → AreBytes r
+      pub add_done : {a : Stepped} {then : List ℕ} {size crc : ℕ} {added : Session} → Some size ≡ framed_size s (length r) (length output) → AreBytes r
           → crc ≡ register s.crc (text_bytes r)
           → ((known : List ℕ) → length known ≡ s.payload
           → part output (s.start + length (encoding (s.payload + 1))) (s.payload + 1) ≡ 0 ∷ known
@@ -173,7 +175,7 @@ module _ (stage : Stage) (session : Session) (output : List ℕ) (held : Held st
           → added ≡ added_session s (length r) size crc → a ≡ record { number = 0; place = 0; session = added }
           → StepTaken stage (add_of stage r (length output)) (length output) a then
       unfolding add_of add_to add_open output_of Sound
-      add_done {a} {then} {crc} {added} some bytes c put n f =
+      add_done {a} {then} {size} {crc} {added} framed bytes c put n f =
           step_answered stage (begun (add_to d r)) o (length output)
           (bind_answer (draft_of stage) _ d to_draft ∙ kept (is_next d r) 29 0 _ (sym tried ∙ yes)
           ∙ kept (file_fits (length output) (data_end (add_to d r))) 31 0 _ fit)
@@ -186,7 +188,7 @@ module _ (stage : Stage) (session : Session) (output : List ℕ) (held : Held st
         where
           enough : (size ≡ block_size (s.payload + text_size (length r)))
               × (file_fits (length output) (s.start + block_size (s.payload + text_size (length r))) ≡ true)
-          enough = framed_some s (length r) (length output) framed some
+          enough = framed_some s (length r) (length output) framed
 
           fit : file_fits (length output) (data_end (add_to d r)) ≡ true
           fit = ap (file_fits (length output)) (sym end_is) ∙ enough.1
@@ -197,7 +199,7 @@ module _ (stage : Stage) (session : Session) (output : List ℕ) (held : Held st
 
           room_is : (session_of (begun e)).start + block_size (length (records_bytes e.current) + length (text_bytes r)) ≤ length output
           room_is = opened e r (length output)
-              (subst (λ (z : Session). z.start + block_size (z.payload + length (text_bytes r)) ≤ length output) s_is (put_fits s r (length output) framed some))
+              (subst (λ (z : Session). z.start + block_size (z.payload + length (text_bytes r)) ≤ length output) s_is (put_fits s r (length output) framed))
 
           put_is : then ≡ stored output (session_of (begun e)).start (block_bytes 0 (records_bytes e.current ++ text_bytes r))
           put_is =

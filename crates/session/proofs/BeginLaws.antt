@@ -5,6 +5,7 @@ use mathlib.Core.Bool.{true, false}
 use mathlib.Core.List.{List, []}
 use Prim.Native.Nat.{ℕ}
 use lib.ListN.{length}
+use Rattle.std.specs.Prelude.{Some, None}
 use Rattle.byte_string.specs.Order.{AreBytes}
 use Rattle.outcome.specs.Outcome.{Outcome}
 use Rattle.outcome.proofs.OutcomeLaws.{kept, broken}
@@ -54,24 +55,23 @@ module _ (stage : Stage) (session : Session) (output : List ℕ) (held : Held st
         step_refused stage session output held taken 9
         (kept (is_afresh stage) 28 0 _ fresh ∙ kept (counts_fit b i) 30 0 _ h ∙ broken (is_metadata metadata) 9 0 _ k) f
 
-    module _ (h : counts_fit b i ≡ true) (k : is_metadata metadata ≡ true) {from : ℕ} (e : from ≡ blocks_begin (length output) metadata) {then : List ℕ}
-        (o : then ≡ with_header output metadata) where
-      pub begin_full : {r : Stepped} → from ≡ 0 → r ≡ record { number = 31; place = 0; session = session }
+    module _ (h : counts_fit b i ≡ true) (k : is_metadata metadata ≡ true) {then : List ℕ} (o : then ≡ with_header output metadata) where
+      pub begin_full : {r : Stepped} → None ≡ blocks_begin (length output) metadata → r ≡ record { number = 31; place = 0; session = session }
           → StepTaken stage (begin_of stage metadata b i (length output)) (length output) r then
       unfolding begin_of with_header
       begin_full z f =
-          let no : file_fits (length output) (blocks_start metadata) ≡ false = begun_not (length output) metadata e z in
+          let no : file_fits (length output) (blocks_start metadata) ≡ false = begun_not (length output) metadata z in
           subst (StepTaken stage taken (length output) _) (sym (o ∙ rw no))
           (step_refused stage session output held taken 31
           (kept (is_afresh stage) 28 0 _ fresh ∙ kept (counts_fit b i) 30 0 _ h ∙ kept (is_metadata metadata) 9 0 _ k
           ∙ broken (file_fits (length output) (blocks_start metadata)) 31 0 _ no) f)
 
-      pub begin_done : {nothing : Session} {r : Stepped} → (from ≡ 0 → ⊥) → AreBytes metadata → nothing ≡ begun_session from b i
+      pub begin_done : {from : ℕ} {nothing : Session} {r : Stepped} → Some from ≡ blocks_begin (length output) metadata → AreBytes metadata → nothing ≡ begun_session from b i
           → r ≡ record { number = 0; place = 0; session = nothing } → StepTaken stage (begin_of stage metadata b i (length output)) (length output) r then
       unfolding begin_of output_of draft_blocks open_block
-      begin_done some bytes n f =
-          let yes : file_fits (length output) (blocks_start metadata) ≡ true = begun_yes (length output) metadata e some in
-          let stands = begun_none output metadata (held.output_is ∙ ap (output_of (length output)) is) e some o in
+      begin_done e bytes n f =
+          let yes : file_fits (length output) (blocks_start metadata) ≡ true = (begun_yes (length output) metadata e).1 in
+          let stands = begun_none output metadata (held.output_is ∙ ap (output_of (length output)) is) e o in
           step_answered stage (begun (record { metadata = metadata; per_block = b; per_index = i; closed = []; current = [] })) taken (length output)
           (kept (is_afresh stage) 28 0 _ fresh ∙ kept (counts_fit b i) 30 0 _ h ∙ kept (is_metadata metadata) 9 0 _ k
           ∙ kept (file_fits (length output) (blocks_start metadata)) 31 0 _ yes)

@@ -1,13 +1,14 @@
 -- Laws of finishing a file in a session.
 -- Assumes nothing.
-use mathlib.Core.Path.{◌≡◌, refl, sym, ap, ◌∙◌, subst}
-use mathlib.Core.Bool.{Bool, true, false, cond}
+use mathlib.Core.Path.{◌≡◌, sym, ap, ◌∙◌, subst}
+use mathlib.Core.Bool.{true, false}
 use mathlib.Core.List.{List, ◌++◌, flat_map}
-use Prim.Native.Nat.{ℕ, ◌+◌, ◌^◌, ◌≤◌, ◌<◌}
+use Prim.Native.Nat.{ℕ, ◌+◌, ◌^◌, ◌≤◌}
 use native.Mathlib.Omega.{arith}
 use lib.Dec.{leb}
 use lib.ListN.{length, take}
 use borrow.Author.Tests.{le-leb, lt-leb}
+use Rattle.std.specs.Prelude.{Option, Some, None}
 use Rattle.outcome.specs.Outcome.{Outcome, answer}
 use Rattle.outcome.proofs.OutcomeLaws.{kept, broken, bind_answer, bind_refused}
 use Rattle.output_list.specs.OutputList.{padded}
@@ -27,7 +28,7 @@ use Rattle.layout.proofs.PayloadBackLaws.{payloads_shorter}
 use Rattle.file_encoder.specs.Begun.{Begun, end_if_fits, FilePut}
 use Rattle.file_encoder.proofs.BeginLaws.{begun_long, begun_stands}
 use Rattle.file_encoder.proofs.CountsLaws.{counts⁻¹}
-use Rattle.file_encoder.proofs.FitLaws.{fits⁻¹, file_long, end_some}
+use Rattle.file_encoder.proofs.FitLaws.{fits⁻¹, end_some, end_none}
 use Rattle.session_value.specs.declared.Session.{Session}
 use Rattle.session_value.specs.declared.Stepped.{Stepped}
 use Rattle.session_value.specs.Stage.{Draft, Stage, begun, finished, draft_blocks, draft_records, data_end, draft_file, output_of}
@@ -42,18 +43,8 @@ zero_first : (n : ℕ) → 0 + n ≡ n
 zero_first n = omega arith
 
 -- a file that isn't put doesn't fit
-not_whole : (room : ℕ) (d : Draft) {total : ℕ} → total ≡ end_if_fits room 0 (draft_file d) → total ≡ 0 → file_fits room (length (draft_file d)) ≡ false
-unfolding end_if_fits draft_file blocks_start
-not_whole room d {total} e none =
-    ap (file_fits room) (sym (zero_first (length (draft_file d)))) ∙ go (file_fits room (0 + length (draft_file d))) refl e
-  where
-    long : 0 < length (draft_file d)
-    long = let l = file_long d.metadata (draft_blocks d) d.per_index in omega arith
-
-    go : (b : Bool) → file_fits room (0 + length (draft_file d)) ≡ b → total ≡ cond (file_fits room (0 + length (draft_file d))) (0 + length (draft_file d)) 0
-        → file_fits room (0 + length (draft_file d)) ≡ false
-    go false h f = h
-    go true h f = absurd (let l = long in let t = f ∙ ap (λ (b : Bool). cond b (0 + length (draft_file d)) 0) h in omega arith)
+not_whole : (room : ℕ) (d : Draft) → None ≡ end_if_fits room 0 (draft_file d) → file_fits room (length (draft_file d)) ≡ false
+not_whole room d e = ap (file_fits room) (sym (zero_first (length (draft_file d)))) ∙ end_none room 0 (draft_file d) e
 
 module _ (stage : Stage) (session : Session) (output : List ℕ) (held : Held stage session output) where
   abbrev o : Outcome Stage
@@ -141,42 +132,42 @@ module _ (stage : Stage) (session : Session) (output : List ℕ) (held : Held st
           ∙ Holds⇒sha256 (flat_map records_bytes (draft_blocks d)) state (subst (λ (m : List ℕ). hashing.Holds m state) payloads_are holds)
           (let less = payloads_shorter (draft_blocks d) in let all = short in omega arith)
 
-      module _ (some : session.records ≡ 0 → ⊥) {total : ℕ} {then : List ℕ}
+      module _ (some : session.records ≡ 0 → ⊥) {total : Option ℕ} {then : List ℕ}
           (put : (metadata : List ℕ) (blocks : List (List (List ℕ))) → 2 ≤ session.perindex → Begun metadata blocks output session.blocks session.next
           → hash ≡ sha256 (flat_map records_bytes blocks)
-          → FilePut (length output) (file_of metadata blocks session.perindex) total then × (total ≡ 0 → then ≡ output)) where
-        done : FilePut (length output) (draft_file d) total then × (total ≡ 0 → then ≡ output)
+          → FilePut (length output) (file_of metadata blocks session.perindex) total then × (total ≡ None → then ≡ output)) where
+        done : FilePut (length output) (draft_file d) total then × (total ≡ None → then ≡ output)
         unfolding draft_file
         done =
-            subst (λ (i : ℕ). FilePut (length output) (file_of d.metadata (draft_blocks d) i) total then × (total ≡ 0 → then ≡ output)) index_is
+            subst (λ (i : ℕ). FilePut (length output) (file_of d.metadata (draft_blocks d) i) total then × (total ≡ None → then ≡ output)) index_is
             (put d.metadata (draft_blocks d) index_two starts hash_is)
 
         one : 1 ≤ length (draft_records d)
         one = more_than_0 session.records (length (draft_records d)) records_now some
 
-        pub finish_full : {r : Stepped} → total ≡ 0 → r ≡ record { number = 31; place = 0; session = session }
+        pub finish_full : {r : Stepped} → total ≡ None → r ≡ record { number = 31; place = 0; session = session }
             → StepTaken stage (finish_of stage (length output)) (length output) r then
         unfolding finish_of
         finish_full z f =
             subst (StepTaken stage o (length output) _) (sym (done.1 z))
             (step_refused stage session output held o 31
             (bind_answer (draft_of stage) _ d to_draft ∙ kept (leb 1 (length (draft_records d))) 28 0 _ (le-leb 1 (length (draft_records d)) one)
-            ∙ broken (file_fits (length output) (length (draft_file d))) 31 0 _ (not_whole (length output) d done.0.ends z)) f)
+            ∙ broken (file_fits (length output) (length (draft_file d))) 31 0 _ (not_whole (length output) d (sym z ∙ done.0.ends))) f)
 
-        pub finish_done : {r : Stepped} {after : Session} → (total ≡ 0 → ⊥) → length then ≡ length output → after ≡ finished_session session total
+        pub finish_done : {r : Stepped} {end : ℕ} {after : Session} → total ≡ Some end → length then ≡ length output → after ≡ finished_session session end
             → r ≡ record { number = 0; place = 0; session = after }
             → StepTaken stage (finish_of stage (length output)) (length output) r then
         unfolding finish_of output_of Sound
-        finish_done whole long e f =
+        finish_done {end = end} whole long e f =
             step_answered stage (finished d) o (length output)
             (bind_answer (draft_of stage) _ d to_draft ∙ kept (leb 1 (length (draft_records d))) 28 0 _ (le-leb 1 (length (draft_records d)) one)
             ∙ kept (file_fits (length output) (length (draft_file d))) 31 0 _ fit) long
-            (e ∙ ap (λ (z : Session). finished_session z total) (session_now stage session output held d found.1) ∙ finished_session_lem d ends.0)
-            (done.0.stands whole) ((sound_now stage session output held d found.1).0, one, fit) f
+            (e ∙ ap (λ (z : Session). finished_session z end) (session_now stage session output held d found.1) ∙ finished_session_lem d ends.0)
+            (done.0.stands end whole) ((sound_now stage session output held d found.1).0, one, fit) f
           where
-            ends : (total ≡ length (draft_file d)) × (file_fits (length output) total ≡ true)
+            ends : (end ≡ length (draft_file d)) × (file_fits (length output) end ≡ true)
             ends =
-                let known = end_some (length output) 0 (draft_file d) done.0.ends whole in
+                let known = end_some (length output) 0 (draft_file d) (sym whole ∙ done.0.ends) in
                 (known.0 ∙ zero_first (length (draft_file d)), known.1)
 
             fit : file_fits (length output) (length (draft_file d)) ≡ true

@@ -5,11 +5,17 @@ use mathlib.Core.Bool.{true, false}
 use mathlib.Core.List.{List}
 use Prim.Native.Nat.{ℕ, zero, suc, ◌≤◌}
 use native.Mathlib.Omega.{arith}
-use lib.Dec.{leb, eqb}
+use lib.Dec.{leb}
 use lib.ListN.{length}
 use borrow.Author.Tests.{le-leb, lt-leb}
-use Rattle.lists.specs.Lists.{any}
+use Rattle.std.specs.Prelude.{Option, Some, None, Result, Err}
+use Rattle.std.specs.Option.{ok_or}
+use Rattle.std.specs.Result.{IsErrAnd}
+use Rattle.std.proofs.lemmas.Result.{err_from_is_err_and}
 use Rattle.outcome.specs.Outcome.{Outcome, answer, refused, number_of, place_of}
+use Rattle.outcome.specs.declared.Fault.{Fault}
+use Rattle.outcome.specs.declared.Fault.TheVariants.{OutputRoom}
+use Rattle.outcome.specs.Fault.{number}
 use Rattle.outcome.proofs.OutcomeLaws.{kept, broken, bind_answer, bind_refused}
 use Rattle.layout.specs.File.{file_fits}
 use Rattle.file_encoder.specs.Begun.{begun_file}
@@ -17,7 +23,7 @@ use Rattle.session_value.specs.declared.Session.{Session}
 use Rattle.session_value.specs.declared.Stepped.{Stepped}
 use Rattle.session_value.specs.Stage.{Draft, Stage, begun, draft_blocks, data_end, output_of}
 use Rattle.session_value.specs.Steps.{draft_of, close_open, close_of, after}
-use Rattle.session_value.specs.Held.{SoundDraft, Sound, Held, session_of, stepped_answer, StepTaken, OneOf}
+use Rattle.session_value.specs.Held.{SoundDraft, Sound, Held, session_of, stepped, stepped_answer, StepTaken}
 use Rattle.session_value.specs.Values.{is_begun, closed_session}
 use Rattle.session_value.proofs.DraftLaws.{blocks_close, close_keeps}
 use Rattle.session_value.proofs.SessionLaws.{is_begun_lem, not_begun, closed_session_lem}
@@ -26,10 +32,18 @@ pub more_than_0 : (m n : ℕ) → m ≡ n → (m ≡ 0 → ⊥) → 1 ≤ n
 more_than_0 zero n e h = absurd (h refl)
 more_than_0 (suc m) n e h = omega arith
 
-pub one_of : (numbers : List ℕ) (n : ℕ) {session : Session} {r : Stepped} → any (λ m. eqb m n) numbers ≡ true
-    → r ≡ record { number = n; place = 0; session = session } → OneOf numbers r.number
-unfolding OneOf
-one_of numbers n h e = rw e h
+-- a step that is refused for want of room
+pub no_room : {A : Type 0} (session : Session) (found : Option A) {fault : Fault} → found ≡ None → Err fault ≡ ok_or found OutputRoom
+    → (step : Result Session Fault) → IsErrAnd step (λ f. f ≡ fault) → stepped session step ≡ record { number = 31; place = 0; session = session }
+unfolding stepped number
+no_room session found {fault} none e step h =
+    let f = err_from_is_err_and step h in
+    let same : fault ≡ OutputRoom = room found none e in
+    rw (f.1, f.2, same)
+  where
+    room : {A : Type 0} (found : Option A) {fault : Fault} → found ≡ None → Err fault ≡ ok_or found OutputRoom → fault ≡ OutputRoom
+    room None none e = cc
+    room (Some x) none e = cc
 
 module _ (stage : Stage) (session : Session) (output : List ℕ) (held : Held stage session output) where
   -- a refused step changes nothing

@@ -8,20 +8,18 @@ ghost use Rattle.output_list.specs.OutputList.{zeros};
 ghost use Rattle.session_value.specs.Stage.{Draft, Stage, begun, output_of};
 ghost use Rattle.session_value.specs.Stage as stages;
 ghost use Rattle.session_value.specs.Steps.{is_next, begin_of, add_of, close_of, finish_of};
-ghost use Rattle.session_value.specs.Held.{Held, StepTaken, OneOf, session_of};
+ghost use Rattle.session_value.specs.Held.{Held, StepTaken, OneOf, session_of, stepped};
 
-use session_value::{
-    AFRESH, CRC, Session, Stepped, added, afresh, answered, begun_at, closed, finished,
-    framed_size, is_begun, unfull,
-};
+use outcome::Fault;
+use session_value::{AFRESH, CRC, Session, Stepped};
 
 // Starts afresh, on any output: all zeros, and nothing is written.
 pub fn start_afresh(output: &mut [u8]) -> Session
     ensures value { result ≡ session_of stages.afresh }
     ensures output_after { output.new ≡ zeros (length output.old) }
 {
-    output_bytes::clear(output);
-    afresh()
+    output.fill(0);
+    Session::afresh()
 }
 
 // Begins a file: metadata, how many records a data block and how many entries an index block holds (28, 30, 9, 31).
@@ -37,20 +35,33 @@ pub fn begin(
         (length output.old) result output.new }
     ensures one_of { OneOf (0 ∷ 28 ∷ 30 ∷ 9 ∷ 31 ∷ []) result.number }
 {
+    session.stepped(try_begin(session, metadata, per_block, per_index, output))
+}
+
+// The session then, or why the step is refused.
+fn try_begin(
+    session: Session,
+    metadata: &[u8],
+    per_block: u64,
+    per_index: u64,
+    output: &mut [u8],
+) -> Result<Session, Fault>
+    ensures step_taken { (stage : Stage) → Held stage session output.old
+        → StepTaken stage (begin_of stage metadata.now per_block per_index (length output.old))
+        (length output.old) (stepped session result) output.new }
+    ensures one_of { OneOf (0 ∷ 28 ∷ 30 ∷ 9 ∷ 31 ∷ []) (stepped session result).number }
+{
     if session.stage != AFRESH {
-        return answered(28, session);
+        return Err(Fault::Input);
     }
     if !file_encoder::counts_fit(per_block, per_index) {
-        return answered(30, session);
+        return Err(Fault::Counts);
     }
     if !header::is_metadata(metadata) {
-        return answered(9, session);
+        return Err(Fault::Metadata);
     }
-    let blocks = file_encoder::begin_file(output, metadata) as u64;
-    if blocks == 0 {
-        return answered(31, session);
-    }
-    answered(0, begun_at(blocks, per_block, per_index))
+    let blocks = file_encoder::begin_file(output, metadata).ok_or(Fault::OutputRoom)?;
+    Ok(Session::begun_at(blocks as u64, per_block, per_index))
 }
 
 // Adds a record; a full block is closed first (28, 29, 31).
@@ -60,19 +71,28 @@ pub fn add(session: Session, record: &[u8], output: &mut [u8]) -> Stepped
         (length output.old) result output.new }
     ensures one_of { OneOf (0 ∷ 28 ∷ 29 ∷ 31 ∷ []) result.number }
 {
-    if !is_begun(session, output.len()) {
-        return answered(28, session);
+    session.stepped(try_add(session, record, output))
+}
+
+// The session then, or why the step is refused.
+fn try_add(session: Session, record: &[u8], output: &mut [u8]) -> Result<Session, Fault>
+    ensures step_taken { (stage : Stage) → Held stage session output.old
+        → StepTaken stage (add_of stage «record».now (length output.old))
+        (length output.old) (stepped session result) output.new }
+    ensures one_of { OneOf (0 ∷ 28 ∷ 29 ∷ 31 ∷ []) (stepped session result).number }
+{
+    if !session.is_begun(output.len()) {
+        return Err(Fault::Input);
     }
     if !is_next(session, record, output) {
-        return answered(29, session);
+        return Err(Fault::InputOrder);
     }
-    let s = unfull(session);
-    let size = framed_size(s, record.len(), output.len());
-    if size == 0 {
-        return answered(31, session);
-    }
+    let s = session.unfull();
+    let size = s
+        .framed_size(record.len(), output.len())
+        .ok_or(Fault::OutputRoom)?;
     let crc = open_block::put_record(output, s.start as usize, s.payload as usize, s.crc, record);
-    answered(0, added(s, record.len(), size, crc))
+    Ok(s.added(record.len(), size, crc))
 }
 
 // Whether a record is at least the last one, which ends before the CRC of its block.
@@ -82,14 +102,8 @@ fn is_next(session: Session, record: &[u8], output: &[u8]) -> bool
     if session.records == 0 {
         return true;
     }
-    if session.next < CRC {
-        return true;
-    }
-    let end = session.next - CRC;
-    if end < session.last {
-        return true;
-    }
-    let last = record::record(output, session.last, end - session.last);
+    let end = session.next.saturating_sub(CRC);
+    let last = record::record(output, session.last, end.saturating_sub(session.last));
     byte_string::compare(last, record).at_most()
 }
 
@@ -98,13 +112,10 @@ pub fn close_block(session: Session, output: &[u8]) -> Stepped
     ensures step_taken { (stage : Stage) → Held stage session output.now → StepTaken stage (close_of stage) (length output.now) result output.now }
     ensures one_of { OneOf (0 ∷ 28 ∷ []) result.number }
 {
-    if !is_begun(session, output.len()) {
-        return answered(28, session);
+    if !session.is_begun(output.len()) || session.count == 0 {
+        return session.stepped(Err(Fault::Input));
     }
-    if session.count == 0 {
-        return answered(28, session);
-    }
-    answered(0, closed(session))
+    session.stepped(Ok(session.closed()))
 }
 
 // Finishes the file: the index over its data blocks, and the header (28, 31).
@@ -113,18 +124,21 @@ pub fn finish(session: Session, output: &mut [u8]) -> Stepped
         → StepTaken stage (finish_of stage (length output.old)) (length output.old) result output.new }
     ensures one_of { OneOf (0 ∷ 28 ∷ 31 ∷ []) result.number }
 {
-    if !is_begun(session, output.len()) {
-        return answered(28, session);
-    }
-    if session.records == 0 {
-        return answered(28, session);
+    session.stepped(try_finish(session, output))
+}
+
+// The session then, or why the step is refused.
+fn try_finish(session: Session, output: &mut [u8]) -> Result<Session, Fault>
+    ensures step_taken { (stage : Stage) → Held stage session output.old
+        → StepTaken stage (finish_of stage (length output.old)) (length output.old) (stepped session result) output.new }
+    ensures one_of { OneOf (0 ∷ 28 ∷ 31 ∷ []) (stepped session result).number }
+{
+    if !session.is_begun(output.len()) || session.records == 0 {
+        return Err(Fault::Input);
     }
     let from = session.blocks as usize;
     let to = session.next as usize;
     let hash = sha256::finish(check_hash::hashed(&output[..to], from));
     let total = file_encoder::finish_file(output, from, to, session.perindex, hash);
-    if total == 0 {
-        return answered(31, session);
-    }
-    answered(0, finished(session, total))
+    Ok(session.finished(total.ok_or(Fault::OutputRoom)?))
 }

@@ -1,14 +1,14 @@
 -- Laws of sessions as the code makes them.
 -- Assumes nothing.
 use mathlib.Core.Path.{◌≡◌, refl, sym, ap, ◌∙◌}
-use mathlib.Core.Bool.{Bool, true, false, ◌&&◌, cond, false≢true}
+use mathlib.Core.Bool.{Bool, true, false, ◌&&◌, false≢true}
 use Prim.Native.Nat.{ℕ, ◌+◌, ◌-◌, ◌≤◌, ◌<◌}
 use native.Mathlib.Omega.{arith}
 use lib.Dec.{leb, eqb}
 use lib.ListN.{length}
-use borrow.Author.Tests.{le-leb, lt-leb, leb-true, eq-eqb, ne_eqb}
-use mathlib.Core.List.{[], ◌∷◌}
-use Rattle.crc64.specs.Crc64.{register_start, register}
+use borrow.Author.Tests.{le-leb, lt-leb, leb-true}
+use Rattle.std.specs.Prelude.{Option, None}
+use Rattle.std.specs.Bool.{then_some}
 use Rattle.uleb128.specs.Encoding.{encoding}
 use Rattle.encoder.proofs.PutLaws.{block_size_some}
 use Rattle.layout.specs.Blocks.{block_size}
@@ -18,28 +18,15 @@ use Rattle.session_value.specs.Values.{is_begun, closed_session, unfull_session,
 
 -- ---- whether a session is begun
 
-pub not_stage : (s : Session) (room : ℕ) → (s.stage ≡ 1 → ⊥) → false ≡ is_begun s room
+-- one test after the other
+pub begun_asked : (s : Session) (room : ℕ) {a b c : Bool} → a ≡ (eqb s.stage 1 && file_fits room s.next) → b ≡ (a && leb s.payload s.next)
+    → c ≡ (b && leb s.records s.next) → (c && leb s.count 65535) ≡ is_begun s room
 unfolding is_begun
-not_stage s room h = rw (ne_eqb s.stage 1 h)
-
-module _ (s : Session) (room most : ℕ) (limit : (end : ℕ) → file_fits room end ≡ leb end most) where
-  pub not_room : s.stage ≡ 1 → most < s.next → false ≡ is_begun s room
-  unfolding is_begun
-  not_room a h = rw (eq-eqb s.stage 1 a, limit s.next, lt-leb s.next most h)
-
-  module _ (a : s.stage ≡ 1) (b : s.next ≤ most) where
-    rest_is : is_begun s room ≡ ((leb s.payload s.next && leb s.records s.next) && leb s.count 65535)
-    unfolding is_begun
-    rest_is = rw (eq-eqb s.stage 1 a, limit s.next, le-leb s.next most b)
-
-    pub not_payload : s.next < s.payload → false ≡ is_begun s room
-    not_payload h = sym (rest_is ∙ rw (lt-leb s.payload s.next h))
-
-    pub not_records : s.payload ≤ s.next → s.next < s.records → false ≡ is_begun s room
-    not_records c h = sym (rest_is ∙ rw (le-leb s.payload s.next c, lt-leb s.records s.next h))
-
-    pub begun_asked : s.payload ≤ s.next → s.records ≤ s.next → leb s.count 65535 ≡ is_begun s room
-    begun_asked c d = sym (rest_is ∙ rw (le-leb s.payload s.next c, le-leb s.records s.next d))
+begun_asked s room e f g = rw (g, f, e) (four (eqb s.stage 1 && file_fits room s.next) (leb s.payload s.next) (leb s.records s.next) (leb s.count 65535))
+  where
+    four : (a b c d : Bool) → (((a && b) && c) && d) ≡ (a && ((b && c) && d))
+    four true b c d = refl
+    four false b c d = refl
 
 -- what a session that is begun says
 pub begun⁻¹ : (s : Session) (room : ℕ) → is_begun s room ≡ true → (file_fits room s.next ≡ true) × (s.records ≤ s.next) × (s.count ≤ 65535)
@@ -59,7 +46,7 @@ begun⁻¹ s room e =
 -- ---- the size of a block with one record more
 
 module _ (s : Session) (n room most : ℕ) (limit : (end : ℕ) → file_fits room end ≡ leb end most) where
-  pub size_over : most < s.payload + n → 0 ≡ framed_size s n room
+  pub size_over : most < s.payload + n → None ≡ framed_size s n room
   unfolding framed_size text_size
   size_over h =
       let some = block_size_some (s.payload + (length (encoding n) + n)) in
@@ -68,14 +55,14 @@ module _ (s : Session) (n room most : ℕ) (limit : (end : ℕ) → file_fits ro
         lt-leb (s.start + block_size (s.payload + (length (encoding n) + n))) most (omega arith),
       )
 
-  pub size_is : (payload : ℕ) {size : ℕ} → payload ≡ s.payload + length (encoding n) + n
-      → size ≡ cond (leb (s.start + block_size payload) most) (block_size payload) 0 → size ≡ framed_size s n room
+  pub size_is : (payload : ℕ) {size : Option ℕ} → payload ≡ s.payload + length (encoding n) + n
+      → size ≡ then_some (leb (s.start + block_size payload) most) (block_size payload) → size ≡ framed_size s n room
   unfolding framed_size text_size
   size_is payload e f =
       let whole = s.payload + (length (encoding n) + n) in
       let same : payload ≡ whole = omega arith in
-      f ∙ ap (λ (p : ℕ). cond (leb (s.start + block_size p) most) (block_size p) 0) same
-      ∙ ap (λ (b : Bool). cond b (block_size whole) 0) (sym (limit (s.start + block_size whole)))
+      f ∙ ap (λ (p : ℕ). then_some (leb (s.start + block_size p) most) (block_size p)) same
+      ∙ ap (λ (b : Bool). then_some b (block_size whole)) (sym (limit (s.start + block_size whole)))
 
 -- ---- a full block
 
@@ -88,26 +75,7 @@ module _ (s : Session) where
   unfolding unfull_session
   not_full h = rw (lt-leb s.perblock s.count h)
 
--- ---- sessions, number by number
-
-pub closed_is : (s : Session) {begin crc : ℕ} → begin ≡ register_start → crc ≡ register begin (0 ∷ [])
-    → ◌≡◌ {A = Session}
-    (record {
-      records = s.records;
-      last = s.last;
-      next = s.next;
-      stage = s.stage;
-      blocks = s.blocks;
-      perblock = s.perblock;
-      perindex = s.perindex;
-      start = s.next;
-      count = 0;
-      payload = 0;
-      crc = crc;
-    })
-    (closed_session s)
-unfolding closed_session
-closed_is s e f = rw (f, e)
+-- ---- one record more
 
 -- a block is longer than the bytes in it
 pub size_least : (payload n size : ℕ) → block_size (payload + text_size n) ≤ size → payload + length (encoding n) + n + 9 ≤ size

@@ -1,9 +1,11 @@
 -- The session of a stage: its numbers, and when session and output are those of a stage.
-use Rattle.std.specs.Prelude.{ℕ, ◌+◌, ◌-◌, ◌≤◌, ◌≡◌, true, cond, eqb, length}
+use Rattle.std.specs.Prelude.{ℕ, ◌+◌, ◌-◌, ◌≤◌, ◌≡◌, true, cond, Result, Ok, Err, eqb, length}
 use mathlib.Core.List.{List, [], ◌∷◌, flat_map, Memᴰ}
 use Rattle.lists.specs.Groups.{last_or}
 use Rattle.lists.specs.Lists.{any}
 use Rattle.outcome.specs.Outcome.{Outcome, number_of, place_of}
+use Rattle.outcome.specs.declared.Fault.{Fault}
+use Rattle.outcome.specs.Fault.{number}
 use Rattle.byte_string.specs.Order.{AreBytes}
 use Rattle.crc64.specs.Crc64.{register_start, register}
 use Rattle.header.specs.Metadata.{is_metadata}
@@ -87,6 +89,11 @@ pub record Held (stage : Stage) (session : Session) (output : List ℕ) : Type 0
   pub session_is : session ≡ session_of stage
   pub output_is : output ≡ output_of (length output) stage
   pub sound : Sound (length output) stage
+
+-- what a step from this session answers: the session after it, or why it is refused
+unfoldable pub stepped : Session → Result Session Fault → Stepped
+stepped old (Ok new) = record { number = 0; place = 0; session = new }
+stepped old (Err fault) = record { number = number fault; place = 0; session = old }
 
 -- what a step answers: its refusal, and the session after it
 unfoldable pub stepped_answer : Stage → Outcome Stage → Stepped

@@ -1,5 +1,6 @@
 -- Sessions as the code makes them, one of another.
-use Rattle.std.specs.Prelude.{ℕ, ◌+◌, ◌-◌, Bool, ◌&&◌, cond, ◌∷◌, [], leb, eqb, length}
+use Rattle.std.specs.Prelude.{ℕ, ◌+◌, ◌-◌, Bool, ◌&&◌, cond, Option, ◌∷◌, [], leb, eqb, length}
+use Rattle.std.specs.Bool.{then_some}
 use Rattle.uleb128.specs.Encoding.{encoding}
 use Rattle.crc64.specs.Crc64.{register_start, register}
 use Rattle.layout.specs.Blocks.{block_size}
@@ -52,11 +53,11 @@ unfull_session s = cond (leb s.perblock s.count) (closed_session s) s
 unfoldable pub text_size : (n : ℕ) → ℕ
 text_size n = length (encoding n) + n
 
--- the size of the open block framed with a record of n bytes more, where it fits, or 0
-unfoldable pub framed_size : Session → (n room : ℕ) → ℕ
+-- the size of the open block framed with a record of n bytes more, where it fits
+unfoldable pub framed_size : Session → (n room : ℕ) → Option ℕ
 framed_size s n room =
     let size = block_size (s.payload + text_size n) in
-    cond (file_fits room (s.start + size)) size 0
+    then_some (file_fits room (s.start + size)) size
 
 -- a record of n bytes is in the open block, which now has this size and this register
 unfoldable pub added_session : Session → (n size crc : ℕ) → Session

@@ -3,12 +3,13 @@
 
 ghost use Rattle.std.specs.Prelude.{◌+◌, ◌≤◌, ◌^◌, ◌≡◌};
 ghost use Rattle.layout.specs.Blocks.{block_size};
-ghost use Rattle.session_value.specs.Held.{session_of};
+ghost use Rattle.session_value.specs.Held.{session_of, stepped};
 ghost use Rattle.session_value.specs.Stage as stages;
 ghost use Rattle.session_value.specs.Values as values;
 
 use encoder::block_size;
 use index_encoder::file_room;
+use outcome::Fault;
 use uleb128::number_length;
 
 // What a session stands at.
@@ -50,156 +51,137 @@ pub struct Stepped {
     pub session: Session,
 }
 
-// The answer of a step with this number, which has no place.
-pub fn answered(number: u64, session: Session) -> Stepped
-    ensures { result ≡ record { number = number; place = 0; session = session } }
-{
-    Stepped {
-        number,
-        place: 0,
-        session,
+impl Session {
+    // The session before begin.
+    #[tactic(auto, unfolding(crate::specs::Held::session_of))]
+    pub fn afresh() -> Session
+        ensures { result ≡ session_of stages.afresh }
+    {
+        Session {
+            records: 0,
+            last: 0,
+            next: 0,
+            stage: AFRESH,
+            blocks: 0,
+            perblock: 0,
+            perindex: 0,
+            start: 0,
+            count: 0,
+            payload: 0,
+            crc: 0,
+        }
     }
-}
 
-// The session before begin.
-pub fn afresh() -> Session
-    ensures { result ≡ session_of stages.afresh }
-{
-    Session {
-        records: 0,
-        last: 0,
-        next: 0,
-        stage: AFRESH,
-        blocks: 0,
-        perblock: 0,
-        perindex: 0,
-        start: 0,
-        count: 0,
-        payload: 0,
-        crc: 0,
+    // The session once a file is begun, whose blocks begin at `blocks`.
+    pub fn begun_at(blocks: u64, per_block: u64, per_index: u64) -> Session
+        ensures { result ≡ values.begun_session blocks per_block per_index }
+    {
+        let begun = Session {
+            next: blocks,
+            stage: BEGUN,
+            blocks,
+            perblock: per_block,
+            perindex: per_index,
+            ..Session::afresh()
+        };
+        begun.closed()
     }
-}
 
-// Whether a session is between begin and finish, and its numbers are such as an output of `room` bytes can hold.
-pub fn is_begun(session: Session, room: usize) -> bool
-    ensures { result ≡ values.is_begun session room }
-{
-    if session.stage != BEGUN {
-        return false;
+    // Whether it is between begin and finish, and its numbers are such as an output of `room` bytes can hold.
+    pub fn is_begun(self, room: usize) -> bool
+        ensures { result ≡ values.is_begun self room }
+    {
+        self.stage == BEGUN
+            && self.next <= file_room(room) as u64
+            && self.payload <= self.next
+            && self.records <= self.next
+            && self.count <= 65535
     }
-    if (file_room(room) as u64) < session.next {
-        return false;
-    }
-    if session.next < session.payload {
-        return false;
-    }
-    if session.next < session.records {
-        return false;
-    }
-    session.count <= 65535
-}
 
-// The session once a file is begun, whose blocks begin at `blocks`.
-pub fn begun_at(blocks: u64, per_block: u64, per_index: u64) -> Session
-    ensures { result ≡ values.begun_session blocks per_block per_index }
-{
-    closed(Session {
-        records: 0,
-        last: 0,
-        next: blocks,
-        stage: BEGUN,
-        blocks,
-        perblock: per_block,
-        perindex: per_index,
-        start: blocks,
-        count: 0,
-        payload: 0,
-        crc: 0,
-    })
-}
-
-// The open block closed.
-pub fn closed(session: Session) -> Session
-    ensures { result ≡ values.closed_session session }
-{
-    let level = [0u8];
-    Session {
-        records: session.records,
-        last: session.last,
-        next: session.next,
-        stage: session.stage,
-        blocks: session.blocks,
-        perblock: session.perblock,
-        perindex: session.perindex,
-        start: session.next,
-        count: 0,
-        payload: 0,
-        crc: crc64::absorb(crc64::begin(), &level),
+    // The open block closed.
+    #[tactic(auto, unfolding(crate::specs::Values::closed_session))]
+    pub fn closed(self) -> Session
+        ensures { result ≡ values.closed_session self }
+    {
+        Session {
+            start: self.next,
+            count: 0,
+            payload: 0,
+            crc: crc64::absorb(crc64::begin(), &[0]),
+            ..self
+        }
     }
-}
 
-// The open block closed where it is full.
-pub fn unfull(session: Session) -> Session
-    ensures { result ≡ values.unfull_session session }
-{
-    if session.perblock <= session.count {
-        return closed(session);
+    // The open block closed where it is full.
+    #[tactic(auto, unfolding(crate::specs::Values::unfull_session))]
+    pub fn unfull(self) -> Session
+        ensures { result ≡ values.unfull_session self }
+    {
+        if self.perblock <= self.count {
+            self.closed()
+        } else {
+            self
+        }
     }
-    session
-}
 
-// The size of the open block framed with a record of this length more, where it fits, or 0.
-pub fn framed_size(session: Session, length: usize, room: usize) -> usize
-    ensures { result ≡ values.framed_size session length room }
-{
-    let most = file_room(room);
-    if most < length {
-        return 0;
+    // The size of the open block framed with a record of this length more, where it fits.
+    pub fn framed_size(self, length: usize, room: usize) -> Option<usize>
+        ensures { result ≡ values.framed_size self length room }
+    {
+        let most = file_room(room);
+        if most < length || (most as u64) < self.payload {
+            return None;
+        }
+        let payload = self.payload as usize + number_length(length as u64) + length;
+        block_size(most, self.start as usize, payload)
     }
-    if (most as u64) < session.payload {
-        return 0;
-    }
-    let payload = session.payload as usize + number_length(length as u64) + length;
-    block_size(most, session.start as usize, payload)
-}
 
-// The session with a record of this length in the open block, which now has this size and this register.
-pub fn added(session: Session, length: usize, size: usize, crc: u64) -> Session
-    requires { (session.start + size ≤ 2 ^ 30) × (block_size (session.payload + values.text_size length) ≤ size) × (session.records ≤ 2 ^ 30)
-        × (session.count ≤ 65535) }
-    ensures { result ≡ values.added_session session length size crc }
-{
-    let next = session.start + size as u64;
-    Session {
-        records: session.records + 1,
-        last: next - CRC - length as u64,
-        next,
-        stage: session.stage,
-        blocks: session.blocks,
-        perblock: session.perblock,
-        perindex: session.perindex,
-        start: session.start,
-        count: session.count + 1,
-        payload: session.payload + number_length(length as u64) as u64 + length as u64,
-        crc,
+    // The session with a record of this length in the open block, which now has this size and this register.
+    pub fn added(self, length: usize, size: usize, crc: u64) -> Session
+        requires { (self.start + size ≤ 2 ^ 30) × (block_size (self.payload + values.text_size length) ≤ size) × (self.records ≤ 2 ^ 30)
+            × (self.count ≤ 65535) }
+        ensures { result ≡ values.added_session self length size crc }
+    {
+        let next = self.start + size as u64;
+        let length = length as u64;
+        Session {
+            records: self.records + 1,
+            last: next - CRC - length,
+            next,
+            count: self.count + 1,
+            payload: self.payload + number_length(length) as u64 + length,
+            crc,
+            ..self
+        }
     }
-}
 
-// The session once the file is finished, and this long.
-pub fn finished(session: Session, total: usize) -> Session
-    ensures { result ≡ values.finished_session session total }
-{
-    Session {
-        records: session.records,
-        last: session.last,
-        next: total as u64,
-        stage: FINISHED,
-        blocks: 0,
-        perblock: 0,
-        perindex: 0,
-        start: 0,
-        count: 0,
-        payload: 0,
-        crc: 0,
+    // The session once the file is finished, and this long.
+    #[tactic(auto, unfolding(crate::specs::Values::finished_session, crate::specs::Held::session_of))]
+    pub fn finished(self, total: usize) -> Session
+        ensures { result ≡ values.finished_session self total }
+    {
+        Session {
+            records: self.records,
+            last: self.last,
+            next: total as u64,
+            stage: FINISHED,
+            ..Session::afresh()
+        }
+    }
+
+    // What a step from this session answers: the session after it, or why it is refused.
+    #[tactic(auto, unfolding(crate::specs::Held::stepped))]
+    pub fn stepped(self, step: Result<Session, Fault>) -> Stepped
+        ensures { result ≡ stepped self step }
+    {
+        let (number, session) = match step {
+            Ok(session) => (0, session),
+            Err(fault) => (fault.number(), self),
+        };
+        Stepped {
+            number,
+            place: 0,
+            session,
+        }
     }
 }

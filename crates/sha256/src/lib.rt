@@ -5,7 +5,7 @@
 // law `Holds⇒sha256` says that a state made by `begin` and `absorb` gives the hash of the pieces joined.
 #![tactic(auto)]
 
-ghost use Rattle.std.specs.Prelude.{◌≡◌, ◌+◌, ◌-◌, ◌≤◌, ◌∷◌, ◌++◌, length, take, replicate};
+ghost use Rattle.std.specs.Prelude.{◌≡◌, ◌+◌, ◌-◌, ◌≤◌, ◌++◌, length, take, replicate};
 ghost use Rattle.sha256.specs.Sha256 as sha;
 ghost use Rattle.sha256.specs.State.{begun, absorbed, finished};
 
@@ -19,14 +19,8 @@ pub struct State {
     pub count: u64,
 }
 
-// A byte string of at most 72 bytes: the first `len` of `bytes`.
-#[derive(Clone, Copy)]
-struct Tail {
-    bytes: [u8; 72],
-    len: usize,
-}
-
 // The state before the first byte.
+#[tactic(auto, unfolding(crate::specs::State::begun, crate::specs::Sha256::initial))]
 pub fn begin() -> State
     ensures { result ≡ begun }
 {
@@ -52,16 +46,9 @@ fn filled(kept: [u8; 64], fill: usize, piece: &[u8]) -> [u8; 64]
     requires { fill + length piece.now ≤ 64 }
     ensures { result ≡ take fill kept ++ (piece.now ++ replicate (64 - (fill + length piece.now)) 0) }
 {
-    let mut out = kept;
-    let mut i = 0;
-    while i < 64 - fill {
-        if i < piece.len() {
-            out[fill + i] = piece[i];
-        } else {
-            out[fill + i] = 0;
-        }
-        i += 1;
-    }
+    let mut out = [0u8; 64];
+    out[..fill].copy_from_slice(&kept[..fill]);
+    out[fill..fill + piece.len()].copy_from_slice(piece);
     out
 }
 
@@ -70,50 +57,23 @@ pub fn absorb(state: State, piece: &[u8]) -> State
     ensures { result ≡ absorbed state piece.now }
 {
     let fill = (state.count % 64) as usize;
-    let count = std::num::wrapping_add_u64(state.count, piece.len() as u64);
-    let kept = state.partial;
-    let hash = state.hash;
-    if piece.len() < 64 - fill {
-        return State {
-            hash,
-            partial: filled(kept, fill, piece),
+    let count = state.count.wrapping_add(piece.len() as u64);
+    match piece.split_at_checked(64 - fill) {
+        None => State {
+            partial: filled(state.partial, fill, piece),
             count,
-        };
+            ..state
+        },
+        Some((front, rest)) => {
+            let block = filled(state.partial, fill, front);
+            let kept = rest.chunks_exact(64).remainder();
+            State {
+                hash: sha256_block::over(sha256_block::over(state.hash, &block), rest),
+                partial: filled([0u8; 64], 0, kept),
+                count,
+            }
+        }
     }
-    let first = 64 - fill;
-    let block = filled(kept, fill, &piece[..first]);
-    let rest = &piece[first..];
-    let whole = rest.len() / 64 * 64;
-    State {
-        hash: sha256_block::over(sha256_block::over(hash, &block), rest),
-        partial: filled([0u8; 64], 0, &rest[whole..]),
-        count,
-    }
-}
-
-// The byte 0x80, `zeros` zeros and `bits`.
-fn padded(zeros: usize, bits: [u8; 8]) -> Tail
-    requires { zeros ≤ 63 }
-    ensures { (result.len ≡ zeros + 9) × (take (zeros + 9) result.bytes ≡ 0x80 ∷ replicate zeros 0 ++ bits) }
-{
-    let mut bytes = [0u8; 72];
-    bytes[0] = 0x80;
-    let mut i = 0;
-    while i < 8 {
-        bytes[1 + zeros + i] = bits[i];
-        i += 1;
-    }
-    let len = zeros + 9;
-    Tail { bytes, len }
-}
-
-// The padding of a message of `count` bytes.
-fn padding(count: u64) -> Tail
-    ensures { (result.len ≤ 72) × (take result.len result.bytes ≡ sha.padding count) }
-{
-    let zeros = ((119 - count % 64) % 64) as usize;
-    let bits = endian::be64_bytes(count % 2305843009213693952 * 8);
-    padded(zeros, bits)
 }
 
 // The words of a hash value, the highest byte first.
@@ -124,22 +84,19 @@ fn digest(hash: Words) -> [u8; 32]
         hash.a, hash.b, hash.c, hash.d, hash.e, hash.f, hash.g, hash.h,
     ];
     let mut out = [0u8; 32];
-    let mut i = 0;
-    while i < 32 {
-        let bytes = endian::be32_bytes(words[i / 4]);
-        out[i] = bytes[i % 4];
-        i += 1;
+    for (i, word) in words.iter().enumerate() {
+        out[4 * i..4 * i + 4].copy_from_slice(&endian::be32_bytes(*word));
     }
     out
 }
 
-// The digest that a state gives.
+// The digest that a state gives. The padding is the byte 0x80, zeros, and the count of the bits.
 pub fn finish(state: State) -> [u8; 32]
     ensures { result ≡ finished state }
 {
-    let tail = padding(state.count);
-    let len = tail.len;
-    let bytes = tail.bytes;
-    let last = absorb(state, &bytes[..len]);
-    digest(last.hash)
+    let zeros = ((119 - state.count % 64) % 64) as usize;
+    let mut padding = [0u8; 72];
+    padding[0] = 0x80;
+    padding[1 + zeros..9 + zeros].copy_from_slice(&endian::be64_bytes(state.count.wrapping_mul(8)));
+    digest(absorb(state, &padding[..9 + zeros]).hash)
 }

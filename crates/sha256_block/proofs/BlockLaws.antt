@@ -1,9 +1,9 @@
 -- Laws of one block and of a run of blocks: what a turn of each loop adds, and the hash value of joined byte strings.
 -- Assumes nothing.
-use Rattle.std.proofs.Common.{◌≡◌, ℕ, zero, suc, ◌+◌, ◌-◌, ◌*◌, ◌/◌, ◌<◌, ◌≤◌, List, [], ◌∷◌, ◌++◌, length, get_or, take, drop, set, sym, refl, ap, ◌∙◌, suc-add, zero-add, add-one, arith, length-append, length-drop, length-set, drop_of_length-le, length-take, take_all, drop-cons, get_or-take, drop-drop, take-suc-set}
-use native.Mathlib.Nat.{add-sub_cancel_left, div-eq_of_lt}
+use Rattle.std.proofs.Common.{◌≡◌, ℕ, zero, suc, ◌+◌, ◌-◌, ◌*◌, ◌/◌, ◌<◌, ◌≤◌, List, [], ◌∷◌, ◌++◌, length, get_or, take, drop, set, sym, refl, ap, ◌∙◌, suc-add, zero-add, add-one, arith, length-append, length-drop, length-set, length-take, take_all, drop-cons, get_or-take, drop-drop, take-suc-set}
+use native.Mathlib.Nat.{div-eq_of_lt}
 use lib.ListN.{get_or-append}
-use lib.Seq.{take-append-le, drop-append-le}
+use lib.Seq.{take-append_seam, drop-append_seam, take-append-le, drop-append-le}
 use Rattle.endian.specs.FixedWidth.{big_endian}
 use Rattle.sha256_block.specs.declared.Words.{Words}
 use Rattle.sha256_block.specs.Compression.{K, words_of, next_word, extended, rounds, round, compress, compress_blocks, over, add, σ₀, σ₁}
@@ -86,23 +86,17 @@ rounds_to : (ks ws : List ℕ) (v v' : Words) (t u : ℕ) → u ≡ t + 1 → t 
     → rounds (drop t ks) (drop t ws) v ≡ rounds (drop u ks) (drop u ws) v'
 rounds_to ks ws v v' t u e h k r = rw (e, r) (rounds-drop ks ws v t h k)
 
--- four steps
-pub rounds_four : (ks ws : List ℕ) (t : ℕ) → t + 3 < length ks → t + 3 < length ws → (v v₁ v₂ v₃ v₄ : Words)
-    → v₁ ≡ round v (get_or ks t 0) (get_or ws t 0)
-    → v₂ ≡ round v₁ (get_or ks (t + 1) 0) (get_or ws (t + 1) 0)
-    → v₃ ≡ round v₂ (get_or ks (t + 2) 0) (get_or ws (t + 2) 0)
-    → v₄ ≡ round v₃ (get_or ks (t + 3) 0) (get_or ws (t + 3) 0)
-    → rounds (drop t ks) (drop t ws) v ≡ rounds (drop (t + 4) ks) (drop (t + 4) ws) v₄
-rounds_four ks ws t h k v v₁ v₂ v₃ v₄ e₁ e₂ e₃ e₄ =
-    rounds_to ks ws v v₁ t (t + 1) (omega arith) (omega arith) (omega arith) e₁
-    ∙ rounds_to ks ws v₁ v₂ (t + 1) (t + 2) (omega arith) (omega arith) (omega arith) e₂
-    ∙ rounds_to ks ws v₂ v₃ (t + 2) (t + 3) (omega arith) (omega arith) (omega arith) e₃
-    ∙ rounds_to ks ws v₃ v₄ (t + 3) (t + 4) (omega arith) (omega arith) (omega arith) e₄
-
--- none is left
-pub rounds_done : (ks ws : List ℕ) (v : Words) (t : ℕ) → length ks ≤ t → rounds (drop t ks) ws v ≡ v
+-- no constant is left, or no word
+pub rounds_no_constant : (ks ws : List ℕ) (v : Words) → length ks ≡ 0 → rounds ks ws v ≡ v
 unfolding rounds
-rounds_done ks ws v t h = rw (drop_of_length-le ks h)
+rounds_no_constant [] ws v h = refl
+rounds_no_constant (k ∷ ks) ws v h = absurd (omega arith)
+
+pub rounds_no_word : (ks ws : List ℕ) (v : Words) → length ws ≡ 0 → rounds ks ws v ≡ v
+unfolding rounds
+rounds_no_word [] ws v h = refl
+rounds_no_word (k ∷ ks) [] v h = refl
+rounds_no_word (k ∷ ks) (w ∷ ws) v h = absurd (omega arith)
 
 -- The steps with the schedule
 
@@ -174,11 +168,13 @@ over_block hash s h =
     let fewer : length s / 64 ≡ suc ((length s - 64) / 64) = omega arith in
     rw (fewer, length-drop)
 
--- the block at an index, lent as a part, and then the others
-pub over-drop : (hash : Words) (s : List ℕ) (at : ℕ) → 64 ≤ length s - at
-    → over hash (drop at s) ≡ over (compress hash (take (at + 64 - at) (drop at s))) (drop (at + 64) s)
-over-drop hash s at h =
-    rw (add-sub_cancel_left, ← drop-drop 64 at s) (over_block hash (drop at s) (rw length-drop h))
+-- a block, and then the others
+pub over_front : (hash : Words) (block s : List ℕ) → length block ≡ 64 → over hash (block ++ s) ≡ over (compress hash block) s
+over_front hash block s e =
+    let all = length-append block s in
+    let front : take 64 (block ++ s) ≡ block = ap (λ (n : ℕ). take n (block ++ s)) (sym e) ∙ take-append_seam block s in
+    let rest : drop 64 (block ++ s) ≡ s = ap (λ (n : ℕ). drop n (block ++ s)) (sym e) ∙ drop-append_seam block s in
+    over_block hash (block ++ s) (omega arith) ∙ rw (front, rest) refl
 
 -- the first n blocks of s, and then the rest of it with what follows
 over_blocks : (n : ℕ) (hash : Words) (s t : List ℕ) → n * 64 ≤ length s

@@ -3,17 +3,15 @@ ghost use Rattle.std.specs.Prelude.{◌≡◌, ◌<◌, ◌≤◌, length, take,
 ghost use Rattle.sha256_block.specs.Compression as sha;
 
 use crate::Words;
-use crate::word::{K, add, big_sigma0, big_sigma1, ch, maj, small_sigma0, small_sigma1};
+use crate::word::{K, big_sigma0, big_sigma1, ch, maj, small_sigma0, small_sigma1};
 
 // The block's sixteen words, at the front of the schedule.
 fn first_words(block: &[u8]) -> [u32; 64]
     ensures { take 16 result ≡ sha.words_of 16 block.now }
 {
     let mut w = [0u32; 64];
-    let mut t = 0;
-    while t < 16 {
+    for t in 0..16 {
         w[t] = endian::be32_at(block, 4 * t);
-        t += 1;
     }
     w
 }
@@ -23,21 +21,28 @@ fn next_word(w: &[u32; 64], t: usize) -> u32
     requires { (16 ≤ t) × (t < 64) }
     ensures { t ≤ length w.now → result ≡ sha.next_word (take t w.now) }
 {
-    let recent = add(small_sigma1(w[t - 2]), w[t - 7]);
-    add(add(recent, small_sigma0(w[t - 15])), w[t - 16])
+    small_sigma1(w[t - 2])
+        .wrapping_add(w[t - 7])
+        .wrapping_add(small_sigma0(w[t - 15]))
+        .wrapping_add(w[t - 16])
 }
 
 fn round(v: Words, k: u32, w: u32) -> Words
     ensures { result ≡ sha.round v k w }
 {
-    let t1 = add(add(add(add(v.h, big_sigma1(v.e)), ch(v.e, v.f, v.g)), k), w);
-    let t2 = add(big_sigma0(v.a), maj(v.a, v.b, v.c));
+    let t1 = v
+        .h
+        .wrapping_add(big_sigma1(v.e))
+        .wrapping_add(ch(v.e, v.f, v.g))
+        .wrapping_add(k)
+        .wrapping_add(w);
+    let t2 = big_sigma0(v.a).wrapping_add(maj(v.a, v.b, v.c));
     Words {
-        a: add(t1, t2),
+        a: t1.wrapping_add(t2),
         b: v.a,
         c: v.b,
         d: v.c,
-        e: add(v.d, t1),
+        e: v.d.wrapping_add(t1),
         f: v.e,
         g: v.f,
         h: v.g,
@@ -50,13 +55,8 @@ fn last_rounds(k: &[u32; 64], w: &[u32; 64], hash: Words) -> Words
     ensures { result ≡ sha.rounds (drop 48 k.now) (drop 48 w.now) hash }
 {
     let mut v = hash;
-    let mut t = 48;
-    while t < 61 {
-        let v1 = round(v, k[t], w[t]);
-        let v2 = round(v1, k[t + 1], w[t + 1]);
-        let v3 = round(v2, k[t + 2], w[t + 2]);
-        v = round(v3, k[t + 3], w[t + 3]);
-        t += 4;
+    for (k, w) in k[48..].iter().zip(&w[48..]) {
+        v = round(v, *k, *w);
     }
     v
 }
@@ -66,11 +66,11 @@ fn last_rounds(k: &[u32; 64], w: &[u32; 64], hash: Words) -> Words
 fn rounds(block: &[u8], hash: Words) -> Words
     ensures { result ≡ sha.rounds sha.K (sha.schedule block.now) hash }
 {
-    let k = K;
+    let k = &K;
     let mut w = first_words(block);
     let mut v = hash;
-    let mut t = 0;
-    while t < 45 {
+    for turn in 0..12 {
+        let t = 4 * turn;
         let v1 = round(v, k[t], w[t]);
         w[t + 16] = next_word(&w, t + 16);
         let v2 = round(v1, k[t + 1], w[t + 1]);
@@ -79,27 +79,28 @@ fn rounds(block: &[u8], hash: Words) -> Words
         w[t + 18] = next_word(&w, t + 18);
         v = round(v3, k[t + 3], w[t + 3]);
         w[t + 19] = next_word(&w, t + 19);
-        t += 4;
     }
-    last_rounds(&k, &w, v)
+    last_rounds(k, &w, v)
 }
 
+#[tactic(auto, unfolding(crate::specs::Compression::sums, crate::specs::Compression::add))]
 fn sums(x: Words, y: Words) -> Words
     ensures { result ≡ sha.sums x y }
 {
     Words {
-        a: add(x.a, y.a),
-        b: add(x.b, y.b),
-        c: add(x.c, y.c),
-        d: add(x.d, y.d),
-        e: add(x.e, y.e),
-        f: add(x.f, y.f),
-        g: add(x.g, y.g),
-        h: add(x.h, y.h),
+        a: x.a.wrapping_add(y.a),
+        b: x.b.wrapping_add(y.b),
+        c: x.c.wrapping_add(y.c),
+        d: x.d.wrapping_add(y.d),
+        e: x.e.wrapping_add(y.e),
+        f: x.f.wrapping_add(y.f),
+        g: x.g.wrapping_add(y.g),
+        h: x.h.wrapping_add(y.h),
     }
 }
 
 // The hash value after one more block.
+#[tactic(auto, unfolding(crate::specs::Compression::compress))]
 pub fn compress(hash: Words, block: &[u8]) -> Words
     ensures { result ≡ sha.compress hash block.now }
 {

@@ -27,10 +27,8 @@ pub fn over(hash: Words, s: &[u8]) -> Words
     ensures { result ≡ sha.over hash s.now }
 {
     let mut v = hash;
-    let mut at = 0;
-    while 64 <= s.len() - at {
-        v = block::compress(v, &s[at..at + 64]);
-        at += 64;
+    for block in s.chunks_exact(64) {
+        v = block::compress(v, block);
     }
     v
 }

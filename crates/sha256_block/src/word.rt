@@ -1,5 +1,5 @@
 // The functions of FIPS 180-4 on 32-bit words (3.2, 4.1.2), and its constants (4.2.2).
-ghost use Rattle.std.specs.Prelude.{◌≡◌, ◌<◌};
+ghost use Rattle.std.specs.Prelude.{◌≡◌};
 ghost use Rattle.sha256_block.specs.Compression as sha;
 
 pub const K: [u32; 64] = [
@@ -13,13 +13,6 @@ pub const K: [u32; 64] = [
     0x748f82ee, 0x78a5636f, 0x84c87814, 0x8cc70208, 0x90befffa, 0xa4506ceb, 0xbef9a3f7, 0xc67178f2,
 ];
 
-fn rotr(x: u32, n: u32) -> u32
-    requires { (0 < n) × (n < 32) }
-    ensures { result ≡ sha.rotr n x }
-{
-    (x >> n) | (x << (32 - n))
-}
-
 // Where x has a one, y instead of z: an operation less than the standard's form.
 pub fn ch(x: u32, y: u32, z: u32) -> u32
     ensures { result ≡ sha.Ch x y z }
@@ -27,6 +20,7 @@ pub fn ch(x: u32, y: u32, z: u32) -> u32
     z ^ (x & (y ^ z))
 }
 
+#[tactic(auto, unfolding(crate::specs::Compression::Maj))]
 pub fn maj(x: u32, y: u32, z: u32) -> u32
     ensures { result ≡ sha.Maj x y z }
 {
@@ -36,30 +30,23 @@ pub fn maj(x: u32, y: u32, z: u32) -> u32
 pub fn big_sigma0(x: u32) -> u32
     ensures { result ≡ sha.Σ₀ x }
 {
-    rotr(x, 2) ^ rotr(x, 13) ^ rotr(x, 22)
+    x.rotate_right(2) ^ x.rotate_right(13) ^ x.rotate_right(22)
 }
 
 pub fn big_sigma1(x: u32) -> u32
     ensures { result ≡ sha.Σ₁ x }
 {
-    rotr(x, 6) ^ rotr(x, 11) ^ rotr(x, 25)
+    x.rotate_right(6) ^ x.rotate_right(11) ^ x.rotate_right(25)
 }
 
 pub fn small_sigma0(x: u32) -> u32
     ensures { result ≡ sha.σ₀ x }
 {
-    rotr(x, 7) ^ rotr(x, 18) ^ (x >> 3)
+    x.rotate_right(7) ^ x.rotate_right(18) ^ (x >> 3)
 }
 
 pub fn small_sigma1(x: u32) -> u32
     ensures { result ≡ sha.σ₁ x }
 {
-    rotr(x, 17) ^ rotr(x, 19) ^ (x >> 10)
-}
-
-// The sum modulo 2^32.
-pub fn add(x: u32, y: u32) -> u32
-    ensures { result ≡ sha.add x y }
-{
-    std::num::wrapping_add_u32(x, y)
+    x.rotate_right(17) ^ x.rotate_right(19) ^ (x >> 10)
 }

@@ -1,24 +1,22 @@
 -- Laws of names and records of a SIM phonebook.
 -- Assumes nothing.
-use mathlib.Core.Path.{◌≡◌, refl, ap, ◌∙◌}
+use mathlib.Core.Path.{◌≡◌, refl, sym, ap, ◌∙◌}
 use mathlib.Core.Bool.{Bool, true, false, not, ◌&&◌, cond}
-use mathlib.Core.Logic.{inl, inr}
-use mathlib.Core.List.{List, [], ◌∷◌, ◌++◌}
+use mathlib.Core.List.{List, [], ◌∷◌, ◌++◌, append_assoc}
 use Prim.Native.Nat.{ℕ, suc, ◌+◌, ◌-◌, ◌*◌, ◌/◌, ◌≤◌, ◌<◌}
 use native.Mathlib.Omega.{arith}
 use lib.Dec.{eqb, leb, ltb}
+use lib.Seq.{length-take-le}
 use lib.ListN.{length, take, drop, length-append, length-take, length-drop, take-append-drop}
-use borrow.Author.Tests.{le-leb, lt-leb, le-ltb, lt-ltb, eq-eqb, ne_eqb, leb-true, leb-false, ltb-false}
-use Rattle.std.proofs.Common.{Some, None, nat_eq, Ordering, is_le}
-use Rattle.std.specs.Ordering.{nat_cmp, MatchOrdering}
-use Rattle.std.proofs.lemmas.Cmp.{same_from_slice_cmp}
-use Rattle.byte_string.specs.Order.{order, at_most, is_more}
-use Rattle.byte_string.proofs.OrderLaws.{Ways, ways, order_below, order_same, order_above}
+use borrow.Author.Tests.{le-leb, lt-leb, le-ltb, lt-ltb, leb-true, leb-false, ltb-false}
+use Rattle.std.proofs.Common.{Some, None, nat_eq, Ordering, Less, Equal, Greater, is_le}
+use Rattle.std.specs.Ordering.{nat_cmp, ordering_then}
+use Rattle.byte_string.specs.Order.{order, at_most}
 use Rattle.std.specs.Option.{unwrap_or}
 use Rattle.std.specs.List.{list_all, position_or_len}
 use Rattle.std.specs.Prelude.{slice_get}
 use Rattle.std.specs.Simd.{first_chunks}
-use Rattle.std.specs.Cmp.Lexicographic.{pointwise, slice_cmp}
+use Rattle.std.specs.Cmp.Lexicographic.{pointwise}
 use Rattle.std.proofs.lemmas.List.Sums.{prefix_len-le-length}
 use Rattle.lists.specs.Lists.{all}
 use Rattle.lists.specs.Groups.{first_or}
@@ -115,6 +113,8 @@ module _ (field rest : List ℕ) where
   judged_not e l =
       kept (is_name field) 33 0 (must (leb (first_or 0 rest) 11) 34 0) e ∙ must_kept (leb (first_or 0 rest) 11) 34 0 (le-leb (first_or 0 rest) 11 l)
 
+pub ruleset judging = (judged_33, judged_34, judged_not)
+
 -- the record is judged by its two parts
 pub imported_judged : (x : ℕ) (adn : List ℕ) → imported x adn ≡ (judged (take x adn) (drop x adn) >> answer (record_of x adn))
 unfolding imported judged number_length
@@ -123,19 +123,42 @@ imported_judged x adn =
 
 -- ---- the order
 
--- as std compares lists of numbers, so does `order`
-pub compared_at_most : (x y : List ℕ) (o : Ordering) → o ≡ slice_cmp nat_cmp x y → is_le o ≡ at_most x y
-unfolding at_most is_more order
-compared_at_most x y o e = same_from_slice_cmp nat_cmp is_le at_most refl (λ b t. refl) (λ a s. refl) more x y o e
+-- where two have fronts of one length, these decide, or what follows them does
+pub order_fronts : (p q x y : List ℕ) → length p ≡ length q → order (p ++ x) (q ++ y) ≡ ordering_then (order p q) (order x y)
+unfolding order
+order_fronts [] [] x y e = refl
+order_fronts [] (b ∷ q) x y e = absurd (omega arith)
+order_fronts (a ∷ p) [] x y e = absurd (omega arith)
+order_fronts (a ∷ p) (b ∷ q) x y e = go (nat_cmp a b) (order_fronts p q x y (omega arith))
   where
-    more : (a b : ℕ) (s t : List ℕ) (o : Ordering) → o ≡ nat_cmp a b
-        → MatchOrdering o (at_most (a ∷ s) (b ∷ t) ≡ true) (at_most (a ∷ s) (b ∷ t) ≡ at_most s t) (at_most (a ∷ s) (b ∷ t) ≡ false)
-    more a b s t o e = go (ways a b)
-      where
-        go : Ways a b → MatchOrdering o (at_most (a ∷ s) (b ∷ t) ≡ true) (at_most (a ∷ s) (b ∷ t) ≡ at_most s t) (at_most (a ∷ s) (b ∷ t) ≡ false)
-        go (inl h) = rw (e, lt-ltb a b h) (ap (λ r. not (is_more r)) (order_below a b s t h))
-        go (inr (inl h)) = rw (e, le-ltb a b (omega (arith, h)), eq-eqb a b h) (ap (λ r. not (is_more r)) (order_same a b s t h))
-        go (inr (inr h)) = rw (e, le-ltb a b (omega arith), ne_eqb a b (λ q. omega arith)) (ap (λ r. not (is_more r)) (order_above a b s t h))
+    go : (o : Ordering) → order (p ++ x) (q ++ y) ≡ ordering_then (order p q) (order x y)
+        → ordering_then o (order (p ++ x) (q ++ y)) ≡ ordering_then (ordering_then o (order p q)) (order x y)
+    go Less h = refl
+    go Equal h = h
+    go Greater h = refl
+
+-- two strings in two parts each, with n no more than the first part of either has
+module _ (x s y t : List ℕ) (n : ℕ) (h : n ≤ length x) (k : n ≤ length y) where
+  fronts : order (x ++ s) (y ++ t) ≡ ordering_then (order (take n x) (take n y)) (order (drop n x ++ s) (drop n y ++ t))
+  fronts =
+      let same : length (take n x) ≡ length (take n y) = length-take-le n x h ∙ sym (length-take-le n y k) in
+      let x-is : take n x ++ (drop n x ++ s) ≡ x ++ s = sym (append_assoc (take n x) (drop n x) s) ∙ ap (λ l. l ++ s) (take-append-drop n x) in
+      let y-is : take n y ++ (drop n y ++ t) ≡ y ++ t = sym (append_assoc (take n y) (drop n y) t) ∙ ap (λ l. l ++ t) (take-append-drop n y) in
+      rw (← x-is, ← y-is) (order_fronts (take n x) (take n y) (drop n x ++ s) (drop n y ++ t) same)
+
+  pub fronts_decide : (o : Ordering) → o ≡ order (take n x) (take n y) → (o ≡ Equal → ⊥) → is_le o ≡ at_most (x ++ s) (y ++ t)
+  unfolding at_most
+  fronts_decide o e d = rw (fronts, ← e) (go o d)
+    where
+      go : (o : Ordering) → (o ≡ Equal → ⊥) → is_le o ≡ is_le (ordering_then o (order (drop n x ++ s) (drop n y ++ t)))
+      go Less d = refl
+      go Equal d = absurd (d refl)
+      go Greater d = refl
+
+  pub fronts_agree : (o : Ordering) → Equal ≡ order (take n x) (take n y) → o ≡ order (drop n x ++ s) (drop n y ++ t)
+      → is_le o ≡ at_most (x ++ s) (y ++ t)
+  unfolding at_most
+  fronts_agree o e f = rw (fronts, ← e, f)
 
 -- ---- the record
 

@@ -9,6 +9,7 @@ ghost use Rattle.byte_string.specs.Order.{at_most};
 ghost use Rattle.sim.specs.Adn.{is_filled, pairs_length, plain_length, name_length, name_of, is_name, judged, record_at};
 
 use outcome::Fault;
+use std::cmp::Ordering;
 
 // How many bytes follow the name field.
 const REST: usize = 14;
@@ -110,7 +111,7 @@ impl<'a> Adn<'a> {
     }
 
     // Whether the name is one, and the number not too long.
-    #[tactic(auto, unfolding(outcome::specs::Fault::said_at, outcome::specs::Fault::number), using(crate::proofs::AdnLaws::judged_33, crate::proofs::AdnLaws::judged_34, crate::proofs::AdnLaws::judged_not))]
+    #[tactic(auto, unfolding(outcome::specs::Fault::said_at, outcome::specs::Fault::number), using(crate::proofs::AdnLaws::judging))]
     pub fn check(self) -> Result<(), Fault>
         ensures { said_at 0 result ≡ judged self.entry.field.now self.entry.rest.now }
     {
@@ -152,16 +153,23 @@ impl<'a> Dump<'a> {
         }
     }
 
-    // Whether our record of the one at offset a is at most our record of the one at b.
+    // Whether our record of the one at offset a is at most our record of the one at b: as many bytes of both names as the shorter has decide, and
+    // where these are equal, what follows them in our records.
     pub fn at_most(self, a: u64, b: u64) -> bool
         ensures { result ≡ at_most (record_at self.entry.name_length self.entry.bytes.now a) (record_at self.entry.name_length self.entry.bytes.now b) }
     {
         let s = self.record(a);
         let t = self.record(b);
-        s.name()
-            .iter()
-            .chain(s.rest)
-            .cmp(t.name().iter().chain(t.rest))
-            .is_le()
+        let x = s.name();
+        let y = t.name();
+        let n = x.len().min(y.len());
+        match x[..n].cmp(&y[..n]) {
+            Ordering::Equal => x[n..]
+                .iter()
+                .chain(s.rest)
+                .cmp(y[n..].iter().chain(t.rest))
+                .is_le(),
+            order => order.is_le(),
+        }
     }
 }

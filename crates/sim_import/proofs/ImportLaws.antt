@@ -28,7 +28,8 @@ use Rattle.sim_import.proofs.OccupiedLaws.{Known, some, none, known}
 
 -- ---- what is said of how many bytes were put
 
-pub said_put : (o : Outcome (List ℕ)) (n : ℕ) → answer n ≡ length_of o → ◌≡◌ {A = Written} (record { number = 0; place = 0; length = n }) (written_answer o)
+pub said_put : (o : Outcome (List ℕ)) (n : ℕ) → answer n ≡ length_of o
+    → ◌≡◌ {A = Written} (record { number = 0; place = 0; length = n }) (written_answer o)
 unfolding written_answer length_of number_of place_of count_of ◌>>=◌
 said_put (answer bytes) n e = rw (answer_injective n (length bytes) e)
 said_put (refused m p) n e = absurd (answer_not_refused n m p e)

@@ -17,7 +17,7 @@ use crate::records::put_sorted;
 use crate::survey::survey_dump;
 use outcome::Fault;
 use sim::Dump;
-use written::{Written, refusal};
+use written::Written;
 
 // The longest name field.
 const MAX_NAME: u64 = 241;
@@ -58,6 +58,6 @@ pub fn import_sim(dump: &[u8], name_length: u64, output: &mut [u8]) -> Written
             place: 0,
             length: length as u64,
         },
-        Err(fault) => refusal(fault.number()),
+        Err(fault) => Written::from(fault),
     }
 }

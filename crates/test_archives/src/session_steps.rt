@@ -2,7 +2,7 @@
 use crate::lent::{RUBBISH_BYTE, room};
 use crate::print;
 use crate::steps::{Step, step};
-use session_value::{Session, Stepped, afresh, answered};
+use session_value::{Session, Stepped};
 use std::io;
 use std::io::Write;
 
@@ -23,7 +23,7 @@ fn room_from(step: Step<'_>, room: u64) -> u64 {
 fn clear_more(output: &mut [u8], from: usize, to: usize) {
     if to <= output.len() {
         if from < to {
-            output_bytes::clear(&mut output[from..to]);
+            output[from..to].fill(0);
         }
     }
 }
@@ -31,12 +31,12 @@ fn clear_more(output: &mut [u8], from: usize, to: usize) {
 // Takes a step with all of `output` lent.
 fn take(step: Step<'_>, session: Session, output: &mut [u8]) -> Stepped {
     match step.kind {
-        1 => answered(0, session::start_afresh(output)),
+        1 => session.stepped(Ok(session::start_afresh(output))),
         2 => session::begin(session, step.bytes, step.first, step.second, output),
         3 => session::add(session, step.bytes, output),
         4 => session::close_block(session, output),
         5 => session::finish(session, output),
-        _ => answered(0, session),
+        _ => session.stepped(Ok(session)),
     }
 }
 
@@ -105,7 +105,7 @@ fn lend_step(
 
 // Takes the steps one after the other.
 fn run_all(out: &mut impl Write, stored: &[u8], name: &[u8], output: &mut [u8]) -> io::Result<()> {
-    let mut session = afresh();
+    let mut session = Session::afresh();
     let mut places = 0;
     let mut rest = stored;
     while !rest.is_empty() {

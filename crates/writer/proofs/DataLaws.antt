@@ -3,8 +3,9 @@
 use mathlib.Core.Path.{◌≡◌, refl, sym, ap, ◌∙◌, subst}
 use mathlib.Core.Bool.{Bool, true, false, cond}
 use mathlib.Core.List.{List, [], ◌∷◌, ◌++◌, flat_map, map, append_assoc, append-nil}
+use Rattle.std.specs.Prelude.{Some, None}
 use Prim.Native.Nat.{ℕ, zero, suc, ◌+◌, ◌-◌, ◌^◌, ◌≤◌, ◌<◌}
-use native.Mathlib.Nat.{sub_self, sub-zero, add-zero}
+use native.Mathlib.Nat.{add-zero}
 use native.Mathlib.Omega.{arith}
 use lib.Dec.{leb}
 use lib.ListN.{length, take, drop, length-append, length-take, length-drop, drop_of_length-le, take-append-drop}
@@ -19,68 +20,54 @@ use Rattle.part.specs.Part.{part}
 use Rattle.items.specs.declared.Step.{Step}
 use Rattle.items.proofs.ItemsLaws.{Row, row_end, row_more}
 use Rattle.payload.specs.Payload.{Text, text_at}
-use Rattle.output_bytes.specs.OutputBytes.{bytes_fit, stored, stored_length}
-use Rattle.output_bytes.proofs.OutputBytesLaws.{stored-append, length-stored, stored_length_some, stored_length_none}
+use Rattle.output_bytes.specs.OutputBytes.{bytes_fit, stored, stored_size}
+use Rattle.output_bytes.proofs.OutputBytesLaws.{stored-append, length-stored, stored_size_some, stored_size_none}
 use Rattle.layout.specs.Blocks.{text_bytes, records_bytes, data_bytes, block_bytes}
 use Rattle.layout.proofs.ReadBackLaws.{text_some}
-use Rattle.layout.proofs.BlockBackLaws.{data_some}
-use Rattle.layout.proofs.InputLaws.{Taken, taken_none, taken_more}
+use Rattle.layout.proofs.InputLaws.{Taken, taken_none, taken_more, text_encoded}
 use Rattle.file_encoder.specs.Begun.{end_if_fits}
 use Rattle.file_encoder.proofs.FitLaws.{not_fitting, too_long, fitting}
 use Rattle.writer.specs.Steps.{DataPut}
 
 -- ---- the end of the next records
 
--- the loop: of at most `most` records, `left` may still be taken
-pub record Taking (s : List ℕ) (from most at left : ℕ) : Type 0 where
-  pub few : left ≤ most
-  pub taken : (xs : List Text) → from ≤ length s → Row (text_at 0 s) (length s) from xs → Taken 0 s from xs at (most - left)
+-- the loop: `count` records were taken, of at most `most`
+pub record Taking (s : List ℕ) (from most at count : ℕ) : Type 0 where
+  pub few : count ≤ most
+  pub taken : (xs : List Text) → from ≤ length s → Row (text_at 0 s) (length s) from xs → Taken 0 s from xs at count
 
-pub taking_none : (s : List ℕ) (from most : ℕ) → Taking s from most from most
-taking_none s from most =
-    record { few = omega arith; taken = λ xs h row. rw (sub_self most) (taken_none 0 s from xs h row) }
+pub taking_none : (s : List ℕ) (from most : ℕ) → Taking s from most from 0
+taking_none s from most = record { few = omega arith; taken = λ xs h row. taken_none 0 s from xs h row }
 
-pub taking_more : (s : List ℕ) (from most at left : ℕ) → AreBytes s → Taking s from most at left → 0 < left → at < length s → (t : Step Text) → text_at 0 s at ≡ answer t
-    → Taking s from most t.next (left - 1)
-taking_more s from most at left bytes k some before t e =
-    let few = k.few in
-    let more : most - (left - 1) ≡ most - left + 1 = omega arith in
-    record { few = omega arith; taken = λ xs h row. rw more (taken_more 0 s from xs at (most - left) bytes (k.taken xs h row) before t e) }
+pub taking_more : (s : List ℕ) (from most at count : ℕ) → AreBytes s → Taking s from most at count → count < most → (t : Step Text)
+    → text_at 0 s at ≡ answer t → Taking s from most t.next (count + 1)
+taking_more s from most at count bytes k more t e =
+    let placed = text_encoded 0 s at t bytes e in
+    let forward = placed.forward in
+    let within = placed.within in
+    record { few = omega arith; taken = λ xs h row. taken_more 0 s from xs at count bytes (k.taken xs h row) (omega arith) t e }
 
--- all were taken
-pub taking_all : (s : List ℕ) (from most at : ℕ) → Taking s from most at 0
-    → (xs : List Text) → from ≤ length s → Row (text_at 0 s) (length s) from xs → Taken 0 s from xs at most
-taking_all s from most at k xs h row = subst (Taken 0 s from xs at) (sub-zero most) (k.taken xs h row)
+module _ (s : List ℕ) (from most at count : ℕ) (k : Taking s from most at count) (xs : List Text) (h : from ≤ length s)
+    (row : Row (text_at 0 s) (length s) from xs) where
+  -- all were taken
+  pub taking_all : most ≤ count → Taken 0 s from xs at most
+  taking_all enough = let few = k.few in let all : count ≡ most = omega arith in subst (Taken 0 s from xs at) all (k.taken xs h row)
 
--- the input ends
-pub taking_end : (s : List ℕ) (from most at left : ℕ) → Taking s from most at left → length s ≤ at
-    → (xs : List Text) → from ≤ length s → Row (text_at 0 s) (length s) from xs → Taken 0 s from xs at most
-taking_end s from most at left k end xs h row = go (k.taken xs h row)
-  where
-    go : Taken 0 s from xs at (most - left) → Taken 0 s from xs at most
-    go t =
-        let few = k.few in
-        let none = row_none (drop (most - left) xs) t.row in
-        let long : length xs - (most - left) ≡ 0 = sym (length-drop (most - left) xs) ∙ ap length none in
-        record {
-          after = t.after;
-          within = t.within;
-          row = subst (Row (text_at 0 s) (length s) at) (none ∙ sym (drop_of_length-le xs {i = most} (omega arith))) t.row;
-          bytes = t.bytes ∙ ap (λ (l : List Text). records_bytes (map (λ x. x.bytes) l)) (take_all (most - left) xs (omega arith) ∙ sym (take_all most xs (omega arith)));
-        }
-      where
-        row_none : (ys : List Text) → Row (text_at 0 s) (length s) at ys → ys ≡ []
-        row_none ys (row_end e) = refl
-        row_none ys (row_more u more before e r) = absurd (omega arith)
-
--- no record can be refused
-pub taking_refused : (s : List ℕ) (from most at left n place : ℕ) → Taking s from most at left → at < length s → text_at 0 s at ≡ refused n place
-    → (xs : List Text) → from ≤ length s → Row (text_at 0 s) (length s) from xs → Taken 0 s from xs at most
-taking_refused s from most at left n place k before e xs h row = absurd (go (drop (most - left) xs) (k.taken xs h row).row)
-  where
-    go : (ys : List Text) → Row (text_at 0 s) (length s) at ys → ⊥
-    go ys (row_end l) = absurd (omega arith)
-    go ys (row_more u more l f r) = refused_not_answer u n place (sym e ∙ f)
+  -- no record follows: the input ends
+  pub taking_end : (n place : ℕ) → text_at 0 s at ≡ refused n place → Taken 0 s from xs at most
+  taking_end n place none = go (k.taken xs h row) (drop count xs) refl (k.taken xs h row).row
+    where
+      go : Taken 0 s from xs at count → (ys : List Text) → drop count xs ≡ ys → Row (text_at 0 s) (length s) at ys → Taken 0 s from xs at most
+      go t ys e (row_more u more before f r) = absurd (refused_not_answer u n place (sym none ∙ f))
+      go t ys e (row_end end) =
+          let few = k.few in
+          let long : length xs - count ≡ 0 = sym (length-drop count xs) ∙ ap length e in
+          record {
+            after = t.after;
+            within = t.within;
+            row = subst (Row (text_at 0 s) (length s) at) (e ∙ sym (drop_of_length-le xs {i = most} (omega arith))) t.row;
+            bytes = t.bytes ∙ ap (λ (l : List Text). records_bytes (map (λ x. x.bytes) l)) (take_all count xs (omega arith) ∙ sym (take_all most xs (omega arith)));
+          }
 
 -- ---- data block after data block
 
@@ -139,8 +126,8 @@ pub record NextBlock (old : List ℕ) (from : ℕ) (s : List ℕ) (per : ℕ) (x
   pub payload : take (end - at) (drop at s) ≡ records_bytes records
   pub put : (after : ℕ) (then : List ℕ) → after ≡ next + length (data_bytes records) → after ≤ length old → after ≤ 2 ^ 30 → then ≡ stored output next (data_bytes records)
       → DataPutting old from s per xs then end after
-  pub full : length old < next + length (data_bytes records) → 0 ≡ end_if_fits (length old) from (flat_map data_bytes (groups per (bytes_of xs)))
-  pub long : 2 ^ 30 < next + length (data_bytes records) → 0 ≡ end_if_fits (length old) from (flat_map data_bytes (groups per (bytes_of xs)))
+  pub full : length old < next + length (data_bytes records) → None ≡ end_if_fits (length old) from (flat_map data_bytes (groups per (bytes_of xs)))
+  pub long : 2 ^ 30 < next + length (data_bytes records) → None ≡ end_if_fits (length old) from (flat_map data_bytes (groups per (bytes_of xs)))
 
 module _ (old : List ℕ) (from : ℕ) (s : List ℕ) (per : ℕ) (xs : List Text) (output : List ℕ) (at next end : ℕ) where
   pub next_block : 1 ≤ per → at < length s → DataPutting old from s per xs output at next
@@ -211,52 +198,53 @@ module _ (old : List ℕ) (from : ℕ) (s : List ℕ) (per : ℕ) (xs : List Tex
 
 -- all blocks are put
 pub putting_all : (old : List ℕ) (from : ℕ) (s : List ℕ) (per : ℕ) (xs : List Text) (output : List ℕ) (at next : ℕ) → 1 ≤ per → 0 < length s → length s ≤ at
-    → DataPutting old from s per xs output at next → DataPut old from (groups per (bytes_of xs)) next output
+    → DataPutting old from s per xs output at next → DataPut old from (groups per (bytes_of xs)) (Some next) output
 unfolding bytes_of
 putting_all old from s per xs output at next count some end p = go p.left p.row p.blocks
   where
-    go : (ys : List Text) → Row (text_at 0 s) (length s) at ys → groups per (bytes_of xs) ≡ p.done ++ groups per (bytes_of ys) → DataPut old from (groups per (bytes_of xs)) next output
+    go : (ys : List Text) → Row (text_at 0 s) (length s) at ys → groups per (bytes_of xs) ≡ p.done ++ groups per (bytes_of ys) → DataPut old from (groups per (bytes_of xs)) (Some next) output
     go ys (row_more u more before step row) e = absurd (omega arith)
     go ys (row_end h) e =
         let all : groups per (bytes_of xs) ≡ p.done = e ∙ ap (λ l. p.done ++ l) (groups_nil per count) ∙ append-nil p.done in
         let fit = p.fit (omega arith) in
         let ends = p.ends in
         record {
-          ends = ends ∙ fitting (length old) from (flat_map data_bytes p.done) (omega arith) (omega arith)
+          ends = ap Some ends ∙ fitting (length old) from (flat_map data_bytes p.done) (omega arith) (omega arith)
               ∙ ap (λ l. end_if_fits (length old) from (flat_map data_bytes l)) (sym all);
-          stands = λ z. p.stands ∙ ap (λ l. stored old from (flat_map data_bytes l)) (sym all);
+          stands = λ n put. p.stands ∙ ap (λ l. stored old from (flat_map data_bytes l)) (sym all);
         }
 
 -- a block doesn't fit
-pub putting_full : (old : List ℕ) (from : ℕ) (per : ℕ) (xs : List Text) (output : List ℕ) → 0 ≡ end_if_fits (length old) from (flat_map data_bytes (groups per (bytes_of xs)))
-    → DataPut old from (groups per (bytes_of xs)) 0 output
-putting_full old from per xs output e = record { ends = e; stands = λ some. absurd (some refl) }
+pub putting_full : (old : List ℕ) (from : ℕ) (per : ℕ) (xs : List Text) (output : List ℕ) → None ≡ end_if_fits (length old) from (flat_map data_bytes (groups per (bytes_of xs)))
+    → DataPut old from (groups per (bytes_of xs)) None output
+putting_full old from per xs output e = record { ends = e; stands = λ n put. cc }
 
 pub putting_length : (old : List ℕ) (from : ℕ) (s : List ℕ) (per : ℕ) (xs : List Text) (output : List ℕ) (at next : ℕ) → DataPutting old from s per xs output at next
     → length output ≡ length old
 putting_length old from s per xs output at next p = ap length p.stands ∙ length-stored old from (flat_map data_bytes p.done)
 
--- what putting the next block leads to: `size` is its size, or 0 where it doesn't fit
-module _ (old : List ℕ) (from : ℕ) (s : List ℕ) (per : ℕ) (xs : List Text) (output : List ℕ) (at next end size : ℕ) (n : NextBlock old from s per xs output at next end)
-    (same : length output ≡ length old) (sized : size ≡ stored_length output next (block_bytes 0 (take (end - at) (drop at s)))) where
+-- what putting the next block leads to
+module _ (old : List ℕ) (from : ℕ) (s : List ℕ) (per : ℕ) (xs : List Text) (output : List ℕ) (at next end : ℕ) (n : NextBlock old from s per xs output at next end)
+    (same : length output ≡ length old) where
   block_is : block_bytes 0 (take (end - at) (drop at s)) ≡ data_bytes n.records
   unfolding data_bytes
   block_is = ap (block_bytes 0) n.payload
 
-  size_is : size ≡ stored_length output next (data_bytes n.records)
-  size_is = sized ∙ ap (stored_length output next) block_is
+  -- it doesn't fit
+  pub block_none : None ≡ stored_size output next (block_bytes 0 (take (end - at) (drop at s)))
+      → None ≡ end_if_fits (length old) from (flat_map data_bytes (groups per (bytes_of xs)))
+  block_none none = let l = stored_size_none output next (data_bytes n.records) (none ∙ ap (stored_size output next) block_is) in n.full (omega arith)
 
-  pub block_none : size ≡ 0 → 0 ≡ end_if_fits (length old) from (flat_map data_bytes (groups per (bytes_of xs)))
-  block_none z = let l = stored_length_none output next (data_bytes n.records) size_is z (data_some n.records) in n.full (omega arith)
+  module _ (size : ℕ) (sized : Some size ≡ stored_size output next (block_bytes 0 (take (end - at) (drop at s)))) where
+    fits : (size ≡ length (data_bytes n.records)) × (next + length (data_bytes n.records) ≤ length output)
+    fits = stored_size_some output next (data_bytes n.records) (sized ∙ ap (stored_size output next) block_is)
 
-  module _ (some : size ≡ 0 → ⊥) where
     pub block_room : next + size ≤ length old
-    block_room = let l = stored_length_some output next (data_bytes n.records) size_is some in omega (arith, l.0, l.1)
+    block_room = let l = fits in omega (arith, l.0, l.1)
 
-    pub block_long : 2 ^ 30 < next + size → 0 ≡ end_if_fits (length old) from (flat_map data_bytes (groups per (bytes_of xs)))
-    block_long h = let l = stored_length_some output next (data_bytes n.records) size_is some in n.long (omega (arith, l.0))
+    pub block_long : 2 ^ 30 < next + size → None ≡ end_if_fits (length old) from (flat_map data_bytes (groups per (bytes_of xs)))
+    block_long h = let l = fits in n.long (omega (arith, l.0))
 
     pub block_put : next + size ≤ 2 ^ 30 → (then : List ℕ) → then ≡ stored output next (block_bytes 0 (take (end - at) (drop at s))) → DataPutting old from s per xs then end (next + size)
     block_put h then e =
-        let l = stored_length_some output next (data_bytes n.records) size_is some in
-        n.put (next + size) then (ap (λ (k : ℕ). next + k) l.0) block_room h (e ∙ ap (stored output next) block_is)
+        n.put (next + size) then (ap (λ (k : ℕ). next + k) fits.0) block_room h (e ∙ ap (stored output next) block_is)

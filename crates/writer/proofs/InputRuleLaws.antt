@@ -4,14 +4,19 @@ use mathlib.Core.Path.{◌≡◌, sym, ap, ◌∙◌}
 use mathlib.Core.Bool.{true, false}
 use mathlib.Core.List.{List, map}
 use Prim.Native.Nat.{ℕ}
+use native.Mathlib.Omega.{arith}
 use lib.ListN.{length}
 use borrow.Author.Tests.{ne_eqb, eq-eqb}
-use Rattle.outcome.specs.Outcome.{answer, refused, ◌>>=◌, number_of}
-use Rattle.outcome.proofs.OutcomeLaws.{kept, broken, bind⁻¹, map_refused⁻¹}
+use Rattle.outcome.specs.declared.Fault.{Fault}
+use Rattle.outcome.specs.declared.Fault.TheVariants.{RecordOrder}
+use Rattle.outcome.specs.Fault.{number}
+use Rattle.outcome.specs.Outcome.{answer, refused, ◌>>=◌}
+use Rattle.outcome.proofs.OutcomeLaws.{kept, broken, bind_answer, bind_refused, bind⁻¹, map_refused⁻¹}
 use Rattle.header.specs.Metadata.{is_metadata}
 use Rattle.payload.specs.Payload.{Text, records_at}
 use Rattle.payload.specs.Answers.{counted}
 use Rattle.layout.specs.File.{counts_fit}
+use Rattle.writer.specs.Steps.{tested}
 use Rattle.writer.specs.Write.{input_refusal, refused_as, input_of, records_to_write}
 
 -- ---- the records of the input
@@ -24,6 +29,19 @@ pub input_none : (input : List ℕ) (n place : ℕ) → records_at 0 input 0 ≡
 unfolding input_of refused_as ◌>>=◌
 input_none input n place e = ap (λ o. refused_as input_refusal o >>= λ rs. answer (map (λ r. r.bytes) rs)) e
 
+pub not_rising : (n : ℕ) → n ≡ 16 → 29 ≡ input_refusal n
+unfolding input_refusal
+not_rising n e = rw (eq-eqb n 16 e)
+
+pub malformed : (n : ℕ) → (n ≡ 16 → ⊥) → 28 ≡ input_refusal n
+unfolding input_refusal
+malformed n e = rw (ne_eqb n 16 e)
+
+-- only records that don't rise are refused with 16
+pub order_only : (f : Fault) → number f ≡ 16 → f ≡ RecordOrder
+unfolding number
+order_only f e = grind arith
+
 -- ---- the number of the refusal
 
 module _ (metadata input : List ℕ) (b i : ℕ) where
@@ -35,33 +53,29 @@ module _ (metadata input : List ℕ) (b i : ℕ) where
   unfolding records_to_write
   refused_at_9 h k = kept (counts_fit b i) 30 0 _ h ∙ broken (is_metadata metadata) 9 0 _ k
 
-  pub refused_30 : counts_fit b i ≡ false → 30 ≡ number_of (records_to_write metadata input b i)
-  unfolding number_of
-  refused_30 h = sym (ap number_of (refused_at_30 h))
+  -- what the test of the input says
+  tested_refused : (n : ℕ) → records_to_write metadata input b i ≡ refused n 0 → refused n 0 ≡ tested (records_to_write metadata input b i)
+  unfolding tested
+  tested_refused n e = sym (bind_refused (records_to_write metadata input b i) _ n 0 e)
 
-  pub refused_9 : counts_fit b i ≡ true → is_metadata metadata ≡ false → 9 ≡ number_of (records_to_write metadata input b i)
-  unfolding number_of
-  refused_9 h k = sym (ap number_of (refused_at_9 h k))
+  pub refused_30 : counts_fit b i ≡ false → refused 30 0 ≡ tested (records_to_write metadata input b i)
+  refused_30 h = tested_refused 30 (refused_at_30 h)
+
+  pub refused_9 : counts_fit b i ≡ true → is_metadata metadata ≡ false → refused 9 0 ≡ tested (records_to_write metadata input b i)
+  refused_9 h k = tested_refused 9 (refused_at_9 h k)
 
   module _ (h : counts_fit b i ≡ true) (k : is_metadata metadata ≡ true) where
     pub to_input : records_to_write metadata input b i ≡ input_of input
     unfolding records_to_write
     to_input = rw (kept (counts_fit b i) 30 0 _ h, kept (is_metadata metadata) 9 0 _ k)
 
-    pub input_answer : (count : ℕ) → answer count ≡ counted (records_at 0 input 0) → 0 ≡ number_of (records_to_write metadata input b i)
-    unfolding counted number_of
+    pub input_answer : (count : ℕ) → answer count ≡ counted (records_at 0 input 0) → answer tt ≡ tested (records_to_write metadata input b i)
+    unfolding counted tested
     input_answer count e =
         let r = bind⁻¹ (records_at 0 input 0) _ count (sym e) in
-        sym (ap number_of (to_input ∙ input_some input r.0 r.1))
+        sym (bind_answer (records_to_write metadata input b i) _ _ (to_input ∙ input_some input r.0 r.1))
 
-    pub input_refused : (n : ℕ) → refused n 0 ≡ counted (records_at 0 input 0) → input_refusal n ≡ number_of (records_to_write metadata input b i)
-    unfolding counted number_of
-    input_refused n e = sym (ap number_of (to_input ∙ input_none input n 0 (map_refused⁻¹ (records_at 0 input 0) length n 0 (sym e))))
-
-pub not_rising : (n : ℕ) → n ≡ 16 → 29 ≡ input_refusal n
-unfolding input_refusal
-not_rising n e = rw (eq-eqb n 16 e)
-
-pub malformed : (n : ℕ) → (n ≡ 16 → ⊥) → 28 ≡ input_refusal n
-unfolding input_refusal
-malformed n e = rw (ne_eqb n 16 e)
+    pub input_refused : (n : ℕ) → refused n 0 ≡ counted (records_at 0 input 0) → refused (input_refusal n) 0 ≡ tested (records_to_write metadata input b i)
+    unfolding counted
+    input_refused n e =
+        tested_refused (input_refusal n) (to_input ∙ input_none input n 0 (map_refused⁻¹ (records_at 0 input 0) length n 0 (sym e)))

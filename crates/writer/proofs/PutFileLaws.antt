@@ -3,6 +3,7 @@
 use mathlib.Core.Path.{◌≡◌, sym, ap, ◌∙◌, subst}
 use mathlib.Core.Bool.{true}
 use mathlib.Core.List.{List, [], flat_map, map}
+use Rattle.std.specs.Prelude.{Option, Some, None}
 use Prim.Native.Nat.{ℕ, ◌+◌, ◌^◌, ◌≤◌, ◌<◌}
 use native.Mathlib.Omega.{arith}
 use lib.ListN.{length}
@@ -35,8 +36,7 @@ hash_whole : (input : List ℕ) {state : State} {hash : List ℕ} → length inp
     → hash ≡ sha256 input
 hash_whole input short e f = f ∙ ap finished e ∙ Holds⇒sha256 input (absorbed begun input) (more none input) short
 
-module _ (metadata input : List ℕ) (b i : ℕ) (old : List ℕ) (rs : List (List ℕ)) (read : records_to_write metadata input b i ≡ answer rs)
-    (from : ℕ) (begins : from ≡ blocks_begin (length old) metadata) where
+module _ (metadata input : List ℕ) (b i : ℕ) (old : List ℕ) (rs : List (List ℕ)) (read : records_to_write metadata input b i ≡ answer rs) where
   abbrev blocks : List (List (List ℕ))
   blocks = groups b rs
 
@@ -53,35 +53,35 @@ module _ (metadata input : List ℕ) (b i : ℕ) (old : List ℕ) (rs : List (Li
   filled g m = let k = groups_member b known.block_count rs g m in omega (arith, k.0)
 
   -- no room for the header
-  pub header_none : from ≡ 0 → (output : List ℕ) → FilePut (length old) (file_of metadata (groups b rs) i) 0 output
-  header_none z output =
-      put-nothing (length old) file output (blocks_start metadata) (omega (arith, length_file metadata blocks i)) (begun_not (length old) metadata begins z)
+  pub header_none : None ≡ blocks_begin (length old) metadata → (output : List ℕ) → FilePut (length old) (file_of metadata (groups b rs) i) None output
+  header_none begins output =
+      put-nothing (length old) file output (blocks_start metadata) (omega (arith, length_file metadata blocks i)) (begun_not (length old) metadata begins)
 
-  module _ (zero : old ≡ zeros (length old)) (some : from ≡ 0 → ⊥) (first : List ℕ) (head : first ≡ with_header old metadata) (same : length first ≡ length old)
-      (to : ℕ) (second : List ℕ)
-      (put : (xs : List Text) → Row (text_at 0 input) (length input) 0 xs → DataPut first from (groups b (map (λ x. x.bytes) xs)) to second) where
-    laid : DataPut first from blocks to second
+  module _ (from : ℕ) (begins : Some from ≡ blocks_begin (length old) metadata) (zero : old ≡ zeros (length old)) (first : List ℕ)
+      (head : first ≡ with_header old metadata) (same : length first ≡ length old) (put-to : Option ℕ) (second : List ℕ)
+      (put : (xs : List Text) → Row (text_at 0 input) (length input) 0 xs → DataPut first from (groups b (map (λ x. x.bytes) xs)) put-to second) where
+    laid : DataPut first from blocks put-to second
     unfolding bytes_of
-    laid = subst (λ l. DataPut first from (groups b l) to second) (sym known.same) (put known.texts known.row)
+    laid = subst (λ l. DataPut first from (groups b l) put-to second) (sym known.same) (put known.texts known.row)
 
     start : Begun metadata [] first from from
-    start = begun_none old metadata zero begins some head
+    start = begun_none old metadata zero begins head
 
     -- the data blocks don't fit
-    pub data_none : to ≡ 0 → (output : List ℕ) → FilePut (length old) (file_of metadata (groups b rs) i) 0 output
-    data_none z output =
-        put_room same (put-nothing (length first) file output (from + length D) within (end_none (length first) from D laid.ends z (omega arith)))
+    pub data_none : None ≡ put-to → (output : List ℕ) → FilePut (length old) (file_of metadata (groups b rs) i) None output
+    data_none out output =
+        put_room same (put-nothing (length first) file output (from + length D) within (end_none (length first) from D (out ∙ laid.ends)))
       where
         within : from + length D ≤ length file
         within = let from_is = start.begins in let long = file_long metadata blocks i in omega arith
 
-    module _ (put_some_lem : to ≡ 0 → ⊥) where
+    module _ (to : ℕ) (reached : Some to ≡ put-to) where
       ends : (to ≡ from + length D) × (file_fits (length first) to ≡ true)
-      ends = end_some (length first) from D laid.ends put_some_lem
+      ends = end_some (length first) from D (reached ∙ laid.ends)
 
       -- the data blocks stand
       data_done : Begun metadata blocks second from to
-      data_done = begun_more metadata [] first from from start blocks filled ends.0 ends.1 (laid.stands put_some_lem)
+      data_done = begun_more metadata [] first from from start blocks filled ends.0 ends.1 (laid.stands to (sym reached))
 
       joined : AreBytes input → flat_map records_bytes blocks ≡ input
       joined bytes = ready⇒joined metadata input b i rs bytes known
@@ -95,8 +95,8 @@ module _ (metadata input : List ℕ) (b i : ℕ) (old : List ℕ) (rs : List (Li
 
       -- the file is finished, as far as it fits
       pub file_done : AreBytes input → length second ≡ length first → {state : State} {hash : List ℕ} → state ≡ absorbed begun input → hash ≡ finished state
-          → {end : ℕ} {third : List ℕ} → ((metadata : List ℕ) (blocks : List (List (List ℕ))) → 2 ≤ i → Begun metadata blocks second from to
+          → {end : Option ℕ} {third : List ℕ} → ((metadata : List ℕ) (blocks : List (List (List ℕ))) → 2 ≤ i → Begun metadata blocks second from to
           → hash ≡ sha256 (flat_map records_bytes blocks)
-          → FilePut (length second) (file_of metadata blocks i) end third × (end ≡ 0 → third ≡ second))
+          → FilePut (length second) (file_of metadata blocks i) end third × (end ≡ None → third ≡ second))
           → FilePut (length old) (file_of metadata (groups b rs) i) end third
       file_done bytes long s h finish = put_room (long ∙ same) (finish metadata blocks known.index_count data_done (hashed bytes s h)).0

@@ -1,53 +1,47 @@
 -- What the writer answers, and what it leaves in the output.
 -- Assumes nothing.
 use mathlib.Core.Path.{◌≡◌, refl, sym, ap, ◌∙◌}
-use mathlib.Core.Bool.{Bool, true, false, cond}
-use mathlib.Core.List.{List, map}
-use Prim.Native.Nat.{ℕ, ◌+◌, ◌<◌}
+use mathlib.Core.Bool.{Bool, true, false, not, false≢true}
+use mathlib.Core.Logic.{◌⊎◌, inl, inr}
+use mathlib.Core.List.{List}
+use Rattle.std.specs.Prelude.{Option, Some, None, Result, Ok, Err}
+use Rattle.std.specs.Option.{ok_or, is_some}
+use Rattle.std.specs.Result.{IsErrAnd}
+use Rattle.std.proofs.lemmas.Result.{err_from_is_err_and}
+use Prim.Native.Nat.{ℕ, ◌+◌}
 use native.Mathlib.Omega.{arith}
-use lib.Dec.{eqb}
 use lib.ListN.{length}
 use Rattle.lists.specs.Groups.{groups}
 use Rattle.output_list.specs.OutputList.{zeros}
-use Rattle.outcome.specs.Outcome.{Outcome, answer, refused, ◌>>=◌, number_of, place_of, count_of, list_of}
-use Rattle.outcome.proofs.OutcomeLaws.{kept, broken, bind_answer, bind_refused}
-use Rattle.header.specs.Metadata.{is_metadata}
-use Rattle.payload.specs.Payload.{Text, records_at}
-use Rattle.layout.specs.File.{file_of, file_fits, blocks_start, counts_fit}
-use Rattle.layout.proofs.FileBackLaws.{length_file}
+use Rattle.outcome.specs.Outcome.{Outcome, answer, refused, number_of, place_of, count_of, list_of}
+use Rattle.outcome.specs.declared.Fault.{Fault}
+use Rattle.outcome.specs.declared.Fault.TheVariants.{OutputRoom}
+use Rattle.outcome.specs.Fault.{number, said_at}
+use Rattle.outcome.proofs.OutcomeLaws.{kept, broken, bind_answer, bind_refused, bind⁻¹, map_refused⁻¹, answer_injective}
+use Rattle.layout.specs.File.{file_of, file_fits}
 use Rattle.written.specs.declared.Written.{Written}
 use Rattle.written.specs.Written.{written_answer, written_output}
-use Rattle.writer.specs.Write.{input_refusal, records_to_write, write_of}
-use Rattle.file_encoder.specs.Begun.{end_if_fits, FilePut}
-use Rattle.writer.proofs.InputRuleLaws.{refused_at_30, refused_at_9, to_input, input_some, input_none}
+use Rattle.writer.specs.Steps.{tested, length_of}
+use Rattle.writer.specs.Write.{records_to_write, write_of}
+use Rattle.file_encoder.specs.Begun.{FilePut}
+use Rattle.file_encoder.proofs.FitLaws.{end_some, end_none}
 
--- the records, or a refusal at place 0 whose number isn't 0
-pub data Known (o : Outcome (List (List ℕ))) : Type 0 where
-  some : (rs : List (List ℕ)) → o ≡ answer rs → Known o
-  none : (n : ℕ) → (n ≡ 0 → ⊥) → o ≡ refused n 0 → Known o
+-- ---- what is answered
 
-input_refusal_some : (n : ℕ) → input_refusal n ≡ 0 → ⊥
-unfolding input_refusal
-input_refusal_some n e = go (eqb n 16) e
-  where
-    go : (b : Bool) → ◌≡◌ {A = ℕ} (cond b 29 28) 0 → ⊥
-    go true h = omega arith
-    go false h = omega arith
+module _ (o : Outcome (List ℕ)) where
+  -- the length of the file
+  pub answers_length : (n : ℕ) → answer n ≡ length_of o → ◌≡◌ {A = Written} (record { number = 0; place = 0; length = n }) (written_answer o)
+  unfolding length_of written_answer number_of place_of count_of
+  answers_length n e =
+      let file = bind⁻¹ o _ n (sym e) in
+      ap (λ (k : ℕ). record { number = 0; place = 0; length = k }) (sym (answer_injective _ n file.2)) ∙ sym (ap written_answer file.1)
 
-pub known : (metadata input : List ℕ) (b i : ℕ) → Known (records_to_write metadata input b i)
-known metadata input b i = counts (counts_fit b i) refl
-  where
-    read : counts_fit b i ≡ true → is_metadata metadata ≡ true → (o : Outcome (List Text)) → records_at 0 input 0 ≡ o → Known (records_to_write metadata input b i)
-    read h k (answer ts) e = some (map (λ r. r.bytes) ts) (to_input metadata input b i h k ∙ input_some input ts e)
-    read h k (refused n place) e = none (input_refusal n) (input_refusal_some n) (to_input metadata input b i h k ∙ input_none input n place e)
+  -- a refusal
+  pub answers_refusal : (n : ℕ) → refused n 0 ≡ length_of o → written_answer (refused n 0) ≡ written_answer o
+  unfolding length_of
+  answers_refusal n e = sym (ap written_answer (map_refused⁻¹ o length n 0 (sym e)))
 
-    rule : counts_fit b i ≡ true → (c : Bool) → is_metadata metadata ≡ c → Known (records_to_write metadata input b i)
-    rule h true k = read h k (records_at 0 input 0) refl
-    rule h false k = none 9 (λ z. omega arith) (refused_at_9 metadata input b i h k)
-
-    counts : (c : Bool) → counts_fit b i ≡ c → Known (records_to_write metadata input b i)
-    counts true h = rule h (is_metadata metadata) refl
-    counts false h = none 30 (λ z. omega arith) (refused_at_30 metadata input b i h)
+-- ---- what is written
 
 module _ (metadata input : List ℕ) (b i room : ℕ) where
   abbrev R : Outcome (List (List ℕ))
@@ -56,43 +50,31 @@ module _ (metadata input : List ℕ) (b i room : ℕ) where
   abbrev W : Outcome (List ℕ)
   W = write_of metadata input b i room
 
+  -- the answer, and the output, which had zeros
+  abbrev Left : Result ℕ Fault → List ℕ → Type 0
+  Left r output = (said_at 0 r ≡ length_of (write_of metadata input b i room)) × (output ≡ written_output room (write_of metadata input b i room))
+
   -- no refusal: there are records
-  pub number_0 : (n : ℕ) → n ≡ number_of (records_to_write metadata input b i) → n ≡ 0 → (rs : List (List ℕ)) × (records_to_write metadata input b i ≡ answer rs)
-  unfolding number_of
-  number_0 n e z = go (known metadata input b i)
-    where
-      go : Known R → (rs : List (List ℕ)) × (R ≡ answer rs)
-      go (some rs h) = (rs, h)
-      go (none m s h) = absurd (s (sym (e ∙ ap number_of h) ∙ z))
+  pub input_passed : answer tt ≡ tested (records_to_write metadata input b i) → (rs : List (List ℕ)) × (records_to_write metadata input b i ≡ answer rs)
+  unfolding tested
+  input_passed e = let known = bind⁻¹ R _ tt (sym e) in (known.0, known.1)
+
+  refusal : (fault : Fault) → W ≡ refused (number fault) 0 → Left (Err fault) (zeros room)
+  unfolding said_at length_of written_output list_of
+  refusal fault e = (sym (bind_refused W _ (number fault) 0 e), sym (ap (written_output room) e))
 
   -- a refusal before the file is made
-  pub write_refused : (n : ℕ) → n ≡ number_of (records_to_write metadata input b i) → (n ≡ 0 → ⊥)
-      → (written_answer (refused n 0) ≡ written_answer (write_of metadata input b i room))
-      × (zeros room ≡ written_output room (write_of metadata input b i room))
-  unfolding number_of place_of count_of list_of write_of written_answer written_output ◌>>=◌
-  write_refused n e s = go (known metadata input b i)
-    where
-      go : Known R → (written_answer (refused n 0) ≡ written_answer W) × (zeros room ≡ written_output room W)
-      go (some rs h) = absurd (s (e ∙ ap number_of h))
-      go (none m t h) =
-          let W-is : W ≡ refused m 0 = bind_refused R _ m 0 h in
-          (ap (λ (k : ℕ). written_answer (refused k 0)) (e ∙ ap number_of h) ∙ sym (ap written_answer W-is), sym (ap (written_output room) W-is))
+  pub write_refused : (fault : Fault) → refused (number fault) 0 ≡ tested (records_to_write metadata input b i) → (r : Result ℕ Fault)
+      → IsErrAnd r (λ f. f ≡ fault) → {output : List ℕ} → output ≡ zeros room → Left r output
+  unfolding tested write_of
+  write_refused fault e r told h =
+      let handed = err_from_is_err_and r told in
+      rw (handed.1, handed.2, h) (refusal fault (bind_refused R _ (number fault) 0 (map_refused⁻¹ R (λ rs. tt) (number fault) 0 (sym e))))
 
-  module _ (rs : List (List ℕ)) (read : records_to_write metadata input b i ≡ answer rs) (end : ℕ) (output : List ℕ)
+  module _ (rs : List (List ℕ)) (read : records_to_write metadata input b i ≡ answer rs) (end : Option ℕ) (output : List ℕ)
       (put : FilePut room (file_of metadata (groups b rs) i) end output) where
     abbrev file : List ℕ
     file = file_of metadata (groups b rs) i
-
-    long : 0 < length file
-    unfolding blocks_start
-    long = omega (arith, length_file metadata (groups b rs) i)
-
-    cases : (c : Bool) → file_fits room (length file) ≡ c → end ≡ cond c (length file) 0
-    unfolding end_if_fits
-    cases c h = put.ends ∙ ap (λ (n : ℕ). cond (file_fits room n) n 0) (zero_first (length file)) ∙ ap (λ (d : Bool). cond d (length file) 0) h
-      where
-        zero_first : (n : ℕ) → 0 + n ≡ n
-        zero_first n = omega arith
 
     full : file_fits room (length file) ≡ false → W ≡ refused 31 0
     unfolding write_of
@@ -103,26 +85,27 @@ module _ (metadata input : List ℕ) (b i room : ℕ) where
     whole h = bind_answer R _ rs read ∙ kept (file_fits room (length file)) 31 0 _ h
 
     -- the file doesn't fit
-    pub write_full : end ≡ 0 → (written_answer (refused 31 0) ≡ written_answer (write_of metadata input b i room))
-        × (zeros room ≡ written_output room (write_of metadata input b i room))
-    unfolding number_of place_of count_of list_of written_answer written_output
-    write_full z = go (file_fits room (length file)) refl
+    write_full : None ≡ end → Left (Err OutputRoom) (zeros room)
+    unfolding number
+    write_full none = refusal OutputRoom (full (ap (file_fits room) (sym (front (length file))) ∙ end_none room 0 file (none ∙ put.ends)))
       where
-        go : (c : Bool) → file_fits room (length file) ≡ c
-            → (written_answer (refused 31 0) ≡ written_answer W) × (zeros room ≡ written_output room W)
-        go true h = absurd (let e = cases true h in let l = long in omega arith)
-        go false h = (sym (ap written_answer (full h)), sym (ap (written_output room) (full h)))
+        front : (n : ℕ) → 0 + n ≡ n
+        front n = omega arith
 
     -- the file is written
-    pub write_done : (end ≡ 0 → ⊥) → (◌≡◌ {A = Written} (record { number = 0; place = 0; length = end }) (written_answer (write_of metadata input b i room)))
-        × (output ≡ written_output room (write_of metadata input b i room))
-    unfolding number_of place_of count_of list_of written_answer written_output
-    write_done s = go (file_fits room (length file)) refl
-      where
-        go : (c : Bool) → file_fits room (length file) ≡ c
-            → (◌≡◌ {A = Written} (record { number = 0; place = 0; length = end }) (written_answer W)) × (output ≡ written_output room W)
-        go false h = absurd (s (cases false h))
-        go true h = (
-          ap (λ (n : ℕ). record { number = 0; place = 0; length = n }) (cases true h) ∙ sym (ap written_answer (whole h)),
-          put.stands s ∙ sym (ap (written_output room) (whole h)),
-        )
+    write_done : (n : ℕ) → Some n ≡ end → Left (Ok n) output
+    unfolding said_at length_of written_output list_of
+    write_done n some =
+        let reach = end_some room 0 file (some ∙ put.ends) in
+        let long : n ≡ length file = let end = reach.0 in omega arith in
+        let all = whole (ap (file_fits room) (sym long) ∙ reach.1) in
+        (ap answer long ∙ sym (bind_answer W _ file all), put.stands n (sym some) ∙ sym (ap (written_output room) all))
+
+  -- one of the two, where the output was cleared if there is no length
+  pub write_ended : (rs : List (List ℕ)) → records_to_write metadata input b i ≡ answer rs → (end : Option ℕ) (output : List ℕ)
+      → FilePut room (file_of metadata (groups b rs) i) end output → {failed : Bool} → is_some end ≡ not failed → {left : List ℕ}
+      → ((failed ≡ true) × (left ≡ zeros room)) ⊎ ((failed ≡ false) × (left ≡ output)) → {r : Result ℕ Fault} → r ≡ ok_or end OutputRoom → Left r left
+  write_ended rs read None output put e (inl h) told = rw (told, h.1) (write_full rs read None output put refl)
+  write_ended rs read None output put e (inr h) told = absurd (false≢true (e ∙ ap not h.0))
+  write_ended rs read (Some n) output put e (inl h) told = absurd (false≢true (sym (e ∙ ap not h.0)))
+  write_ended rs read (Some n) output put e (inr h) told = rw (told, h.1) (write_done rs read (Some n) output put n refl)

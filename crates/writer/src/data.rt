@@ -7,7 +7,7 @@ ghost use Rattle.layout.proofs.InputLaws.{Taken};
 ghost use Rattle.writer.specs.Steps.{ValidInput, DataPut};
 
 use header::Header;
-use payload::{TextOutcome, text_at};
+use payload::text_at;
 
 // Where the next `most` records end, or the end of the input.
 fn group_end(records: &[u8], from: usize, most: u64) -> usize
@@ -15,25 +15,17 @@ fn group_end(records: &[u8], from: usize, most: u64) -> usize
         → Taken 0 records.now from xs result most }
 {
     let mut at = from;
-    let mut left = most;
-    while at < records.len() {
-        if left == 0 {
+    for _ in 0..most {
+        let Ok(text) = text_at(records, at) else {
             return at;
-        }
-        let text = text_at(records, at);
-        match text {
-            TextOutcome::Refused(_) => return at,
-            TextOutcome::Answer(t) => {
-                at = t.offset + t.length;
-                left -= 1;
-            },
-        }
+        };
+        at = text.end();
     }
     at
 }
 
-// Puts the data blocks from `from` on; answers where they end, or 0 where they don't fit.
-pub fn put_data(output: &mut [u8], records: &[u8], per_block: u64, from: usize) -> usize
+// Puts the data blocks from `from` on; answers where they end, or nothing where they don't fit.
+pub fn put_data(output: &mut [u8], records: &[u8], per_block: u64, from: usize) -> Option<usize>
     requires { ValidInput records.now per_block }
     ensures { (xs : List Text) → Row (text_at 0 records.now) (length records.now) 0 xs
         → DataPut output.old from (groups per_block (map (λ x. x.bytes) xs)) result output.new }
@@ -42,15 +34,11 @@ pub fn put_data(output: &mut [u8], records: &[u8], per_block: u64, from: usize) 
     let mut next = from;
     while at < records.len() {
         let end = group_end(records, at, per_block);
-        let size = encoder::put_block(output, next, 0, &records[at..end]);
-        if size == 0 {
-            return 0;
-        }
-        next += size;
+        next += encoder::put_block(output, next, 0, &records[at..end])?;
         if Header::MAX_FILE < next {
-            return 0;
+            return None;
         }
         at = end;
     }
-    next
+    Some(next)
 }

@@ -8,4 +8,5 @@ use Rattle.slots.specs.Slots.{slots}
 use Rattle.heapsort.proofs.build.Given as goal
 
 abbrev pub invariant-loop-start : goal.invariant-loop-start
-invariant-loop-start l = (Building (record_at l.dump.name_length l.dump.bytes.now) l.n (slots 8 l.initial.s) (slots 8 l.s) l.start) × (length l.s ≡ length l.initial.s)
+invariant-loop-start l =
+    Building (record_at l.dump.name_length l.dump.bytes.now) l.n (slots 8 l.initial.s) (slots 8 l.s) l.start × (length l.s ≡ length l.initial.s)

@@ -5,13 +5,13 @@ use Rattle.header.specs.Header.{blocks_from}
 use Rattle.header.proofs.HeaderLaws.{is_header}
 use Rattle.query.specs.Asked.{asked}
 use Rattle.outcome.proofs.ResultLaws.{refusal_on, front_on}
-use Rattle.reader.proofs.ReadLaws.{header_refuses, read_refused, read_overflow, read_fit}
+use Rattle.reader.proofs.ReadLaws.{header_stops, read_refused, read_overflow, read_fit}
 use Rattle.reader.proofs.read_file.Goals as goal
 
 pub returns-in_err-header-clause-value : goal.returns-in_err-header-clause-value
 unfolding said_at
 returns-in_err-header-clause-value c =
-    front_on _ _ c.from_residual.ensures.1 ∙ header_refuses c.args.file.now (asked c.args.query) _ _ _ (sym c.in_err-header.ensures)
+    front_on _ _ c.from_residual.ensures.1 ∙ header_stops c.args.file.now (asked c.args.query) _ _ _ (sym c.in_err-header.ensures)
 
 pub returns-in_err-survey-clause-value : goal.returns-in_err-survey-clause-value
 unfolding said said_at blocks_from

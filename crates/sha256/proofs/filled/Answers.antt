@@ -1,26 +1,11 @@
-use Rattle.std.proofs.Common.{◌≡◌, ◌-◌, length, ◌∙◌, arith, rules}
-use lib.Seq.{paste-zero}
-use Rattle.sha256.proofs.FillLaws.{zeroed, zeroed_byte, zeroed_zero, zeroed_all}
-use Rattle.sha256.proofs.filled.Goals.{then-i-piece, else-i-piece}
+use Rattle.std.proofs.Common.{◌≡◌, length, take, arith, length-take-le, rules}
+use Rattle.sha256.proofs.FillLaws.{filled_parts}
 use Rattle.sha256.proofs.filled.Goals as goal
-
-pub loop-i-init : goal.loop-i-init
-loop-i-init c =
-    (omega arith, paste-zero c.args.kept c.args.fill (zeroed c.args.fill c.args.piece.now))
-
-pub loop-i-preserved : goal.loop-i-preserved
-loop-i-preserved c =
-    let room : length c.args.kept ≡ 64 = search rules in (
-      omega arith,
-      elim c.if-i-piece.branch [
-        | then-i-piece w ↦ w.out-is ∙ zeroed_byte c.args.kept c.args.fill c.args.piece.now room c.requires c.loop-i.i c.loop-i.out
-            c.loop-i-test.true c.loop-i.invariant.1 w.if-i-piece.true
-        | else-i-piece w ↦ w.out-is ∙ zeroed_zero c.args.kept c.args.fill c.args.piece.now room c.requires c.loop-i.i c.loop-i.out
-            c.loop-i-test.true c.loop-i.invariant.1 w.if-i-piece.false
-      ],
-    )
 
 pub returns : goal.returns
 returns c =
     let room : length c.args.kept ≡ 64 = search rules in
-    zeroed_all c.args.kept c.args.fill c.args.piece.now room c.requires c.loop-i.i c.loop-i.out (omega arith) c.loop-i.invariant.1
+    let front = take c.args.fill c.args.kept in
+    let piece = c.args.piece.now in
+    rw (c.copy_from_slice.ensures.after, c.copy_from_slice-2.ensures.after)
+    (filled_parts c.args.fill front piece (length-take-le c.args.fill c.args.kept (omega arith)) c.requires)

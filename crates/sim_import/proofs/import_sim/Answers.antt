@@ -1,8 +1,6 @@
 -- `import_sim` meets its contract, as `import` does. Assumes nothing.
-use mathlib.Core.Path.{ap, ◌∙◌}
-use Rattle.outcome.specs.Outcome.{refused}
+use mathlib.Core.Path.{◌∙◌}
 use Rattle.outcome.specs.Fault.{said_at}
-use Rattle.written.specs.Written.{written_answer}
 use Rattle.sim_import.proofs.ImportLaws.{said_put, said_not}
 use Rattle.sim_import.proofs.import_sim.Goals as goal
 
@@ -13,4 +11,4 @@ returns-in-Ok-clause-value c = said_put _ _ c.in-Ok.ensures.value
 pub returns-in-Err-clause-value : goal.returns-in-Err-clause-value
 unfolding said_at
 returns-in-Err-clause-value c =
-    c.refusal.ensures ∙ ap (λ n. written_answer (refused n 0)) c.number.ensures ∙ said_not _ _ c.in-Err.ensures.value
+    c.from.ensures ∙ said_not _ _ c.in-Err.ensures.value

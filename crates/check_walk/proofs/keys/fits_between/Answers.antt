@@ -2,17 +2,9 @@
 use mathlib.Core.Path.{sym, ap, ◌∙◌}
 use Rattle.byte_string.specs.Order.{at_most}
 use Rattle.check_walk.specs.Lookup.{bytes_in}
-use Rattle.check_walk.specs.Keys.{Within, fits_between}
+use Rattle.check_walk.specs.Keys.{fits_between}
 use Rattle.lists.proofs.ListsLaws.{both_false, both_rest}
 use Rattle.check_walk.proofs.keys.fits_between.Goals as goal
-
-pub part_at_most-requires : goal.part_at_most-requires
-unfolding Within
-part_at_most-requires c = (c.requires.1.1, c.requires.0)
-
-pub part_at_most-requires-then-part_at_most : goal.part_at_most-requires-then-part_at_most
-unfolding Within
-part_at_most-requires-then-part_at_most c = (c.requires.0, rw c.start.ensures c.requires.2.0)
 
 pub returns-then-part_at_most : goal.returns-then-part_at_most
 unfolding fits_between

@@ -5,8 +5,8 @@ use Rattle.cursor.specs.Cursor.{following}
 use Rattle.comparer.proofs.StepLaws.{Passed}
 use Rattle.comparer.proofs.merge.pass_copies.Given as goal
 
-abbrev pub invariant-loop-here : goal.invariant-loop-here
-invariant-loop-here l = Passed l.x (following l.file l.initial.at) l.count (following l.file l.at)
+abbrev pub invariant-loop-text : goal.invariant-loop-text
+invariant-loop-text l = Passed l.x (following l.file l.initial.at) l.count (following l.file l.at)
 
-abbrev pub decreases-loop-here : goal.decreases-loop-here
-decreases-loop-here l = length (following l.file l.at)
+abbrev pub decreases-loop-text : goal.decreases-loop-text
+decreases-loop-text l = length (following l.file l.at)

@@ -1,8 +1,7 @@
--- The definition, call by call.
-use Rattle.sha256_block.specs.Compression.{Σ₀}
+-- The definition, rotation by rotation.
+use Rattle.sha256_block.specs.Compression.{Σ₀, rotr}
 use Rattle.sha256_block.proofs.word.big_sigma0.Goals as goal
 
 pub returns : goal.returns
-unfolding Σ₀
-returns c =
-    rw (c.rotr.ensures, c.rotr-2.ensures, c.rotr-3.ensures)
+unfolding Σ₀ rotr
+returns c = rw (c.rotate_right.ensures, c.rotate_right-2.ensures, c.rotate_right-3.ensures)

@@ -1,7 +1,7 @@
--- The definition, call by call.
-use Rattle.sha256_block.specs.Compression.{σ₀, shr}
+-- The definition, rotation by rotation.
+use Rattle.sha256_block.specs.Compression.{σ₀, rotr, shr}
 use Rattle.sha256_block.proofs.word.small_sigma0.Goals as goal
 
 pub returns : goal.returns
-unfolding σ₀ shr
-returns c = rw (c.rotr.ensures, c.rotr-2.ensures)
+unfolding σ₀ rotr shr
+returns c = rw (c.rotate_right.ensures, c.rotate_right-2.ensures)
