@@ -20,7 +20,8 @@ use Rattle.block.specs.Block.{Block, is_data, is_ordinary, block_in, block_at}
 use Rattle.payload.specs.Answers.{counted}
 use Rattle.block.specs.declared.Tallied.{Tallied}
 use Rattle.block.specs.Answers.{tallied}
-use Rattle.framing.proofs.FrameLaws.{Framed, frame⇒Framed, sound_frame⁻¹}
+use Rattle.outcome.proofs.ResultLaws.{fault_on}
+use Rattle.framing.proofs.FrameLaws.{Framed, frame⇒Framed, sound_frame⁻¹, frame_bounds, frame_start}
 
 -- ---- levels
 
@@ -187,3 +188,7 @@ block_framed file at f o e h = h ∙ ap tallied (sym (bind_answer (sound_frame_a
 pub block_unframed : (file : List ℕ) (at number place : ℕ) → sound_frame_at file at ≡ refused number place → tallied (block_at file at) ≡ refused number place
 unfolding block_at tallied
 block_unframed file at number place e = bind_refused _ _ number place (bind_refused (sound_frame_at file at) (block_in file) number place e)
+
+-- ---- what the proofs of the code take
+
+pub ruleset block_rules = (frame_bounds, frame_start, block_framed, block_unframed, fault_on)

@@ -11,6 +11,7 @@ use outcome::{Fault, Refusal};
 use payload::{entries_at, records_at};
 
 // The block at an offset, with every test of one block (10 to 16, 21).
+#[tactic(auto, unfolding(outcome::specs::Fault::said_at), using(crate::proofs::BlockLaws::block_rules))]
 pub fn block_at(file: &[u8], at: usize) -> Result<Tallied, Fault>
     ensures { said_at at result ≡ answers.tallied (blocks.block_at file.now at) }
 {

@@ -96,3 +96,6 @@ module _ (s : List ℕ) (value scale n : ℕ) (p : Passed s value scale n) where
 
   pub passed_cut : length s ≤ n → reading s ≡ cut_off
   passed_cut end = reading-cut s n (omega arith) end (passed_all s n end p.high)
+
+-- what the proof of `read_number` takes
+pub ruleset passed_rules = (passed_start, passed_value, passed_wide, passed_cut)

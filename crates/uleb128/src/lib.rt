@@ -24,6 +24,7 @@ pub enum NumberFault {
 }
 
 // The number at the front of the part, which may end anywhere.
+#[tactic(auto, unfolding(crate::specs::Number::reading_said), using(crate::proofs::PassedLaws::passed_rules))]
 pub fn read_number(part: &[u8]) -> Result<Number, NumberFault>
     ensures { reading_said result ≡ reading part.now }
 {
