@@ -2,11 +2,9 @@
 // src/ has the values they must give: published ones, and eight CRCs made with liblzma (docs/DECISIONS.md).
 #![tactic(auto)]
 
-ghost use Rattle.std.specs.Prelude.{◌≡◌, min};
-
 use std::io;
 use std::io::{BufWriter, Write};
-use uleb128::Number;
+use uleb128::NumberFault;
 
 fn main(rt: HostRuntime) -> io::Result<()> {
     let mut out = BufWriter::new(rt.alloc(), io::writer(&rt))?;
@@ -83,22 +81,15 @@ fn in_pieces(buffer: &[u8], total: usize) -> [u8; 32] {
     let mut left = total;
     let mut size: usize = 1;
     while 0 < left {
-        let n = least(least(size, left), buffer.len());
+        let n = size.min(left).min(buffer.len());
         if n == 0 {
             break;
         }
-        let next = sha256::absorb(state, &buffer[..n]);
-        state = next;
+        state = sha256::absorb(state, &buffer[..n]);
         left -= n;
         size = size * 5 % 65521 + 1;
     }
     sha256::finish(state)
-}
-
-fn least(a: usize, b: usize) -> usize
-    ensures { result ≡ min a b }
-{
-    if a < b { a } else { b }
 }
 
 // uleb128: the examples of the format's document and those of its limits, valid and refused.
@@ -120,9 +111,9 @@ fn number_line(out: &mut impl Write, bytes: &[u8]) -> io::Result<()> {
     write!(out, "uleb128 ")?;
     hex_bytes(out, bytes)?;
     match uleb128::read_number(bytes) {
-        Number::Value { value, used } => writeln!(out, ": value {value}, bytes {used}"),
-        Number::CutOff => writeln!(out, ": cut off"),
-        Number::TooWide => writeln!(out, ": refused 11"),
-        Number::NotShortest => writeln!(out, ": refused 12"),
+        Ok(number) => writeln!(out, ": value {}, bytes {}", number.value, number.used),
+        Err(NumberFault::CutOff) => writeln!(out, ": cut off"),
+        Err(NumberFault::TooWide) => writeln!(out, ": refused 11"),
+        Err(NumberFault::NotShortest) => writeln!(out, ": refused 12"),
     }
 }
