@@ -27,7 +27,7 @@ pub fn string(stored: &[u8]) -> Option<(&[u8], &[u8])>
 }
 
 // The case in front, and what follows it, unless the bytes end within it.
-pub fn case(stored: &[u8]) -> Option<(Case<'_>, &[u8])>
+pub fn next_case(stored: &[u8]) -> Option<(Case<'_>, &[u8])>
     ensures { IfSome result (λ r. length r.1.now < length stored.now) }
 {
     let (name, rest) = string(stored)?;

@@ -19,7 +19,7 @@ mod steps;
 mod store_part;
 mod write;
 
-use cases::{Case, case};
+use cases::{Case, next_case};
 use std::fs::File;
 use std::io;
 use std::io::{BufWriter, Read, Write};
@@ -142,7 +142,7 @@ fn run_all(
 ) -> io::Result<()> {
     let mut rest = stored;
     while !rest.is_empty() {
-        let Some((next, after)) = case(rest) else {
+        let Some((next, after)) = next_case(rest) else {
             let at = stored.len() - rest.len();
             return writeln!(out, "cut case at {at}");
         };

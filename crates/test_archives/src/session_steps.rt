@@ -1,7 +1,7 @@
 // Call 10: the steps of a session. The file of the case holds them.
 use crate::lent::{RUBBISH_BYTE, room};
 use crate::print;
-use crate::steps::{Step, step};
+use crate::steps::{Step, next_step};
 use session_value::{Session, Stepped};
 use std::io;
 use std::io::Write;
@@ -110,7 +110,7 @@ fn run_all(out: &mut impl Write, stored: &[u8], name: &[u8], output: &mut [u8]) 
     let mut rest = stored;
     while !rest.is_empty() {
         let at = stored.len() - rest.len();
-        let Some((next, after)) = step(rest) else {
+        let Some((next, after)) = next_step(rest) else {
             return writeln!(out, "cut step at {at}");
         };
         session = lend_step(out, name, at, next, session, places, output)?;

@@ -16,7 +16,7 @@ pub struct Step<'a> {
 const FIXED: usize = 19;
 
 // The step in front, and what follows it, unless the bytes end within it.
-pub fn step(stored: &[u8]) -> Option<(Step<'_>, &[u8])>
+pub fn next_step(stored: &[u8]) -> Option<(Step<'_>, &[u8])>
     ensures { IfSome result (λ r. length r.1.now < length stored.now) }
 {
     let (fixed, rest) = stored.split_at_checked(FIXED)?;
