@@ -18,7 +18,7 @@ const REST: usize = 14;
 const MAX_NUMBER: u8 = 11;
 
 // Whether every byte is FF.
-pub fn is_filled(s: &[u8]) -> bool
+fn is_filled(s: &[u8]) -> bool
     ensures { result ≡ is_filled s.now }
 {
     s.iter().all(|b| *b == 255)
