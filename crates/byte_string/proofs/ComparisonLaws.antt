@@ -2,17 +2,24 @@
 -- Assumes nothing.
 use Prim.Native.Nat.{ℕ}
 use mathlib.Core.Path.{◌≡◌, refl, sym, ap, ◌∙◌}
-use mathlib.Core.Bool.{true}
+use mathlib.Core.Bool.{true, not, ◌&&◌}
 use mathlib.Core.List.{List}
 use lib.Dec.{leb}
+use lib.IntN.{pos}
 use lib.ListN.{length}
+use lib.Signed.{lt_z, le_z}
 use Rattle.std.proofs.Common.{Ordering, Less, Equal, Greater}
-use Rattle.std.specs.Ordering.{is_eq}
+use Rattle.std.specs.Ordering.{is_lt, is_le}
 use Rattle.byte_string.specs.declared.Comparison.{Comparison}
-use Rattle.byte_string.specs.Order.{order, less, at_most, begins, agreeing}
+use Rattle.byte_string.specs.Order.{order, signed, less, at_most, begins, agreeing}
 use Rattle.byte_string.specs.Order.{comparison, says_less, says_at_most, says_equal, says_begins}
 use Rattle.byte_string.proofs.OrderLaws.{order_refl, order_eq}
 use Rattle.byte_string.proofs.AgreeingLaws.{agreeing_comm, begins-agreeing}
+
+-- with n the place at which x and y part, and o how they compare
+pub comparison_of_lem : (x y : List ℕ) (n : ℕ) (o : Ordering) → n ≡ agreeing x y → order x y ≡ o → record { sign = signed o; agreeing = n } ≡ comparison x y
+unfolding comparison
+comparison_of_lem x y n o e f = rw (e, f)
 
 -- What a comparison c of x with y says.
 
@@ -22,25 +29,35 @@ module _ (x y : List ℕ) (c : Comparison) (e : c ≡ comparison x y) where
   compared_agreeing = rw e
 
   pub compared_less : says_less c ≡ less x y
-  unfolding says_less comparison less
-  compared_less = rw e
+  unfolding says_less comparison signed less
+  compared_less = rw e (go (order x y))
+    where
+      go : (o : Ordering) → lt_z (signed o) (pos 0) ≡ is_lt o
+      go Less = refl
+      go Equal = refl
+      go Greater = refl
 
   pub compared_at_most : says_at_most c ≡ at_most x y
-  unfolding says_at_most comparison at_most
-  compared_at_most = rw e
+  unfolding says_at_most comparison signed at_most
+  compared_at_most = rw e (go (order x y))
+    where
+      go : (o : Ordering) → le_z (signed o) (pos 0) ≡ is_le o
+      go Less = refl
+      go Equal = refl
+      go Greater = refl
 
   -- equal exactly if x is y
   pub compared_equal : says_equal c ≡ true → x ≡ y
-  unfolding says_equal comparison
+  unfolding says_equal says_less says_at_most comparison signed
   compared_equal h = order_eq x y (go (order x y) (rw e at h))
     where
-      go : (o : Ordering) → is_eq o ≡ true → o ≡ Equal
+      go : (o : Ordering) → (le_z (signed o) (pos 0) && not (lt_z (signed o) (pos 0))) ≡ true → o ≡ Equal
       go Less f = cc
       go Equal f = refl
       go Greater f = cc
 
   pub compared_same : x ≡ y → says_equal c ≡ true
-  unfolding says_equal comparison
+  unfolding says_equal says_less says_at_most comparison signed
   compared_same s = rw (e, s, order_refl y)
 
   -- y begins with x

@@ -11,8 +11,8 @@ use std::cmp::Ordering;
 // A byte string x compared with another, y.
 #[derive(Clone, Copy)]
 pub struct Comparison {
-    // `Less` where x comes before y.
-    pub sign: Ordering,
+    // Minus one where x comes before y, zero where they are equal, plus one where x comes after y.
+    pub sign: i8,
     // How many leading bytes agree.
     pub agreeing: usize,
 }
@@ -23,7 +23,7 @@ impl Comparison {
     pub fn less(self) -> bool
         ensures { result ≡ says_less self }
     {
-        self.sign.is_lt()
+        self.sign < 0
     }
 
     // Whether x comes before y or equals it.
@@ -31,15 +31,14 @@ impl Comparison {
     pub fn at_most(self) -> bool
         ensures { result ≡ says_at_most self }
     {
-        self.sign.is_le()
+        self.sign <= 0
     }
 
     // Whether x equals y.
-    #[tactic(auto, unfolding(crate::specs::Order::says_equal))]
     pub fn equal(self) -> bool
         ensures { result ≡ says_equal self }
     {
-        self.sign.is_eq()
+        self.sign == 0
     }
 
     // Whether y begins with x, given how many bytes x has. Given how many y has, whether x begins with y.
@@ -103,8 +102,10 @@ pub fn compare(x: &[u8], y: &[u8]) -> Comparison
     ensures { result ≡ comparison x.now y.now }
 {
     let agreeing = agreement(x, y);
-    Comparison {
-        sign: x.get(agreeing).cmp(&y.get(agreeing)),
-        agreeing,
-    }
+    let sign = match x.get(agreeing).cmp(&y.get(agreeing)) {
+        Ordering::Less => -1,
+        Ordering::Equal => 0,
+        Ordering::Greater => 1,
+    };
+    Comparison { sign, agreeing }
 }

@@ -1,9 +1,8 @@
 -- The examples P1 to P14 of docs/FORMAT.md as one table: a question, and its answer.
-use Rattle.std.specs.Prelude.{ℕ, ◌-◌, ◌^◌, List, [], ◌∷◌, map, ◌≡◌, Bool, true, false, ℤ, pos, negsuc}
+use Rattle.std.specs.Prelude.{ℕ, ◌-◌, ◌^◌, List, [], ◌∷◌, map, ◌≡◌, Bool, true, false, pos, negsuc}
 use Rattle.std.proofs.Math.Option.{Option, none, some}
-use Rattle.std.specs.declared.cmp.Ordering.{Ordering}
-use Rattle.std.specs.declared.cmp.Ordering.TheVariants.{Less, Equal, Greater}
 use Rattle.uleb128.specs.Number.{Reading, number, refused, reading}
+use Rattle.byte_string.specs.declared.Comparison.{Comparison}
 use Rattle.byte_string.specs.Order.{comparison}
 use Rattle.query.specs.Query.{Query}
 use Rattle.query.specs.Opening.{may_match}
@@ -16,22 +15,15 @@ pub data Question : Type 0 where
   -- whether a block with this lower bound and this upper bound, or none, is opened for a query
   opening_of : List ℕ → Option (List ℕ) → Query → Question
 
--- an ordering as a signed answer: minus one, zero or plus one
-unfoldable pub signed : Ordering → ℤ
-signed Less = negsuc 0
-signed Equal = pos 0
-signed Greater = pos 1
-
 pub data Answer : Type 0 where
   is_number : Reading → Answer
-  -- the sign, and how many leading bytes agree
-  is_comparison : ℤ → ℕ → Answer
+  is_comparison : Comparison → Answer
   is_opened : Bool → Answer
 
 -- what the definitions answer
 unfoldable pub answered : Question → Answer
 answered (number_of s) = is_number (reading s)
-answered (comparison_of x y) = is_comparison (signed (comparison x y).sign) (comparison x y).agreeing
+answered (comparison_of x y) = is_comparison (comparison x y)
 answered (opening_of lower upper q) = is_opened (may_match lower upper q)
 
 pub record Example : Type 0 where
@@ -53,9 +45,9 @@ table =
     ∷ (number_of (0x80 ∷ 0x00 ∷ []) gives is_number (refused 12))
     ∷ (number_of (0xff ∷ 0xff ∷ 0xff ∷ 0xff ∷ 0xff ∷ 0xff ∷ 0xff ∷ 0xff ∷ 0xff ∷ []) gives is_number (refused 11))
     -- P8 to P10: comparison, the sign and how many leading bytes agree
-    ∷ (comparison_of [] (0x00 ∷ []) gives is_comparison (negsuc 0) 0)
-    ∷ (comparison_of (0x61 ∷ []) (0x61 ∷ 0x00 ∷ []) gives is_comparison (negsuc 0) 1)
-    ∷ (comparison_of (0x80 ∷ []) (0x7f ∷ []) gives is_comparison (pos 1) 0)
+    ∷ (comparison_of [] (0x00 ∷ []) gives is_comparison (record { sign = negsuc 0; agreeing = 0 }))
+    ∷ (comparison_of (0x61 ∷ []) (0x61 ∷ 0x00 ∷ []) gives is_comparison (record { sign = negsuc 0; agreeing = 1 }))
+    ∷ (comparison_of (0x80 ∷ []) (0x7f ∷ []) gives is_comparison (record { sign = pos 1; agreeing = 0 }))
     -- P11 to P14: opening
     ∷ (opening_of (0x61 ∷ []) (some (0x62 ∷ [])) (record { start = 0x62 ∷ []; stop = none; prefix = [] }) gives is_opened true)
     ∷ (opening_of (0x63 ∷ []) none (record { start = []; stop = some (0x63 ∷ []); prefix = [] }) gives is_opened false)
