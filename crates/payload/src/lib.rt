@@ -2,8 +2,8 @@
 // are those of the file.
 #![tactic(auto)]
 
-ghost use Rattle.std.specs.Prelude.{ℕ, ◌+◌, ◌≤◌, ◌≡◌, List, length};
-ghost use Rattle.byte_string.specs.Order.{comparison};
+ghost use Rattle.std.specs.Prelude.{ℕ, ◌+◌, ◌≤◌, ◌≡◌, ◌&&◌, List, length};
+ghost use Rattle.byte_string.specs.Order.{at_most, comparison};
 ghost use Rattle.outcome.specs.Fault.{number, said_at};
 ghost use Rattle.outcome.specs.Outcome.{Outcome};
 ghost use Rattle.outcome.specs.declared.Fault.TheVariants.{RecordOrder, KeyOrder};
@@ -83,6 +83,15 @@ pub fn compare_parts(s: &[u8], x: Part, y: Part) -> Comparison
     byte_string::compare(x.of(s), y.of(s))
 }
 
+// Whether the byte strings rise up to here: they did so far, and the last one is at most the next.
+#[tactic(auto, using(byte_string::proofs::ComparisonLaws::compared))]
+fn still_rising(s: &[u8], rising: bool, last: Part, next: Part) -> bool
+    requires { (last.offset + last.length ≤ length s.now) × (next.offset + next.length ≤ length s.now) }
+    ensures { result ≡ (rising && at_most (part s.now last.offset last.length) (part s.now next.offset next.length)) }
+{
+    rising && compare_parts(s, last, next).at_most()
+}
+
 // What fills a payload: records, or entries.
 trait Item {
     // What an item is, the one at an offset, and its byte string, by which items rise.
@@ -157,12 +166,14 @@ fn items_at<T: Item>(s: &[u8], from: usize) -> Result<usize, Fault>
     let mut at = from;
     let mut count: usize = 0;
     let mut rising = true;
-    let mut last: &[u8] = &[];
+    let mut last = Part {
+        offset: from,
+        length: 0,
+    };
     while at < s.len() {
         let next = T::read(s, at)?;
-        let text = next.item.of(s);
-        rising &= byte_string::compare(last, text).at_most();
-        last = text;
+        rising = still_rising(s, rising, last, next.item);
+        last = next.item;
         at = next.next;
         count += 1;
     }

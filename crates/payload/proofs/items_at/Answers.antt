@@ -1,9 +1,8 @@
-use mathlib.Core.Path.{sym, ap, ◌∙◌}
-use mathlib.Core.Bool.{Bool, ◌&&◌}
+use mathlib.Core.Path.{sym, ◌∙◌}
 use native.Mathlib.Omega.{arith}
-use Rattle.byte_string.proofs.ComparisonLaws.{compared_at_most}
 use Rattle.outcome.proofs.ResultLaws.{fault_on}
 use Rattle.outcome.specs.Fault.{said_at, number}
+use Rattle.part.specs.Part.{part}
 use Rattle.payload.specs.Answers.{ItemRead}
 use Rattle.payload.proofs.ScanLaws.{scanned_start, scanned_more, scanned_empty, scanned_refused, scanned_unsorted, scanned_sound}
 use Rattle.payload.proofs.items_at.Goals as goal
@@ -13,18 +12,19 @@ unfolding said_at number
 returns-then-s-from g c place = sym (scanned_empty g.T.Item.step_at g.T.Item.text_of c.args.s.now c.args.from _ c.if-s-from.true place)
 
 pub loop-at-init : goal.loop-at-init
-loop-at-init g c = scanned_start g.T.Item.step_at g.T.Item.text_of c.args.s.now c.args.from (omega arith)
+unfolding part
+loop-at-init g c = (omega arith, scanned_start g.T.Item.step_at g.T.Item.text_of c.args.s.now c.args.from (omega arith))
 
 pub returns-in_err-next : goal.returns-in_err-next
 unfolding ItemRead
 returns-in_err-next g c place =
     fault_on place _ _ c.from_residual.ensures.1
-    ∙ sym (scanned_refused g.T.Item.step_at g.T.Item.text_of c.args.s.now c.args.from _ _ _ _ _ c.if-s-from.false c.loop-at.invariant
+    ∙ sym (scanned_refused g.T.Item.step_at g.T.Item.text_of c.args.s.now c.args.from _ _ _ _ _ c.if-s-from.false c.loop-at.invariant.1
     c.loop-at-test.true _ place (c.in_err-next.ensures place))
 
-pub of-text-requires : goal.of-text-requires
+pub still_rising-rising-requires : goal.still_rising-rising-requires
 unfolding ItemRead
-of-text-requires g c = c.in_ok-next.ensures.inside
+still_rising-rising-requires g c = (c.loop-at.invariant.0, c.in_ok-next.ensures.inside)
 
 pub overflow_add-count : goal.overflow_add-count
 overflow_add-count g c = omega (arith, c.well_formed)
@@ -37,19 +37,19 @@ pub loop-at-preserved : goal.loop-at-preserved
 unfolding ItemRead
 loop-at-preserved g c =
     let i = c.in_ok-next.ensures in
-    scanned_more g.T.Item.step_at g.T.Item.text_of c.args.s.now c.args.from _ _ _ _ c.loop-at.invariant c.loop-at-test.true i.item _ _
-    i.read (i.bytes ∙ sym c.of-text.ensures.result_value) i.forward i.within _
-    (ap (λ (b : Bool). c.loop-at.rising && b) (c.at_most-rising.ensures ∙ compared_at_most _ _ _ c.compare.ensures))
+    (i.inside,
+    scanned_more g.T.Item.step_at g.T.Item.text_of c.args.s.now c.args.from _ _ _ _ c.loop-at.invariant.1 c.loop-at-test.true i.item _ _
+    i.read i.bytes i.forward i.within _ c.still_rising-rising.ensures)
 
 pub returns-then-rising : goal.returns-then-rising
 unfolding said_at
 returns-then-rising g c place =
-    sym (scanned_sound g.T.Item.step_at g.T.Item.text_of c.args.s.now c.args.from _ _ _ _ _ c.if-s-from.false c.loop-at.invariant
+    sym (scanned_sound g.T.Item.step_at g.T.Item.text_of c.args.s.now c.args.from _ _ _ _ _ c.if-s-from.false c.loop-at.invariant.1
     c.loop-at-test.false c.if-rising.true place)
 
 pub returns-else-rising : goal.returns-else-rising
 unfolding said_at
 returns-else-rising g c place =
     rw c.UNSORTED.ensures
-    (sym (scanned_unsorted g.T.Item.step_at g.T.Item.text_of c.args.s.now c.args.from _ _ _ _ _ c.if-s-from.false c.loop-at.invariant
+    (sym (scanned_unsorted g.T.Item.step_at g.T.Item.text_of c.args.s.now c.args.from _ _ _ _ _ c.if-s-from.false c.loop-at.invariant.1
     c.loop-at-test.false c.if-rising.false place))
