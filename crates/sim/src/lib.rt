@@ -12,13 +12,13 @@ use outcome::Fault;
 use std::cmp::Ordering;
 
 // How many bytes follow the name field.
-const REST: usize = 14;
+pub const REST: usize = 14;
 
 // The most that their first, the length of the number, may be.
 const MAX_NUMBER: u8 = 11;
 
 // Whether every byte is FF.
-fn is_filled(s: &[u8]) -> bool
+pub fn is_filled(s: &[u8]) -> bool
     ensures { result ≡ is_filled s.now }
 {
     s.iter().all(|b| *b == 255)
@@ -86,6 +86,13 @@ fn is_name(field: &[u8]) -> bool
     length <= field.len() && is_filled(&field[length..])
 }
 
+// What follows the name field of x bytes.
+pub fn rest(adn: &[u8], x: u8) -> &[u8]
+    ensures { result.now ≡ drop x adn.now }
+{
+    behind(adn, x as usize)
+}
+
 // A record: its name field, and what follows it.
 #[derive(Clone, Copy)]
 pub struct Adn<'a> {
@@ -149,7 +156,7 @@ impl<'a> Dump<'a> {
         let bytes = front(behind(self.bytes, at as usize), self.width());
         Adn {
             field: front(bytes, self.name_length as usize),
-            rest: behind(bytes, self.name_length as usize),
+            rest: rest(bytes, self.name_length),
         }
     }
 
@@ -164,6 +171,7 @@ impl<'a> Dump<'a> {
         let y = t.name();
         let n = x.len().min(y.len());
         match x[..n].cmp(&y[..n]) {
+            Ordering::Equal if x.len() == y.len() => s.rest.cmp(t.rest).is_le(),
             Ordering::Equal => x[n..]
                 .iter()
                 .chain(s.rest)
