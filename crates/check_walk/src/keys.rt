@@ -6,7 +6,7 @@ ghost use Rattle.check_walk.specs.Keys as defs;
 
 use crate::lookup::payload_at;
 use part::Part;
-use payload::{entry_at, text_at};
+use payload::{compare_parts, entry_at, text_at};
 
 // The first of some records, and the last one met: the last of them, or, where there are none, one before. No bytes before any was met.
 #[derive(Clone, Copy)]
@@ -98,7 +98,7 @@ fn part_at_most(file: &[u8], x: Part, y: Part) -> bool
     requires { (x.offset + x.length ≤ length file.now) × (y.offset + y.length ≤ length file.now) }
     ensures { result ≡ at_most (bytes_in file.now x) (bytes_in file.now y) }
 {
-    byte_string::compare(x.of(file), y.of(file)).at_most()
+    compare_parts(file, x, y).at_most()
 }
 
 // A data block: it is out of order where its first record is below the last one before.
