@@ -93,12 +93,17 @@ module _ (file : List ℕ) (q : Query) (room : ℕ) (h : Header) where
     read_is : (o : Outcome (List Text)) → read_blocks file q room h ≡ o → read_of file q room ≡ o
     read_is o e = header_accepts known ∙ e
 
+    pub survey_refuses : (number place : ℕ) → survey_of file (blocks_from h) h.root h.rootsize ≡ refused number place
+        → read_of file q room ≡ refused number place
+    unfolding survey_of
+    survey_refuses number place e =
+        let blocks = map_refused⁻¹ (blocks_at file (blocks_from h)) (surveyed h.root h.rootsize) number place e in
+        read_is (refused number place) (blocks_refused number place blocks)
+
     pub read_refused : (number place : ℕ) → survey_of file (blocks_from h) h.root h.rootsize ≡ refused number place
         → refused number place ≡ counted (read_of file q room)
-    unfolding survey_of counted
-    read_refused number place e =
-        let blocks = map_refused⁻¹ (blocks_at file (blocks_from h)) (surveyed h.root h.rootsize) number place e in
-        sym (bind_refused (read_of file q room) _ number place (read_is (refused number place) (blocks_refused number place blocks)))
+    unfolding counted
+    read_refused number place e = sym (bind_refused (read_of file q room) _ number place (survey_refuses number place e))
 
     -- the block stage accepts: which blocks there are
     accepted : (s : Survey) → survey_of file (blocks_from h) h.root h.rootsize ≡ answer s → (bs : List Block) × (blocks_at file (blocks_from h) ≡ answer bs)
@@ -124,7 +129,7 @@ module _ (file : List ℕ) (q : Query) (room : ℕ) (h : Header) where
           omega arith
 
       -- the list is as long as before
-      same_room : length list ≡ room
+      pub same_room : length list ≡ room
       same_room = ap (λ (t : Stored). length t.list) is ∙ length_put_all (record { count = 0; list = first }) _ ∙ ap length cleared ∙ length-zeros room
 
       -- the test of the code is the definition's
@@ -133,13 +138,18 @@ module _ (file : List ℕ) (q : Query) (room : ℕ) (h : Header) where
       same_test bs e = ap₂ (λ (n k : ℕ). leb (room_for n) k) (sym (all_counted bs e)) (sym same_room)
 
       -- more matches than the list has room for
+      pub room_refuses : leb (room_for found) (length list) ≡ false → read_of file q room ≡ refused 27 0
+      room_refuses many =
+          let all = accepted s sound in
+          read_is (refused 27 0) (blocks_overflow all.0 all.1 (leb-false _ room (same_test all.0 all.1 ∙ many)))
+
       pub read_overflow : leb (room_for found) (length list) ≡ false → refused 27 0 ≡ counted (read_of file q room)
       unfolding counted
-      read_overflow many =
-          let all = accepted s sound in
-          sym
-          (bind_refused (read_of file q room) _ 27 0
-          (read_is (refused 27 0) (blocks_overflow all.0 all.1 (leb-false _ room (same_test all.0 all.1 ∙ many)))))
+      read_overflow many = sym (bind_refused (read_of file q room) _ 27 0 (room_refuses many))
+
+      -- and then it holds zeros, once it is cleared
+      pub overflow_list : leb (room_for found) (length list) ≡ false → zeros (length list) ≡ read_list room (read_of file q room)
+      overflow_list many = ap zeros same_room ∙ sym (list_of_refusal room (read_of file q room) 27 0 (room_refuses many))
 
       -- there is room for every match
       pub read_fit : leb (room_for found) (length list) ≡ true

@@ -1,7 +1,7 @@
 // Reading a file front to back under a query.
 #![tactic(auto)]
 
-ghost use Rattle.std.specs.Prelude.{◌≡◌, OnOk, length};
+ghost use Rattle.std.specs.Prelude.{◌≡◌, length};
 ghost use Rattle.output_list.specs.OutputList.{zeros};
 ghost use Rattle.outcome.specs.Fault.{said};
 ghost use Rattle.query.specs.Asked.{asked};
@@ -50,24 +50,21 @@ pub fn read(file: &[u8], query: Query<'_>, results: &mut [u64]) -> ReadAnswer
             place: 0,
             matches: found as u64,
         },
-        Err(refusal) => {
-            output_list::clear(results);
-            refusal.into()
-        },
+        Err(refusal) => refusal.into(),
     }
 }
 
-// Reads onto a list of zeros; answers how many records match. After a refusal the list holds anything.
+// Reads onto a list of zeros; answers how many records match. After a refusal the list has zeros again.
 fn read_file(file: &[u8], query: Query<'_>, results: &mut [u64]) -> Result<usize, Refusal>
     requires { results.old ≡ zeros (length results.old) }
     ensures value { said result ≡ counted (read_of file.now (asked query.entry) (length results.old)) }
-    ensures results_after { OnOk result (results.new ≡ read_list (length results.old)
-        (read_of file.now (asked query.entry) (length results.old))) }
+    ensures results_after { results.new ≡ read_list (length results.old) (read_of file.now (asked query.entry) (length results.old)) }
 {
     let header = Header::read(file)?;
     survey(file, header.blocks, header.root, header.rootsize)?;
     let found = collect(file, header.blocks, query, results);
     if !has_room(results, found) {
+        output_list::clear(results);
         return Err(Fault::ResultRoom.into());
     }
     Ok(found)

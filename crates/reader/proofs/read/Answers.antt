@@ -1,11 +1,9 @@
--- `read` meets its contract: over a list that was cleared, and that is cleared again after a refusal. Assumes nothing.
+-- `read` meets its contract: over a list that was cleared. Assumes nothing.
 use mathlib.Core.Path.{ap, ◌∙◌}
 use Prim.Native.Nat.{ℕ}
-use lib.ListN.{length}
-use Rattle.output_list.specs.OutputList.{zeros}
 use Rattle.outcome.specs.Fault.{said}
 use Rattle.query.specs.Asked.{asked}
-use Rattle.reader.specs.Read.{read_of, read_answer, read_list, counted}
+use Rattle.reader.specs.Read.{read_of, read_answer, read_list}
 use Rattle.reader.proofs.ReadLaws.{told_count, told_refusal, still_zeros, still_long}
 use Rattle.reader.proofs.read.Goals as goal
 
@@ -31,9 +29,6 @@ returns-in-Err-clause-value c =
     ∙ ap (λ (n : ℕ). read_answer (read_of c.args.file.now (asked c.args.query) n)) (still_long c.args.results.now _ c.clear.ensures)
 
 pub returns-in-Err-clause-results_after : goal.returns-in-Err-clause-results_after
-unfolding said
 returns-in-Err-clause-results_after c =
-    c.clear-in-Err.ensures
-    ∙ ap zeros (c.read_file.auto.results ∙ still_long c.args.results.now _ c.clear.ensures)
-    ∙ (told_refusal (length c.args.results.now) _ _ (c.in-Err.ensures.value
-    ∙ ap (λ (n : ℕ). counted (read_of c.args.file.now (asked c.args.query) n)) (still_long c.args.results.now _ c.clear.ensures))).1
+    c.in-Err.ensures.results_after
+    ∙ ap (λ (n : ℕ). read_list n (read_of c.args.file.now (asked c.args.query) n)) (still_long c.args.results.now _ c.clear.ensures)

@@ -5,7 +5,7 @@ use Rattle.header.specs.Header.{blocks_from}
 use Rattle.header.proofs.HeaderLaws.{is_header}
 use Rattle.query.specs.Asked.{asked}
 use Rattle.outcome.proofs.ResultLaws.{refusal_on, front_on}
-use Rattle.reader.proofs.ReadLaws.{header_stops, read_refused, read_overflow, read_fit}
+use Rattle.reader.proofs.ReadLaws.{header_refuses, header_stops, survey_refuses, read_refused, read_overflow, overflow_list, read_fit, list_of_refusal}
 use Rattle.reader.proofs.read_file.Goals as goal
 
 pub returns-in_err-header-clause-value : goal.returns-in_err-header-clause-value
@@ -13,11 +13,23 @@ unfolding said_at
 returns-in_err-header-clause-value c =
     front_on _ _ c.from_residual.ensures.1 ∙ header_stops c.args.file.now (asked c.args.query) _ _ _ (sym c.in_err-header.ensures)
 
+pub returns-in_err-header-clause-results_after : goal.returns-in_err-header-clause-results_after
+unfolding said_at
+returns-in_err-header-clause-results_after c =
+    c.requires ∙ sym (list_of_refusal _ _ _ _ (header_refuses c.args.file.now (asked c.args.query) _ _ _ (sym c.in_err-header.ensures)))
+
 pub returns-in_err-survey-clause-value : goal.returns-in_err-survey-clause-value
 unfolding said said_at blocks_from
 returns-in_err-survey-clause-value c =
     refusal_on _ _ c.from_residual-in_err-survey.ensures.1
     ∙ read_refused c.args.file.now (asked c.args.query) _ _ (sym c.in_ok-header.ensures) _ _ (sym c.in_err-survey.ensures)
+
+pub returns-in_err-survey-clause-results_after : goal.returns-in_err-survey-clause-results_after
+unfolding said said_at blocks_from
+returns-in_err-survey-clause-results_after c =
+    c.requires
+    ∙ sym (list_of_refusal _ _ _ _
+    (survey_refuses c.args.file.now (asked c.args.query) _ _ (sym c.in_ok-header.ensures) _ _ (sym c.in_err-survey.ensures)))
 
 pub collect-found-requires : goal.collect-found-requires
 unfolding said_at
@@ -28,6 +40,13 @@ unfolding number said said_at at_front blocks_from
 returns-then-not-has_room-clause-value c =
     rw c.into.ensures (read_overflow c.args.file.now (asked c.args.query) _ _ (sym c.in_ok-header.ensures) c.args.results.now c.requires _ _
     c.collect-found.ensures _ (sym c.in_ok-survey.ensures) (sym c.has_room.ensures ∙ c.if-not-has_room.true))
+
+pub returns-then-not-has_room-clause-results_after : goal.returns-then-not-has_room-clause-results_after
+unfolding said said_at blocks_from
+returns-then-not-has_room-clause-results_after c =
+    c.clear.ensures
+    ∙ overflow_list c.args.file.now (asked c.args.query) _ _ (sym c.in_ok-header.ensures) c.args.results.now c.requires _ _
+    c.collect-found.ensures _ (sym c.in_ok-survey.ensures) (sym c.has_room.ensures ∙ c.if-not-has_room.true)
 
 pub returns-clause-value : goal.returns-clause-value
 unfolding said said_at blocks_from
