@@ -37,7 +37,7 @@ use Rattle.shown.specs.declared.place.Which.TheVariants.{First, Second}
 use Rattle.shown.specs.Which.{number}
 use Rattle.comparer.specs.declared.Refused.{Refused}
 use Rattle.shown.specs.declared.place.Which.{Which}
-use Rattle.comparer.specs.Reported.{number_of_file, refused_as, reported, listed_after, CheckSaid}
+use Rattle.comparer.specs.Reported.{number_of_file, refused_as, reported, CheckSaid}
 use Rattle.comparer.specs.declared.Compared.{Compared}
 use Rattle.comparer.specs.Compare.{listed_in, compare_of, refused_file, sum_in, answered, compare_answer, compare_list}
 use Rattle.output_list.specs.OutputList.{with_numbers}
@@ -185,18 +185,18 @@ module _ (first second : List ℕ) (places room : ℕ) (one two : ℕ) (j : Chec
 module _ (first second : List ℕ) (places : ℕ) (r : Result Compared Refused) (e : Refused) (err : IsErrAnd r (λ x. x ≡ e)) (list : List ℕ) where
   -- of the first file
   pub first_handed : CheckSaid First (Err e) (check_of first places)
-      → (reported r ≡ compare_answer first second places (length list)) × (listed_after r list ≡ compare_list first second places (length list))
-  unfolding CheckSaid reported refused_as listed_after number_of_file number
+      → (reported r ≡ compare_answer first second places (length list)) × (zeros (length list) ≡ compare_list first second places (length list))
+  unfolding CheckSaid reported refused_as number_of_file number
   first_handed (why, file) =
       let p = err_from_is_err_and r err in
       let told = compare_refused_first first second places (length list) e.number e.place why in
-      (rw (p.1, p.2, file) told.0, rw p.1 told.1)
+      (rw (p.1, p.2, file) told.0, told.1)
 
   -- of the second
   pub second_handed : (count : ℕ) → Checks first places count → CheckSaid Second (Err e) (check_of second places)
-      → (reported r ≡ compare_answer first second places (length list)) × (listed_after r list ≡ compare_list first second places (length list))
-  unfolding CheckSaid reported refused_as listed_after number_of_file number
+      → (reported r ≡ compare_answer first second places (length list)) × (zeros (length list) ≡ compare_list first second places (length list))
+  unfolding CheckSaid reported refused_as number_of_file number
   second_handed count j (why, file) =
       let p = err_from_is_err_and r err in
       let told = compare_refused_second first second places (length list) j.blocks j.checked e.number e.place why in
-      (rw (p.1, p.2, file) told.0, rw p.1 told.1)
+      (rw (p.1, p.2, file) told.0, told.1)

@@ -1,6 +1,5 @@
 -- What the results within a comparison say.
 use Rattle.std.specs.Prelude.{ℕ, ◌≡◌, List, length, pos, Option, Some, None, Result, Ok, Err}
-use Rattle.output_list.specs.OutputList.{zeros}
 use Rattle.outcome.specs.Outcome.{Outcome, answer, refused}
 use Rattle.block.specs.Block.{Block}
 use Rattle.block.specs.Survey.{records_of}
@@ -21,11 +20,6 @@ refused_as r = record { number = r.number; place = r.place; which = number_of_fi
 unfoldable pub reported : Result Compared Refused → Compared
 reported (Ok compared) = compared
 reported (Err r) = refused_as r
-
--- the list that is handed back: zeros after a refusal
-unfoldable pub listed_after : Result Compared Refused → List ℕ → List ℕ
-listed_after (Ok compared) list = list
-listed_after (Err r) list = zeros (length list)
 
 -- the check of a file: how many records it has, or its refusal
 unfoldable pub CheckSaid : Which → Result ℕ Refused → Outcome (List Block) → Type 0

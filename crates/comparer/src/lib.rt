@@ -11,7 +11,7 @@ ghost use Rattle.header.specs.declared.Header.{Header};
 ghost use Rattle.header.specs.Header.{header_of, blocks_from};
 ghost use Rattle.checker.specs.Check.{check_of};
 ghost use Rattle.comparer.specs.Compare.{compare_answer, compare_list};
-ghost use Rattle.comparer.specs.Reported.{refused_as, reported, listed_after, CheckSaid};
+ghost use Rattle.comparer.specs.Reported.{refused_as, reported, CheckSaid};
 
 mod merge;
 
@@ -95,7 +95,7 @@ fn check_one(file: &[u8], which: Which, work: &mut [u64]) -> Result<u64, Refused
     }
 }
 
-// Compares two files, with a list of zeros; after a refusal the list holds what it may.
+// Compares two files, with a list of zeros; after a refusal the list has zeros again.
 fn compare_checked(
     first: &[u8],
     second: &[u8],
@@ -105,7 +105,7 @@ fn compare_checked(
     requires { list.old ≡ zeros (length list.old) }
     ensures value { reported result
         ≡ compare_answer first.now second.now (length work.old) (length list.old) }
-    ensures list_after { listed_after result list.new
+    ensures list_after { list.new
         ≡ compare_list first.now second.now (length work.old) (length list.old) }
     ensures work_after { work.new ≡ zeros (length work.old) }
 {
@@ -115,6 +115,7 @@ fn compare_checked(
     let b = Cursor::at_block(blocks_of(second));
     let found = merge(first, a, second, b, list);
     if list.len() / 5 < found {
+        clear(list);
         return Err(Refused {
             number: Fault::DifferenceRoom.number(),
             place: 0,
@@ -132,7 +133,7 @@ fn compare_checked(
 
 // Compares two files. The work list needs a place for each ordinary block of either; it holds zeros afterwards. The list holds five numbers for
 // each difference, then zeros; after a refusal zeros.
-#[tactic(auto, unfolding(crate::specs::Reported::reported, crate::specs::Reported::listed_after))]
+#[tactic(auto, unfolding(crate::specs::Reported::reported))]
 pub fn compare_files(first: &[u8], second: &[u8], work: &mut [u64], list: &mut [u64]) -> Compared
     ensures value { result ≡ compare_answer first.now second.now (length work.old) (length list.old) }
     ensures list_after { list.new
@@ -142,9 +143,6 @@ pub fn compare_files(first: &[u8], second: &[u8], work: &mut [u64], list: &mut [
     clear(list);
     match compare_checked(first, second, work, list) {
         Ok(compared) => compared,
-        Err(refused) => {
-            clear(list);
-            refused.into()
-        },
+        Err(refused) => refused.into(),
     }
 }

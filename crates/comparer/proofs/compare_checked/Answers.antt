@@ -10,7 +10,7 @@ use Rattle.output_list.specs.OutputList.{zeros}
 use Rattle.outcome.specs.Fault.{number}
 use Rattle.block.specs.Survey.{records_of}
 use Rattle.cursor.specs.Cursor.{following}
-use Rattle.comparer.specs.Reported.{refused_as, number_of_file, reported, listed_after}
+use Rattle.comparer.specs.Reported.{refused_as, number_of_file, reported}
 use Rattle.comparer.proofs.CompareLaws.{Checks, checks, follows, compare_few, merged_short, merged-listed, first_handed, second_handed}
 use Rattle.comparer.proofs.compare_checked.Goals.{After-at_block-b}
 use Rattle.comparer.proofs.compare_checked.Goals as goal
@@ -18,13 +18,13 @@ use Rattle.comparer.proofs.compare_checked.Goals as goal
 pub returns-in_err-one : goal.returns-in_err-one
 returns-in_err-one c =
     let told = first_handed c.args.first.now c.args.second.now _ _ _ c.from_residual.ensures.1 c.args.list.now c.in_err-one.ensures.value in
-    record { value = told.0; list_after = told.1; work_after = c.in_err-one.ensures.work_after }
+    record { value = told.0; list_after = c.requires ∙ told.1; work_after = c.in_err-one.ensures.work_after }
 
 pub returns-in_err-two : goal.returns-in_err-two
 returns-in_err-two c =
     let told = second_handed c.args.first.now c.args.second.now (length c.args.work.now) _ _ c.from_residual-in_err-two.ensures.1 c.args.list.now _
     (checks _ _ _ _ c.in_ok-one.ensures.value) (rw c.check_one.auto.work at c.in_err-two.ensures.value) in
-    record { value = told.0; list_after = told.1; work_after = c.in_err-two.ensures.work_after ∙ ap zeros c.check_one.auto.work }
+    record { value = told.0; list_after = c.requires ∙ told.1; work_after = c.in_err-two.ensures.work_after ∙ ap zeros c.check_one.auto.work }
 
 -- Where the merge begins, both files have been checked, and a cursor stands in front of the records of each.
 one : (c : After-at_block-b) → Checks c.args.first.now (length c.args.work.now) c.in_ok-one.one
@@ -45,7 +45,7 @@ merge-found-requires c =
     compare_few _ _ _ (length c.args.list.now) _ _ (one b) (two b) _ _ (one_follows b) (two-follows b)
 
 pub returns-then-list-found : goal.returns-then-list-found
-unfolding reported refused_as number_of_file listed_after number
+unfolding reported refused_as number_of_file number
 returns-then-list-found c =
     let b = (goal.at.returns-then-list-found c).After-at_block-b in
     let short = c.if-list-found.true in
@@ -54,7 +54,7 @@ returns-then-list-found c =
     merged_short _ _ _ (length c.args.list.now) _ _ (one b) (two b) _ _ (one_follows b) (two-follows b) _ c.merge-found.ensures.value (omega arith) in
     record {
       value = rw c.number.ensures told.0;
-      list_after = ap zeros same ∙ told.1;
+      list_after = c.clear.ensures ∙ ap zeros same ∙ told.1;
       work_after = c.in_ok-two.ensures.work_after ∙ ap zeros c.check_one.auto.work;
     }
 
@@ -68,7 +68,7 @@ minus-requires c =
     (omega arith, omega arith)
 
 pub returns : goal.returns
-unfolding reported listed_after
+unfolding reported
 returns c =
     let b = (goal.at.returns c).After-at_block-b in
     let same = c.merge-found.auto.list in
