@@ -13,9 +13,6 @@ use lib.Dec.{leb}
 use lib.ListN.{length, replicate, take, drop, get_or, set, length-append, length-drop, length-set}
 use lib.Seq.{length-take-le, take-append-le, take-take, take_at, drop_at, drop-drop, paste-zero, paste-suc, take-length}
 use borrow.Author.Tests.{le-leb, lt-leb, leb-true, leb-false}
-use borrow.Rule.Slice.PartMut.{put_mid}
-use Rattle.std.proofs.lemmas.Slice.{put_mid-paste}
-use Rattle.std.proofs.lemmas.List.Edits.{paste_all}
 use Rattle.output_list.specs.OutputList.{padded, zeros}
 use Rattle.output_list.proofs.OutputListLaws.{zeros-replicate, padded-append, length-padded, take-padded, drop-padded}
 use Rattle.output_bytes.specs.OutputBytes.{bytes_fit, stored, stored_length, stored_size}
@@ -173,12 +170,8 @@ storing_all old at s output i st l =
 pub put_none : (o : List ℕ) (at : ℕ) (s : List ℕ) → length o < at + length s → (false ≡ bytes_fit o at s) × (o ≡ stored o at s)
 put_none o at s h = (sym (fits_none o at s h), sym (stored_none o at s h))
 
-pub put_all : (o : List ℕ) (at : ℕ) (s new : List ℕ) (n : ℕ) → at + length s ≤ length o → new ≡ s → n ≡ length s
-    → (true ≡ bytes_fit o at s) × (put_mid at n o new ≡ stored o at s)
-put_all o at s new n h e k = (
-  sym (fits_some o at s h),
-  put_mid-paste at n o new s (length s) e (sym k) refl ∙ paste_all o at s (length s) refl ∙ sym (stored_some o at s h),
-)
+pub put_all : (o : List ℕ) (at : ℕ) (s output : List ℕ) (i : ℕ) → Storing o at s output i → length s ≤ i → (true ≡ bytes_fit o at s) × (output ≡ stored o at s)
+put_all o at s output i st l = (sym (fits_some o at s st.enough), storing_all o at s output i st l)
 
 -- ---- how many bytes were stored
 
@@ -201,4 +194,20 @@ stored_size_none o at s e = go (leb (at + length s) (length o)) refl e
   where
     go : (b : Bool) → leb (at + length s) (length o) ≡ b → None ≡ then_some b (length s) → length o < at + length s
     go true t f = cc
+    go false t f = leb-false (at + length s) (length o) t
+
+pub stored_length_some : (o : List ℕ) (at : ℕ) (s : List ℕ) {n : ℕ} → n ≡ stored_length o at s → (n ≡ 0 → ⊥) → (n ≡ length s) × (at + length s ≤ length o)
+unfolding stored_length bytes_fit
+stored_length_some o at s {n} e some = go (leb (at + length s) (length o)) refl e
+  where
+    go : (b : Bool) → leb (at + length s) (length o) ≡ b → n ≡ cond b (length s) 0 → (n ≡ length s) × (at + length s ≤ length o)
+    go true t f = (f, leb-true (at + length s) (length o) t)
+    go false t f = absurd (some f)
+
+pub stored_length_none : (o : List ℕ) (at : ℕ) (s : List ℕ) {n : ℕ} → n ≡ stored_length o at s → n ≡ 0 → 0 < length s → length o < at + length s
+unfolding stored_length bytes_fit
+stored_length_none o at s {n} e none some = go (leb (at + length s) (length o)) refl e
+  where
+    go : (b : Bool) → leb (at + length s) (length o) ≡ b → n ≡ cond b (length s) 0 → length o < at + length s
+    go true t f = absurd (omega arith)
     go false t f = leb-false (at + length s) (length o) t

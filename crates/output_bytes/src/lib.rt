@@ -21,7 +21,9 @@ pub fn put(output: &mut [u8], at: usize, bytes: &[u8]) -> bool
     if output.len() < at || output.len() - at < bytes.len() {
         return false;
     }
-    output[at..at + bytes.len()].copy_from_slice(bytes);
+    for i in 0..bytes.len() {
+        output[at + i] = bytes[i];
+    }
     true
 }
 
@@ -40,6 +42,8 @@ pub fn copy(output: &mut [u8], source: Part, at: usize) -> bool
     if output.len() - at < source.length {
         return false;
     }
-    output.copy_within(source.offset..source.end(), at);
+    for left in (0..source.length).rev() {
+        output[at + left] = output[source.offset + left];
+    }
     true
 }
