@@ -27,6 +27,33 @@ use Rattle.block.specs.declared.Tallied.{Tallied}
 use Rattle.block.specs.Answers.{tallied}
 use Rattle.framing.proofs.FrameLaws.{Framed}
 use Rattle.block.proofs.BlockLaws.{BlockRead, block⇒BlockRead}
+use borrow.Author.Tests.{le-leb, lt-leb, eq-eqb, ne_eqb}
+use lib.Dec.{leb}
+
+-- ---- the root
+
+pub found_before : (found b : Bool) → found ≡ true → true ≡ (found || b)
+found_before found b e = sym (ap (λ (a : Bool). a || b) e)
+
+pub found_here : (found b c : Bool) → found ≡ false → c ≡ b → c ≡ (found || b)
+found_here found b c e h = h ∙ sym (ap (λ (a : Bool). a || b) e)
+
+module _ (root rootsize : ℕ) (f : Frame) where
+  pub root_elsewhere : (f.start ≡ root → ⊥) → false ≡ is_root root rootsize f
+  unfolding is_root
+  root_elsewhere h = rw (ne_eqb f.start root h)
+
+  pub root_other_size : f.start ≡ root → (f.size ≡ rootsize → ⊥) → false ≡ is_root root rootsize f
+  unfolding is_root
+  root_other_size s h = rw (eq-eqb f.start root s, ne_eqb f.size rootsize h)
+
+  pub root_data : f.start ≡ root → f.size ≡ rootsize → f.level < 1 → false ≡ is_root root rootsize f
+  unfolding is_root
+  root_data s z h = rw (eq-eqb f.start root s, eq-eqb f.size rootsize z, lt-leb 1 f.level h)
+
+  pub root_index : f.start ≡ root → f.size ≡ rootsize → 1 ≤ f.level → leb f.level 63 ≡ is_root root rootsize f
+  unfolding is_root is_ordinary
+  root_index s z h = rw (eq-eqb f.start root s, eq-eqb f.size rootsize z, le-leb 1 f.level h)
 
 -- ---- one block more
 

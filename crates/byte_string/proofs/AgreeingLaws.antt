@@ -149,6 +149,17 @@ module _ (x y : List ℕ) (n : ℕ) (e : n ≡ agreeing x y) where
       go (inr (inl w)) = absurd (parted h k w)
       go (inr (inr w)) = order_above _ _ _ _ w ∙ sym (cmp_gt _ _ w)
 
+  pub order_parted_below : n < length x → n < length y → get_or x n 0 < get_or y n 0 → order x y ≡ Less
+  order_parted_below h k s = order_parted h k ∙ cmp_lt _ _ s
+
+  pub order_parted_above : n < length x → n < length y → get_or y n 0 ≤ get_or x n 0 → order x y ≡ Greater
+  order_parted_above h k s = go (ways (get_or x n 0) (get_or y n 0))
+    where
+      go : Ways (get_or x n 0) (get_or y n 0) → order x y ≡ Greater
+      go (inl w) = absurd (omega arith)
+      go (inr (inl w)) = absurd (parted h k w)
+      go (inr (inr w)) = order_parted h k ∙ cmp_gt _ _ w
+
   -- what stands there in each, or nothing where it has ended
   pub order_there : (r s : Option (Bor ℕ)) → is_some r ≡ ltb n (length x) → is_some s ≡ ltb n (length y)
       → unwrap_or (option_map (λ b. b.now) r) 0 ≡ get_or x n 0 → unwrap_or (option_map (λ b. b.now) s) 0 ≡ get_or y n 0

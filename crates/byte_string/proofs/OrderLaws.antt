@@ -104,6 +104,13 @@ order_trans_lt : (x y z : List ℕ) → order x y ≡ Less → order y z ≡ Les
 unfolding order
 order_trans_lt x y z p q = nat_list_cmp_total.trans x y z p q
 
+-- two comparisons in a row with one answer
+pub order_trans : (x y z : List ℕ) (o : Ordering) → order x y ≡ o → order y z ≡ o → order x z ≡ o
+order_trans x y z Less p q = order_trans_lt x y z p q
+order_trans x y z Equal p q = rw (order_eq x y p) q
+order_trans x y z Greater p q =
+    order_flip z x ∙ ap ordering_reverse (order_trans_lt z y x (order_flip y z ∙ ap ordering_reverse q) (order_flip x y ∙ ap ordering_reverse p))
+
 -- `less` and `at_most`, each by the other.
 
 pub less_not_at_most : (x y : List ℕ) → less x y ≡ not (at_most y x)

@@ -7,7 +7,7 @@ use Prim.Native.Nat.{ℕ, zero, suc, ◌+◌, ◌*◌, ◌/◌, ◌%◌, ◌^◌
 use native.Mathlib.Omega.{arith}
 use lib.Dec.{ltb, eqb}
 use lib.ListN.{length, get_or, set, length-append, length-set, take}
-use lib.Seq.{length-take-le, get_or-take, get_or-set_same, get_or-set_other}
+use lib.Seq.{length-take-le, get_or-take, get_or-set_same, get_or-set_other, set-get_or}
 use borrow.Author.Tests.{ltb-true, ltb-false, lt-ltb, le-ltb, eq-eqb, ne_eqb, eqb-true, eqb-false}
 use Rattle.lists.specs.Lists.{keep}
 use Rattle.lists.proofs.ListsLaws.{keep_append, ascending_at}
@@ -19,6 +19,14 @@ use Rattle.check_names.specs.Names.{times_named, up_to_two, word_of, marked, Wor
 use Rattle.check_names.proofs.StartsLaws.{AtIndex, at_index, length_starts, starts_ascend, ordinary_laid}
 
 -- ---- one word
+
+pub mark_more : (work : List ℕ) (i : ℕ) → get_or work i 0 / 2 ^ 30 < 2 → set work i (get_or work i 0 + 2 ^ 30) ≡ set work i (marked (get_or work i 0))
+unfolding marked
+mark_more work i h = rw (lt-ltb (get_or work i 0 / 2 ^ 30) 2 h)
+
+pub mark_same : (work : List ℕ) (i : ℕ) → 2 ≤ get_or work i 0 / 2 ^ 30 → work ≡ set work i (marked (get_or work i 0))
+unfolding marked
+mark_same work i h = rw (le-ltb (get_or work i 0 / 2 ^ 30) 2 h) (sym (set-get_or work i 0))
 
 two_at_most : (n : ℕ) → up_to_two n ≤ 2
 unfolding up_to_two

@@ -4,7 +4,7 @@ use mathlib.Core.Path.{◌≡◌, refl, sym, ap, ap₂, ◌∙◌}
 use mathlib.Core.Bool.{true, ◌&&◌, and-eq-true_iff, false≢true}
 use mathlib.Core.List.{List, [], ◌∷◌}
 use Prim.Native.Nat.{ℕ, zero, suc, ◌+◌, ◌-◌, ◌*◌, ◌/◌, ◌%◌, ◌^◌, ◌≤◌, ◌<◌}
-use native.Mathlib.Nat.{add-mul, add-suc, div-add-mod', le_of_suc-le-suc, mul_assoc, mul_comm, mul-lt-mul_of_pos_right, mul-one}
+use native.Mathlib.Nat.{add-mul, add-suc, div-add-mod', le_of_suc-le-suc, mul_assoc, mul_comm, mul-lt-mul_of_pos_right, mul-one, eq-or-lt_of_le}
 use native.Mathlib.Nat.{not-suc-le-zero, one-mul, pow-suc, suc-add, zero-mul}
 use native.Mathlib.Numerals.{add-one}
 use native.Mathlib.Omega.{arith}
@@ -17,6 +17,7 @@ use Rattle.crc64_register.specs.Crc64.{bit_step, bit_steps}
 use Rattle.crc64_lanes.specs.Product.{shifted, product_from, product, are_squares, are_powers}
 use Rattle.crc64_register.proofs.Crc64Laws.{polynomial_value, bit_steps_lt}
 use Rattle.crc64_register.proofs.LinearLaws.{digit_lt, digit_cases, xor_assoc, bit_steps_xor, bit_steps-add, bit_steps_swap, bit_steps_low, bit_steps_zero}
+use mathlib.Core.Logic.{◌⊎◌, inl, inr}
 
 -- ---- a product with what m zero bits make of the highest bit
 
@@ -141,6 +142,17 @@ pub record Powered (count k left r : ℕ) : Type 0 where
 pub powered_none : (count r : ℕ) → count < 2 ^ 25 → r ≡ 2 ^ 63 → Powered count 0 count r
 unfolding shifted bit_steps
 powered_none count r h e = record { gone = 0; within = omega arith; small = h; sum = omega arith; holds = e }
+
+-- where some are to come, there is an entry
+pub powered_entry : (count k left r : ℕ) → Powered count k left r → 0 < left → k < 25
+powered_entry count k left r done some = go (eq-or-lt_of_le done.within)
+  where
+    go : (k ≡ 25) ⊎ (k < 25) → k < 25
+    go (inl h) =
+        let none : 25 - k ≡ 0 = omega arith in
+        let few : left < 1 = rw none at done.small in
+        absurd (omega arith)
+    go (inr h) = h
 
 module _ (count k left r : ℕ) (done : Powered count k left r) (below : k < 25) where
   halved : left / 2 < 2 ^ (25 - (k + 1))

@@ -9,9 +9,10 @@ use native.Mathlib.Omega.{arith}
 use Rattle.std.specs.List.{fold}
 use lib.Bits.{bit_xor, xor_lt, xor_zero_r}
 use lib.Dec.{lit<}
-use lib.ListN.{take, drop, take-append-drop}
+use lib.ListN.{take, drop, take-append-drop, length, get_or}
 use Rattle.part.specs.Bytes.{AreBytes}
 use Rattle.crc64_register.specs.Crc64.{reversed, polynomial, all_ones, bit_step, bit_steps, byte_step, register_start, register, crc_of, crc64}
+use lib.Seq.{take-suc}
 
 -- ---- the constants
 
@@ -58,6 +59,11 @@ pub register_fold : (r : ℕ) (s : List ℕ) → fold byte_step r s ≡ register
 unfolding register
 register_fold r [] = refl
 register_fold r (b ∷ s) = register_fold (byte_step r b) s
+
+-- one byte more goes in
+pub register-take : (r : ℕ) (s : List ℕ) (i : ℕ) → i < length s → register r (take (i + 1) s) ≡ byte_step (register r (take i s)) (get_or s i 0)
+unfolding register
+register-take r s i h = rw (add-one i, take-suc s i 0, register-append)
 
 -- the string may be parted at any place
 pub register_split : (r : ℕ) (s : List ℕ) (i : ℕ) → register r s ≡ register (register r (take i s)) (drop i s)

@@ -99,6 +99,14 @@ putting_last old at value output rest i e p =
           (rw (← byte.1) (storing_more old at (encoding value) output i p.storing byte.0)) (omega arith),
     )
 
+-- the next byte lies within
+pub putting_within : (old : List ℕ) (at value : ℕ) (output : List ℕ) (rest i : ℕ) → Putting old at value output rest i → at + i < length output
+putting_within old at value output rest i p =
+    let enough = p.storing.enough in
+    let long = p.storing.long in
+    let some : 0 < length (encoding value) - i = rw (← length-drop i (encoding value), p.left) (encoding_with_some (9 - i) rest) in
+    omega arith
+
 -- it doesn't fit
 pub putting_full : (old : List ℕ) (at : ℕ) (s : List ℕ) → length old < at + length s → (0 ≡ stored_length old at s) × (old ≡ stored old at s)
 unfolding stored_length

@@ -2,18 +2,18 @@
 -- A law about the highest byte first comes from the one about the lowest first by `reverse`. Assumes nothing.
 use mathlib.Core.Path.{◌≡◌, refl, sym, ap, ◌∙◌}
 use mathlib.Core.List.{List, [], ◌∷◌, ◌++◌, reverse, reverse-append, reverse-reverse}
-use Prim.Native.Nat.{ℕ, zero, suc, ◌+◌, ◌*◌, ◌/◌, ◌%◌, ◌^◌, ◌<◌, ◌≤◌}
-use native.Mathlib.Nat.{add_comm, mul_comm, pow-suc, zero-add, suc-add, one-le-pow, pow-le-pow_right}
+use Prim.Native.Nat.{ℕ, zero, suc, ◌+◌, ◌*◌, ◌/◌, ◌%◌, ◌^◌, ◌<◌, ◌≤◌, ◌-◌}
+use native.Mathlib.Nat.{add_comm, mul_comm, pow-suc, zero-add, suc-add, one-le-pow, pow-le-pow_right, le_refl, not-suc-le-zero}
 use native.Mathlib.Nat.{lt_of_lt_of_le}
 use native.Mathlib.Nat.{div-div-eq-div-mul, div-one, mod-lt, mod-eq_of_lt, mod-one}
 use native.Mathlib.Numerals.{add-one}
 use native.Mathlib.Omega.{arith}
 use lib.Arith.{mod-mul}
 use lib.Dec.{lit<}
-use lib.ListN.{length, get_or, take, length-reverse}
-use lib.Seq.{take-suc}
+use lib.ListN.{length, get_or, take, length-reverse, drop, length-take, length-drop}
+use lib.Seq.{take-suc, drop-cons}
 use Rattle.part.specs.Bytes.{AreBytes}
-use Rattle.part.proofs.BytesLaws.{bytes_reverse}
+use Rattle.part.proofs.BytesLaws.{bytes_reverse, bytes_take, bytes_drop}
 use Rattle.endian.specs.FixedWidth.{little_endian, big_endian, little_bytes, big_bytes}
 
 -- The number of a list of bytes
@@ -53,12 +53,31 @@ little_endian_lt_within n l h few = lt_of_lt_of_le (little_endian_lt l h) (pow-l
 pub big_endian_lt_within : (n : ℕ) (l : List ℕ) → AreBytes l → length l ≤ n → big_endian l < 256 ^ n
 big_endian_lt_within n l h few = lt_of_lt_of_le (big_endian_lt l h) (pow-le-pow_right (lit< tt) few)
 
+pub big_endian-take_lt : (n : ℕ) (l : List ℕ) → AreBytes l → (i : ℕ) → i ≤ n → big_endian (take i l) < 256 ^ n
+big_endian-take_lt n l h i few = big_endian_lt_within n (take i l) (bytes_take i l h) (rw length-take (omega arith))
+
+pub little_endian-drop_lt : (n : ℕ) (l : List ℕ) → AreBytes l → (i : ℕ) → length l ≤ n + i → little_endian (drop i l) < 256 ^ n
+little_endian-drop_lt n l h i few = little_endian_lt_within n (drop i l) (bytes_drop i l h) (rw length-drop (omega arith))
+
 -- Reading byte after byte
 
 -- from the front: the byte at i comes after those before it
 pub big_endian-take_more : (l : List ℕ) (i : ℕ) → i < length l
     → big_endian (take (i + 1) l) ≡ big_endian (take i l) * 256 + get_or l i 0
 big_endian-take_more l i h = rw (add-one, take-suc l i 0) (big_endian_snoc (take i l) (get_or l i 0))
+
+-- from the end: the byte before i comes in front of those from i on
+pub little_endian-drop-less : (l : List ℕ) (i : ℕ) → 0 < i → i ≤ length l
+    → little_endian (drop (i - 1) l) ≡ little_endian (drop i l) * 256 + get_or l (i - 1) 0
+unfolding little_endian
+little_endian-drop-less l zero none h = absurd (not-suc-le-zero none)
+little_endian-drop-less l (suc i) some h =
+    let before : suc i - 1 ≡ i = omega arith in
+    rw (before, drop-cons l i 0) (omega arith)
+
+-- n bytes from a position on
+pub big_endian-part_lt : (n : ℕ) (s : List ℕ) → AreBytes s → (at : ℕ) → big_endian (take n (drop at s)) < 256 ^ n
+big_endian-part_lt n s h at = big_endian-take_lt n (drop at s) (bytes_drop at s h) n (le_refl n)
 
 -- The bytes of a number
 
@@ -143,3 +162,24 @@ pub big_bytes_injective : (n x y : ℕ) → x < 256 ^ n → y < 256 ^ n → big_
 big_bytes_injective n x y hx hy same =
     let values = sym (big_endian-big_bytes n x) ∙ ap big_endian same ∙ big_endian-big_bytes n y in
     sym (mod-eq_of_lt hx) ∙ values ∙ mod-eq_of_lt hy
+
+-- The widths that the code writes
+
+-- below 256 ^ 4, the highest of four bytes needs no remainder
+pub big_bytes_four : (x a b c d : ℕ) → x < 256 ^ 4 → a ≡ x / 16777216 → b ≡ x / 65536 % 256 → c ≡ x / 256 % 256 → d ≡ x % 256
+    → a ∷ b ∷ c ∷ d ∷ [] ≡ big_bytes 4 x
+unfolding big_bytes little_bytes
+big_bytes_four x a b c d h e f g i =
+    let highest : x / 256 / 256 / 256 % 256 ≡ a = omega arith in
+    let second : x / 256 / 256 % 256 ≡ b = omega arith in
+    rw (highest, second, g, i)
+
+-- eight bytes are four and four
+pub big_bytes_eight : (x h l : ℕ) → h ≡ x / 4294967296 → l ≡ x % 4294967296 → big_bytes 4 h ++ big_bytes 4 l ≡ big_bytes 8 x
+big_bytes_eight x h l e f = rw (e, f) (ap (λ (s : List ℕ). big_bytes 4 (x / 4294967296) ++ s) (big_bytes_mod 4 x) ∙ sym (big_bytes-add 4 4 x))
+
+-- a list of four bytes written out element by element, in front of others
+pub big_bytes_four_elements : (l : List ℕ) (x : ℕ) → l ≡ big_bytes 4 x → (r : List ℕ)
+    → get_or l 0 0 ∷ get_or l 1 0 ∷ get_or l 2 0 ∷ get_or l 3 0 ∷ r ≡ big_bytes 4 x ++ r
+unfolding big_bytes little_bytes
+big_bytes_four_elements l x e r = rw e

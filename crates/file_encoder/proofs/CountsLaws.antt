@@ -2,7 +2,7 @@
 -- Assumes nothing.
 use mathlib.Core.Path.{◌≡◌, refl, sym, ap, ◌∙◌}
 use mathlib.Core.Bool.{Bool, true, false, cond, ◌&&◌, false≢true}
-use Prim.Native.Nat.{ℕ, ◌≤◌}
+use Prim.Native.Nat.{ℕ, ◌≤◌, ◌<◌}
 use native.Mathlib.Omega.{arith}
 use Rattle.std.specs.declared.cmp.Ordering.TheVariants.{Less, Equal, Greater}
 use Rattle.std.specs.Ordering.{is_le, is_lt, nat_cmp}
@@ -34,6 +34,18 @@ counts_block b i e = rw (← e)
 pub counts_index : (b i : ℕ) {fit : Bool} → true ≡ (leb 1 b && leb b 65535) → fit ≡ (leb 2 i && leb i 65535) → fit ≡ counts_fit b i
 unfolding counts_fit
 counts_index b i e f = rw (← e) f
+
+pub counts_block_low : (b i : ℕ) → b < 1 → false ≡ counts_fit b i
+unfolding counts_fit
+counts_block_low b i h = rw (lt-leb 1 b h)
+
+pub counts_block_high : (b i : ℕ) → 1 ≤ b → 65535 < b → false ≡ counts_fit b i
+unfolding counts_fit
+counts_block_high b i h k = rw (le-leb 1 b h, lt-leb b 65535 k)
+
+pub counts_index_low : (b i : ℕ) → 1 ≤ b → b ≤ 65535 → i < 2 → false ≡ counts_fit b i
+unfolding counts_fit
+counts_index_low b i h k l = rw (le-leb 1 b h, le-leb b 65535 k, lt-leb 2 i l)
 
 pub counts_asked : (b i : ℕ) → 1 ≤ b → b ≤ 65535 → 2 ≤ i → leb i 65535 ≡ counts_fit b i
 unfolding counts_fit

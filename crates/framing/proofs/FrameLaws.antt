@@ -2,6 +2,7 @@
 -- Assumes nothing.
 use Rattle.uleb128.specs.Number.{reading_said}
 use Rattle.uleb128.specs.declared.NumberFault.{NumberFault}
+use Rattle.uleb128.specs.declared.Number.{Number}
 use Rattle.uleb128.specs.declared.NumberFault.TheVariants.{CutOff, TooWide, NotShortest}
 use Rattle.framing.specs.Answers.{number_said}
 use mathlib.Core.Path.{◌≡◌, refl, sym, ap, ◌∙◌, subst⁻¹}
@@ -17,7 +18,7 @@ use borrow.Author.Tests.{le-leb, lt-leb, leb-true}
 use Rattle.uleb128.specs.Number.{Reading, number, cut_off, reading, continuing}
 use Rattle.uleb128.specs.Number.{refused as badNumber}
 use Rattle.uleb128.proofs.NumberLaws.{number_used, number_lt, reading-cut, reading-first}
-use Rattle.std.specs.Prelude.{Result, Err}
+use Rattle.std.specs.Prelude.{Result, Err, Ok}
 use Rattle.std.specs.Result.{IsErrAnd}
 use Rattle.std.proofs.lemmas.Result.{err_from_is_err_and}
 use Rattle.outcome.specs.Outcome.{answer, refused}
@@ -45,6 +46,21 @@ number_fault cut place at r f h = let p = err_from_is_err_and r h in rw (p.1, p.
 pub number_lent : (cut place : ℕ) (s : List ℕ) (at : ℕ) (r : Reading) → r ≡ reading (take (length s - at) (drop at s)) → read_as cut place at r ≡ number_at cut place s at
 unfolding number_at
 number_lent cut place s at r e = ap (read_as cut place at) (e ∙ ap reading (lent_drop s at))
+
+-- the number at an offset is what reading the rest finds
+pub number_found : (cut place : ℕ) (s : List ℕ) (at : ℕ) (n : Result Number NumberFault) → reading_said n ≡ reading (take (length s - at) (drop at s))
+    → read_as cut place at (reading_said n) ≡ number_at cut place s at
+number_found cut place s at n e = number_lent cut place s at (reading_said n) e
+
+-- a value that was read
+pub value_read : (s : List ℕ) (n : Result Number NumberFault) (value used : ℕ) → n ≡ Ok (record { value = value; used = used }) → reading_said n ≡ reading s
+    → reading s ≡ number value used
+unfolding reading_said
+value_read s n value used told e = sym e ∙ ap reading_said told
+
+pub value_used : (s : List ℕ) (n : Result Number NumberFault) (value used : ℕ) → n ≡ Ok (record { value = value; used = used }) → reading_said n ≡ reading s
+    → used ≤ length s
+value_used s n value used told e = (number_used s value used (value_read s n value used told e)).2
 
 -- past the end every number is cut off
 pub number_past : (cut place : ℕ) (s : List ℕ) (at : ℕ) → length s ≤ at → number_at cut place s at ≡ refused cut place

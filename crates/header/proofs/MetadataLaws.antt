@@ -1,13 +1,13 @@
 -- Laws of the metadata rule: the test says what the relation says.
 -- Assumes nothing.
-use mathlib.Core.Path.{◌≡◌}
-use mathlib.Core.Bool.{true, ◌&&◌, and-eq-true_iff}
-use mathlib.Core.List.{List, ◌∷◌, ◌++◌}
-use Prim.Native.Nat.{ℕ, ◌-◌, ◌≤◌}
+use mathlib.Core.Path.{◌≡◌, refl}
+use mathlib.Core.Bool.{true, ◌&&◌, and-eq-true_iff, false}
+use mathlib.Core.List.{List, ◌∷◌, ◌++◌, []}
+use Prim.Native.Nat.{ℕ, ◌-◌, ◌≤◌, ◌<◌}
 use native.Mathlib.Omega.{arith}
 use lib.Dec.{eqb}
 use lib.ListN.{length, length-append, get_or}
-use borrow.Author.Tests.{eqb-true, eq-eqb}
+use borrow.Author.Tests.{eqb-true, eq-eqb, ne_eqb}
 use Rattle.utf8.specs.Utf8.{is_utf8}
 use Rattle.utf8.proofs.Utf8Laws.{is_utf8⇒Utf8, Utf8⇒is_utf8}
 use Rattle.json_grammar.specs.Grammar.{Structural, structural, Derives, object, no_members, some_members}
@@ -57,3 +57,31 @@ object_long d s (some_members {b = b} {s = t} {e = e} begin members end) =
 
 pub metadata_long : (m : List ℕ) → Metadata m → 2 ≤ length m
 metadata_long m r = object_long 64 m r.derived
+
+-- ---- the test, case by case
+
+-- no byte
+pub metadata_empty : (m : List ℕ) → length m < 1 → is_metadata m ≡ false
+unfolding is_metadata
+metadata_empty [] few = refl
+metadata_empty (b ∷ m) few = absurd (omega arith)
+
+-- the first byte is not `{`
+pub metadata_unopened : (m : List ℕ) → (get_or m 0 0 ≡ 0x7b → ⊥) → is_metadata m ≡ false
+unfolding is_metadata
+metadata_unopened m other = rw (ne_eqb (get_or m 0 0) 0x7b other)
+
+-- the last byte is not `}`
+pub metadata_unclosed : (m : List ℕ) → get_or m 0 0 ≡ 0x7b → (get_or m (length m - 1) 0 ≡ 0x7d → ⊥) → is_metadata m ≡ false
+unfolding is_metadata
+metadata_unclosed m first other = rw (eq-eqb (get_or m 0 0) 0x7b first, ne_eqb (get_or m (length m - 1) 0) 0x7d other)
+
+-- the bytes are no text
+pub metadata_no_text : (m : List ℕ) → get_or m 0 0 ≡ 0x7b → get_or m (length m - 1) 0 ≡ 0x7d → is_utf8 m ≡ false → is_metadata m ≡ false
+unfolding is_metadata
+metadata_no_text m first last other = rw (eq-eqb (get_or m 0 0) 0x7b first, eq-eqb (get_or m (length m - 1) 0) 0x7d last, other)
+
+-- otherwise the grammar decides
+pub metadata_text : (m : List ℕ) → get_or m 0 0 ≡ 0x7b → get_or m (length m - 1) 0 ≡ 0x7d → is_utf8 m ≡ true → is_metadata m ≡ is_object 64 m
+unfolding is_metadata
+metadata_text m first last text = rw (eq-eqb (get_or m 0 0) 0x7b first, eq-eqb (get_or m (length m - 1) 0) 0x7d last, text)

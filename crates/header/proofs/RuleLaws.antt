@@ -13,11 +13,13 @@ use borrow.Author.Tests.{leb-true, leb-false, le-leb, lt-leb, eq-eqb, ne_eqb}
 use Rattle.byte_string.specs.Order.{begins}
 use Rattle.outcome.specs.Outcome.{answer, refused, ◌>>◌, must}
 use Rattle.part.specs.Part.{part}
-use Rattle.part.proofs.PartLaws.{lent_drop}
+use Rattle.part.proofs.PartLaws.{lent_drop, lent_part}
 use Rattle.framing.specs.Frame.{crc_right}
 use Rattle.header.specs.Metadata.{is_metadata}
 use Rattle.header.specs.Header.{magic, unfinished_magic, codec_none, field_at, H, M, holds_header, header_crc_right, holds_metadata}
 use Rattle.header.specs.Header.{header_numbers, fields_of, data_of, size_rule, front_rules, header_of}
+use Rattle.endian.specs.FixedWidth.{little_endian}
+use Rattle.crc64.specs.Crc64.{crc64}
 
 -- ---- tests
 
@@ -106,11 +108,21 @@ pub header_crc_lent : (file : List ℕ) → crc_right file 16 (16 + H file) ≡ 
 unfolding header_crc_right crc_right field_at
 header_crc_lent file = rw (add-sub_cancel_left)
 
+-- the number after the header data is compared with the CRC of the data, which are lent
+pub header_crc_right_by : (file : List ℕ) (h : ℕ) → h ≡ H file
+    → header_crc_right file ≡ eqb (little_endian (take 8 (drop (16 + h) file))) (crc64 (take (16 + h - 16) (drop 16 file)))
+unfolding header_crc_right field_at part
+header_crc_right_by file h e = rw (add-sub_cancel_left, e)
+
 -- ---- refusals 7 to 9, and the answer
 
 -- the codec is looked for in the rest of the file, which is lent
 pub codec_lent : (file : List ℕ) → begins codec_none (take (length file - 72) (drop 72 file)) ≡ begins codec_none (drop 72 file)
 codec_lent file = ap (begins codec_none) (lent_drop file 72)
+
+-- the metadata are tested in a part, which is lent
+pub metadata_lent : (file : List ℕ) (m : ℕ) → m ≡ M file → is_metadata (take (96 + m - 96) (drop 96 file)) ≡ is_metadata (part file 96 (M file))
+metadata_lent file m e = ap is_metadata (lent_part file 96 m ∙ ap (part file 96) e)
 
 -- refusal 7: another codec
 pub fields_codec : (file : List ℕ) → begins codec_none (drop 72 file) ≡ false → fields_of file ≡ refused 7 0

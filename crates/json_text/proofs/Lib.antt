@@ -3,3 +3,4 @@ pub mod FrontLaws
 pub mod StringLaws
 pub mod ScalarLaws
 pub mod ContainerLaws
+pub mod CaseLaws

@@ -180,22 +180,6 @@ pub stored_whole : (o : List ℕ) (at : ℕ) (s : List ℕ) → at + length s �
 unfolding stored_length
 stored_whole o at s h e = rw (fits_some o at s h) at e
 
-pub stored_size_some : (o : List ℕ) (at : ℕ) (s : List ℕ) {n : ℕ} → Some n ≡ stored_size o at s → (n ≡ length s) × (at + length s ≤ length o)
-unfolding stored_size bytes_fit
-stored_size_some o at s {n} e = go (leb (at + length s) (length o)) refl e
-  where
-    go : (b : Bool) → leb (at + length s) (length o) ≡ b → Some n ≡ then_some b (length s) → (n ≡ length s) × (at + length s ≤ length o)
-    go true t f = (cc, leb-true (at + length s) (length o) t)
-    go false t f = cc
-
-pub stored_size_none : (o : List ℕ) (at : ℕ) (s : List ℕ) → None ≡ stored_size o at s → length o < at + length s
-unfolding stored_size bytes_fit
-stored_size_none o at s e = go (leb (at + length s) (length o)) refl e
-  where
-    go : (b : Bool) → leb (at + length s) (length o) ≡ b → None ≡ then_some b (length s) → length o < at + length s
-    go true t f = cc
-    go false t f = leb-false (at + length s) (length o) t
-
 pub stored_length_some : (o : List ℕ) (at : ℕ) (s : List ℕ) {n : ℕ} → n ≡ stored_length o at s → (n ≡ 0 → ⊥) → (n ≡ length s) × (at + length s ≤ length o)
 unfolding stored_length bytes_fit
 stored_length_some o at s {n} e some = go (leb (at + length s) (length o)) refl e
@@ -210,4 +194,20 @@ stored_length_none o at s {n} e none some = go (leb (at + length s) (length o)) 
   where
     go : (b : Bool) → leb (at + length s) (length o) ≡ b → n ≡ cond b (length s) 0 → length o < at + length s
     go true t f = absurd (omega arith)
+    go false t f = leb-false (at + length s) (length o) t
+
+pub stored_size_some : (o : List ℕ) (at : ℕ) (s : List ℕ) {n : ℕ} → Some n ≡ stored_size o at s → (n ≡ length s) × (at + length s ≤ length o)
+unfolding stored_size bytes_fit
+stored_size_some o at s {n} e = go (leb (at + length s) (length o)) refl e
+  where
+    go : (b : Bool) → leb (at + length s) (length o) ≡ b → Some n ≡ then_some b (length s) → (n ≡ length s) × (at + length s ≤ length o)
+    go true t f = (cc, leb-true (at + length s) (length o) t)
+    go false t f = cc
+
+pub stored_size_none : (o : List ℕ) (at : ℕ) (s : List ℕ) → None ≡ stored_size o at s → length o < at + length s
+unfolding stored_size bytes_fit
+stored_size_none o at s e = go (leb (at + length s) (length o)) refl e
+  where
+    go : (b : Bool) → leb (at + length s) (length o) ≡ b → None ≡ then_some b (length s) → length o < at + length s
+    go true t f = cc
     go false t f = leb-false (at + length s) (length o) t

@@ -7,7 +7,7 @@ use native.Mathlib.Omega.{arith}
 use lib.Dec.{leb}
 use lib.ListN.{length}
 use borrow.Author.Tests.{le-leb, lt-leb, leb-true}
-use Rattle.std.specs.Prelude.{Result}
+use Rattle.std.specs.Prelude.{Result, Ok}
 use Rattle.std.specs.Result.{IsErrAnd}
 use Rattle.std.proofs.lemmas.Result.{err_from_is_err_and}
 use Rattle.outcome.specs.declared.Fault.{Fault}
@@ -165,3 +165,8 @@ entry⇒Entered place s at e h = go (entry⁻¹ place s at e h)
           forward = let ends = key.ends in let forward = key.forward in let n₁ = offset.forward in let n₂ = size.forward in omega arith;
           within = size.within;
         })
+
+-- the key of an entry that an answer names
+pub within_told : (s : List ℕ) (r : Result (Step Found) Fault) (e : Step Found) → r ≡ Ok e → KeyWithin s r → e.item.key.offset + e.item.key.length ≤ length s
+unfolding KeyWithin
+within_told s r e told h = subst (KeyWithin s) told h

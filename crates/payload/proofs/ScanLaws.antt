@@ -26,6 +26,11 @@ unfolding last_or
 last_or_snoc none [] y = refl
 last_or_snoc none (x ∷ xs) y = last_or_snoc x xs y
 
+pub last_or_map : {A B : Type 0} (f : A → B) (none : A) (xs : List A) → last_or (f none) (map f xs) ≡ f (last_or none xs)
+unfolding last_or
+last_or_map f none [] = refl
+last_or_map f none (x ∷ xs) = last_or_map f x xs
+
 pub rising_from_nil : (xs : List (List ℕ)) → rising xs ≡ rising_from [] xs
 unfolding rising rising_from
 rising_from_nil [] = refl

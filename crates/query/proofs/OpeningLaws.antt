@@ -20,6 +20,16 @@ pub up_to_some : (x s : List ℕ) → up_to x (some s) ≡ at_most x s
 unfolding up_to
 up_to_some x s = simp at_most_not_less
 
+-- an upper bound that is given is compared with
+pub up_to_given : (x s : List ℕ) (g : Bool) → g ≡ true → up_to x (given g s) ≡ at_most x s
+unfolding given
+up_to_given x s g e = rw e (up_to_some x s)
+
+-- where no upper bound is given, every list is up to it
+pub up_to_absent : (x s : List ℕ) (g : Bool) → g ≡ false → up_to x (given g s) ≡ true
+unfolding up_to given
+up_to_absent x s g e = rw e
+
 -- what is at most something up to the bound is up to the bound
 pub up_to_down : (y x : List ℕ) (upper : Option (List ℕ)) → at_most y x ≡ true → up_to x upper ≡ true → up_to y upper ≡ true
 unfolding up_to
@@ -28,6 +38,10 @@ up_to_down y x (some s) l u = up_to_some y s ∙ at_most_trans y x s l (sym (up_
 
 -- The upper bound and the stop together.
 
+pub not_reaches_past : (x : List ℕ) (upper stop : Option (List ℕ)) → up_to x upper ≡ false → reaches x upper stop ≡ false
+unfolding reaches
+not_reaches_past x upper stop u = rw u
+
 pub not_reaches_stopped : (x : List ℕ) (upper stop : Option (List ℕ)) → before x stop ≡ false → reaches x upper stop ≡ false
 unfolding reaches
 not_reaches_stopped x upper stop b = rw b (and-false (up_to x upper))
@@ -35,6 +49,9 @@ not_reaches_stopped x upper stop b = rw b (and-false (up_to x upper))
 pub reaches_last : (x : List ℕ) (upper stop : Option (List ℕ)) → up_to x upper ≡ true → reaches x upper stop ≡ before x stop
 unfolding reaches
 reaches_last x upper stop u = rw u
+
+pub reaches_both : (x : List ℕ) (upper stop : Option (List ℕ)) → up_to x upper ≡ true → before x stop ≡ true → reaches x upper stop ≡ true
+reaches_both x upper stop u b = reaches_last x upper stop u ∙ b
 
 pub reaches_parts : (x : List ℕ) (upper stop : Option (List ℕ)) → reaches x upper stop ≡ true → (up_to x upper ≡ true) × (before x stop ≡ true)
 unfolding reaches
@@ -88,6 +105,18 @@ module _ (lower : List ℕ) (upper : Option (List ℕ)) (q : Query) where
   pub not_may_match_lower : reaches lower upper q.stop ≡ false → may_match lower upper q ≡ false
   unfolding may_match
   not_may_match_lower e = rw e
+
+  pub not_may_match_start : reaches q.start upper q.stop ≡ false → may_match lower upper q ≡ false
+  unfolding may_match
+  not_may_match_start e = simp (e, and-false)
+
+  pub not_may_match_prefix : reaches q.prefix upper q.stop ≡ false → may_match lower upper q ≡ false
+  unfolding may_match
+  not_may_match_prefix e = simp (e, and-false)
+
+  pub not_may_match_leads : admits_prefix lower q.prefix ≡ false → may_match lower upper q ≡ false
+  unfolding may_match
+  not_may_match_leads e = simp (e, and-false)
 
   pub may_match_last : reaches lower upper q.stop ≡ true → reaches q.start upper q.stop ≡ true → reaches q.prefix upper q.stop ≡ true
       → admits_prefix lower q.prefix ≡ true → may_match lower upper q ≡ admits_prefix q.start q.prefix

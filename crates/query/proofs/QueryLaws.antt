@@ -39,6 +39,10 @@ before_down y x (some s) l b = before_some y s ∙ at_most-less_trans y x s l (s
 
 -- The three tests: one that fails decides, and after two that hold the prefix decides.
 
+pub not_matches_below : (q : Query) (x : List ℕ) → at_most q.start x ≡ false → matches q x ≡ false
+unfolding matches
+not_matches_below q x s = rw s
+
 pub not_matches_stopped : (q : Query) (x : List ℕ) → before x q.stop ≡ false → matches q x ≡ false
 unfolding matches
 not_matches_stopped q x b = rw b (and-false (at_most q.start x))

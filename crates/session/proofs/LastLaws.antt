@@ -4,7 +4,7 @@ use mathlib.Core.Path.{◌≡◌, refl, sym, ap, ◌∙◌, subst}
 use mathlib.Core.Bool.{Bool, true}
 use mathlib.Core.List.Memᴰ
 use mathlib.Core.List.{List, [], ◌∷◌, ◌++◌, flat_map, append_assoc, append-nil}
-use Prim.Native.Nat.{ℕ, zero, suc, ◌+◌, ◌-◌, ◌<◌}
+use Prim.Native.Nat.{ℕ, zero, suc, ◌+◌, ◌-◌, ◌<◌, ◌≤◌}
 use native.Mathlib.Omega.{arith}
 use lib.ListN.{length, length-append}
 use borrow.Author.Tests.{le-leb, ne_eqb}
@@ -149,6 +149,9 @@ module _ (d : Draft) (session : Session) (output : List ℕ) (held : Held (begun
         ∙ rw (ne_eqb (length (draft_records d)) 0 (λ z. let c = count in omega arith), long) (omega arith)
 
     -- the last record ends before the last CRC
+    pub last_sums : (8 ≤ session.next) × (session.last ≤ session.next - 8)
+    last_sums = let a = next_is in let b = last_is in (omega arith, omega arith)
+
     stands : Lies output session.last last
     unfolding begun_file
     stands =

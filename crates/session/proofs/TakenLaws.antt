@@ -5,7 +5,7 @@ use mathlib.Core.Bool.{true, false}
 use mathlib.Core.List.{List}
 use Prim.Native.Nat.{ℕ, zero, suc, ◌≤◌}
 use native.Mathlib.Omega.{arith}
-use lib.Dec.{leb}
+use lib.Dec.{leb, eqb}
 use lib.ListN.{length}
 use borrow.Author.Tests.{le-leb, lt-leb}
 use Rattle.std.specs.Prelude.{Option, Some, None, Result, Err}
@@ -23,14 +23,20 @@ use Rattle.session_value.specs.declared.Session.{Session}
 use Rattle.session_value.specs.declared.Stepped.{Stepped}
 use Rattle.session_value.specs.Stage.{Draft, Stage, begun, draft_blocks, data_end, output_of}
 use Rattle.session_value.specs.Steps.{draft_of, close_open, close_of, after}
-use Rattle.session_value.specs.Held.{SoundDraft, Sound, Held, session_of, stepped, stepped_answer, StepTaken}
+use Rattle.session_value.specs.Held.{SoundDraft, Sound, Held, session_of, stepped, stepped_answer, StepTaken, OneOf}
 use Rattle.session_value.specs.Values.{is_begun, closed_session}
 use Rattle.session_value.proofs.DraftLaws.{blocks_close, close_keeps}
 use Rattle.session_value.proofs.SessionLaws.{is_begun_lem, not_begun, closed_session_lem}
+use Rattle.lists.specs.Lists.{any}
 
 pub more_than_0 : (m n : ℕ) → m ≡ n → (m ≡ 0 → ⊥) → 1 ≤ n
 more_than_0 zero n e h = absurd (h refl)
 more_than_0 (suc m) n e h = omega arith
+
+pub one_of : (numbers : List ℕ) (n : ℕ) {session : Session} {r : Stepped} → any (λ m. eqb m n) numbers ≡ true
+    → r ≡ record { number = n; place = 0; session = session } → OneOf numbers r.number
+unfolding OneOf
+one_of numbers n h e = rw e h
 
 -- a step that is refused for want of room
 pub no_room : {A : Type 0} (session : Session) (found : Option A) {fault : Fault} → found ≡ None → Err fault ≡ ok_or found OutputRoom

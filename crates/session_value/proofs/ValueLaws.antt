@@ -6,7 +6,7 @@ use Prim.Native.Nat.{ℕ, ◌+◌, ◌-◌, ◌≤◌, ◌<◌}
 use native.Mathlib.Omega.{arith}
 use lib.Dec.{leb, eqb}
 use lib.ListN.{length}
-use borrow.Author.Tests.{le-leb, lt-leb, leb-true}
+use borrow.Author.Tests.{le-leb, lt-leb, leb-true, eq-eqb, ne_eqb}
 use Rattle.std.specs.Prelude.{Option, None}
 use Rattle.std.specs.Bool.{then_some}
 use Rattle.uleb128.specs.Encoding.{encoding}
@@ -15,6 +15,8 @@ use Rattle.layout.specs.Blocks.{block_size}
 use Rattle.layout.specs.File.{file_fits}
 use Rattle.session_value.specs.declared.Session.{Session}
 use Rattle.session_value.specs.Values.{is_begun, closed_session, unfull_session, text_size, framed_size, added_session}
+use mathlib.Core.List.{[], ◌∷◌}
+use Rattle.crc64.specs.Crc64.{register_start, register}
 
 -- ---- whether a session is begun
 
@@ -27,6 +29,30 @@ begun_asked s room e f g = rw (g, f, e) (four (eqb s.stage 1 && file_fits room s
     four : (a b c d : Bool) → (((a && b) && c) && d) ≡ (a && ((b && c) && d))
     four true b c d = refl
     four false b c d = refl
+
+-- the tests one by one
+pub not_stage : (s : Session) (room : ℕ) → (s.stage ≡ 1 → ⊥) → false ≡ is_begun s room
+unfolding is_begun
+not_stage s room h = rw (ne_eqb s.stage 1 h)
+
+module _ (s : Session) (room most : ℕ) (limit : (end : ℕ) → file_fits room end ≡ leb end most) where
+  pub not_room : s.stage ≡ 1 → most < s.next → false ≡ is_begun s room
+  unfolding is_begun
+  not_room a h = rw (eq-eqb s.stage 1 a, limit s.next, lt-leb s.next most h)
+
+  module _ (a : s.stage ≡ 1) (b : s.next ≤ most) where
+    rest_is : is_begun s room ≡ ((leb s.payload s.next && leb s.records s.next) && leb s.count 65535)
+    unfolding is_begun
+    rest_is = rw (eq-eqb s.stage 1 a, limit s.next, le-leb s.next most b)
+
+    pub not_payload : s.next < s.payload → false ≡ is_begun s room
+    not_payload h = sym (rest_is ∙ rw (lt-leb s.payload s.next h))
+
+    pub not_records : s.payload ≤ s.next → s.next < s.records → false ≡ is_begun s room
+    not_records c h = sym (rest_is ∙ rw (le-leb s.payload s.next c, lt-leb s.records s.next h))
+
+    pub begun_last : s.payload ≤ s.next → s.records ≤ s.next → leb s.count 65535 ≡ is_begun s room
+    begun_last c d = sym (rest_is ∙ rw (le-leb s.payload s.next c, le-leb s.records s.next d))
 
 -- what a session that is begun says
 pub begun⁻¹ : (s : Session) (room : ℕ) → is_begun s room ≡ true → (file_fits room s.next ≡ true) × (s.records ≤ s.next) × (s.count ≤ 65535)
@@ -74,6 +100,27 @@ module _ (s : Session) where
   pub not_full : s.count < s.perblock → s ≡ unfull_session s
   unfolding unfull_session
   not_full h = rw (lt-leb s.perblock s.count h)
+
+-- ---- sessions, number by number
+
+pub closed_is : (s : Session) {begin crc : ℕ} → begin ≡ register_start → crc ≡ register begin (0 ∷ [])
+    → ◌≡◌ {A = Session}
+    (record {
+      records = s.records;
+      last = s.last;
+      next = s.next;
+      stage = s.stage;
+      blocks = s.blocks;
+      perblock = s.perblock;
+      perindex = s.perindex;
+      start = s.next;
+      count = 0;
+      payload = 0;
+      crc = crc;
+    })
+    (closed_session s)
+unfolding closed_session
+closed_is s e f = rw (f, e)
 
 -- ---- one record more
 

@@ -1,9 +1,9 @@
 -- Laws of a part of one of two files.
 -- Assumes nothing.
-use mathlib.Core.Path.{◌≡◌, refl, sym, subst}
+use mathlib.Core.Path.{◌≡◌, refl, sym, subst, ap, ◌∙◌}
 use mathlib.Core.Bool.{Bool, true, false, ◌||◌, cond}
 use mathlib.Core.List.{List}
-use Prim.Native.Nat.{ℕ, ◌+◌, ◌≤◌}
+use Prim.Native.Nat.{ℕ, ◌+◌, ◌≤◌, ◌<◌}
 use native.Mathlib.Omega.{arith}
 use borrow.Author.Tests.{eq-eqb, ne_eqb}
 use lib.Dec.{eqb}
@@ -62,6 +62,17 @@ module _ (first second : List ℕ) where
     pub names_second : which ≡ 2 → names_part first second which offset n ≡ is_within second offset n
     unfolding names_part file_named
     names_second h = rw h
+
+    pub names_none : (which ≡ 1 → ⊥) → (which ≡ 2 → ⊥) → names_part first second which offset n ≡ false
+    unfolding names_part
+    names_none h k = rw (ne_eqb which 1 h, ne_eqb which 2 k)
+
+    pub place_if : (named : Bool) (r : Shown) → named ≡ names_part first second which offset n
+        → r ≡ cond named (record { which = which; offset = offset; length = n }) (record { which = 1; offset = 0; length = 0 })
+        → r ≡ part_shown first second which offset n
+    unfolding part_shown
+    place_if named r e is =
+        is ∙ ap (λ (b : Bool). cond b (record { which = which; offset = offset; length = n }) (record { which = 1; offset = 0; length = 0 })) e
 
     -- ---- the part
 
@@ -122,6 +133,15 @@ module _ (first second : List ℕ) where
       shown_fits =
           let P : Shown → Type 0 = λ q. q.offset + q.length ≤ length (file_named first second q.which) in
           rw (file_of_number w) at (subst P (sym is) (fits which (names_part first second which offset n) refl))
+
+      -- and ends below what the lengths of both files are below
+      pub shown_below : (limit : ℕ) → length first < limit → length second < limit → p.offset + p.length < limit
+      unfolding file_of
+      shown_below limit h k = go w shown_fits
+        where
+          go : (v : Which) → p.offset + p.length ≤ length (file_of first second v) → p.offset + p.length < limit
+          go First within = omega arith
+          go Second within = omega arith
 
       -- its bytes
       pub shown_lent : part (file_of first second w) p.offset p.length ≡ shown_bytes first second (part_shown first second which offset n)

@@ -6,9 +6,9 @@ use mathlib.Core.List.{List, [], ◌∷◌, ◌++◌, append_assoc}
 use Prim.Native.Nat.{ℕ, suc, ◌+◌, ◌-◌, ◌*◌, ◌/◌, ◌≤◌, ◌<◌}
 use native.Mathlib.Omega.{arith}
 use lib.Dec.{eqb, leb, ltb}
-use lib.Seq.{length-take-le}
-use lib.ListN.{length, take, drop, length-append, length-take, length-drop, take-append-drop}
-use borrow.Author.Tests.{le-leb, lt-leb, le-ltb, lt-ltb, leb-true, leb-false, ltb-false}
+use lib.Seq.{length-take-le, drop-cons}
+use lib.ListN.{length, take, drop, length-append, length-take, length-drop, take-append-drop, get_or, drop_of_length-le}
+use borrow.Author.Tests.{le-leb, lt-leb, le-ltb, lt-ltb, leb-true, leb-false, ltb-false, eq-eqb, ne_eqb}
 use Rattle.std.proofs.Common.{Some, None, nat_eq, Ordering, Less, Equal, Greater, is_le}
 use Rattle.std.specs.Ordering.{nat_cmp, ordering_then}
 use Rattle.byte_string.specs.Order.{order, at_most}
@@ -25,6 +25,7 @@ use Rattle.part.specs.Part.{part}
 use Rattle.outcome.specs.Outcome.{answer, refused, must, ◌>>◌}
 use Rattle.outcome.proofs.OutcomeLaws.{kept, broken, must_kept, must_broken, after_assoc}
 use Rattle.sim.specs.Adn.{is_filled, pairs_length, plain_length, name_length, name_of, is_name, judged, number_length, record_of, record_at, imported}
+use native.Mathlib.Numerals.{add-one}
 
 -- ---- nothing but FF
 
@@ -40,6 +41,18 @@ filled_append s t = all_append (λ b. eqb b 255) s t
 -- a record by its two parts
 pub filled_parts : (x : ℕ) (adn field rest : List ℕ) → field ≡ take x adn → rest ≡ drop x adn → is_filled (field ++ rest) ≡ is_filled adn
 filled_parts x adn field rest e f = rw (e, f, take-append-drop x adn)
+
+pub filled_other : (s : List ℕ) (i : ℕ) → i < length s → (get_or s i 0 ≡ 255 → ⊥) → is_filled (drop i s) ≡ false
+unfolding is_filled all
+filled_other s i h n = rw (drop-cons s i 0 h, ne_eqb (get_or s i 0) 255 n)
+
+pub filled_more : (s : List ℕ) (i : ℕ) → i < length s → get_or s i 0 ≡ 255 → is_filled (drop i s) ≡ is_filled (drop (i + 1) s)
+unfolding is_filled all
+filled_more s i h e = rw (drop-cons s i 0 h, eq-eqb (get_or s i 0) 255 e, add-one i)
+
+pub filled_end : (s : List ℕ) (i : ℕ) → length s ≤ i → is_filled (drop i s) ≡ true
+unfolding is_filled all
+filled_end s i h = rw (drop_of_length-le s h)
 
 -- ---- what is counted from the front
 
@@ -95,6 +108,112 @@ pub first_slice : (s : List ℕ) → unwrap_or (slice_get s 0) 0 ≡ first_or 0 
 unfolding first_or
 first_slice [] = refl
 first_slice (b ∷ s) = refl
+
+-- ---- place by place
+
+pub plain_stop : (s : List ℕ) (i : ℕ) → i < length s → 128 ≤ get_or s i 0 → plain_length (drop i s) ≡ 0
+unfolding plain_length
+plain_stop s i h l = rw (drop-cons s i 0 h, le-ltb (get_or s i 0) 128 l)
+
+pub plain_more : (s : List ℕ) (i : ℕ) → i < length s → get_or s i 0 < 128 → plain_length (drop i s) ≡ 1 + plain_length (drop (i + 1) s)
+unfolding plain_length
+plain_more s i h l = rw (drop-cons s i 0 h, lt-ltb (get_or s i 0) 128 l, add-one i) (omega arith)
+
+pub plain_end : (s : List ℕ) (i : ℕ) → length s ≤ i → plain_length (drop i s) ≡ 0
+unfolding plain_length
+plain_end s i h = rw (drop_of_length-le s h)
+
+two : (s : List ℕ) (i : ℕ) → i + 1 < length s → drop i s ≡ get_or s i 0 ∷ (get_or s (i + 1) 0 ∷ drop (i + 2) s)
+two s i h =
+    drop-cons s i 0 (omega arith)
+    ∙ ap (λ (l : List ℕ). get_or s i 0 ∷ l) (rw (← add-one i) (drop-cons s (i + 1) 0 h) ∙ ap (λ (n : ℕ). get_or s (i + 1) 0 ∷ drop n s) (step i))
+  where
+    step : (i : ℕ) → suc (i + 1) ≡ i + 2
+    step i = omega arith
+
+pub pairs_stop : (s : List ℕ) (i : ℕ) → 2 ≤ length s - i → (eqb (get_or s i 0) 255 && eqb (get_or s (i + 1) 0) 255) ≡ true → pairs_length (drop i s) ≡ 0
+unfolding pairs_length
+pairs_stop s i h e = rw (two s i (omega arith), e)
+
+pub pairs_more : (s : List ℕ) (i : ℕ) → 2 ≤ length s - i → (eqb (get_or s i 0) 255 && eqb (get_or s (i + 1) 0) 255) ≡ false
+    → pairs_length (drop i s) ≡ 2 + pairs_length (drop (i + 2) s)
+unfolding pairs_length
+pairs_more s i h e = rw (two s i (omega arith), e)
+
+pub pairs_end : (s : List ℕ) (i : ℕ) → length s - i < 2 → pairs_length (drop i s) ≡ 0
+unfolding pairs_length
+pairs_end s i h = short (drop i s) (rw length-drop (omega arith))
+  where
+    short : (l : List ℕ) → length l ≤ 1 → pairs_length l ≡ 0
+    short [] k = refl
+    short (a ∷ []) k = refl
+    short (a ∷ (b ∷ l)) k = absurd (omega arith)
+
+pub pairs_within : (field s : List ℕ) (n : ℕ) → s ≡ drop 1 field → n ≡ pairs_length s → n ≤ length field
+pairs_within field s n e f =
+    let long = ap length e ∙ length-drop 1 field in
+    let few = pairs_few s in
+    omega arith
+
+-- ---- the name, by its first byte
+
+pub name_none : (s : List ℕ) → length s ≡ 0 → 0 ≡ name_length s
+unfolding name_length
+name_none [] e = refl
+name_none (b ∷ s) e = absurd (omega arith)
+
+-- s is what follows the first byte
+module _ (field s : List ℕ) (some : 0 < length field) (e : s ≡ drop 1 field) where
+  coded : (coding : ℕ) → get_or field 0 0 ≡ coding → field ≡ coding ∷ s
+  coded coding f = drop-cons field 0 0 some ∙ rw (f, e)
+
+  pub name_pairs : get_or field 0 0 ≡ 128 → 1 + pairs_length s ≡ name_length field
+  unfolding name_length
+  name_pairs f = rw (coded 128 f)
+
+  pub name_one_base : get_or field 0 0 ≡ 129 → 3 + first_or 0 s ≡ name_length field
+  unfolding name_length
+  name_one_base f = rw (coded 129 f)
+
+  pub name_two_bases : get_or field 0 0 ≡ 130 → 4 + first_or 0 s ≡ name_length field
+  unfolding name_length
+  name_two_bases f = rw (coded 130 f)
+
+pub name_plain : (s : List ℕ) → (get_or s 0 0 ≡ 128 → ⊥) → (get_or s 0 0 ≡ 129 → ⊥) → (get_or s 0 0 ≡ 130 → ⊥) → plain_length s ≡ name_length s
+unfolding name_length plain_length
+name_plain [] p q r = refl
+name_plain (b ∷ s) p q r = rw (ne_eqb b 128 p, ne_eqb b 129 q, ne_eqb b 130 r)
+
+-- the first byte, or 0
+pub first_some : (s : List ℕ) → 0 < length s → get_or s 0 0 ≡ first_or 0 s
+unfolding first_or
+first_some [] h = absurd (omega arith)
+first_some (b ∷ s) h = refl
+
+pub first_none : (s : List ℕ) → length s ≡ 0 → 0 ≡ first_or 0 s
+unfolding first_or
+first_none [] e = refl
+first_none (b ∷ s) e = absurd (omega arith)
+
+-- ---- parts
+
+-- the front of what is behind
+pub part_of : (s t : List ℕ) (at n : ℕ) {r : List ℕ} → t ≡ drop at s → r ≡ take n t → r ≡ part s at n
+unfolding part
+part_of s t at n e f = f ∙ ap (take n) e
+
+-- the front of the front
+pub name_of_lem : (adn field : List ℕ) (x n : ℕ) {r : List ℕ} → field ≡ take x adn → n ≡ name_length field → r ≡ take n field → r ≡ name_of (take x adn)
+unfolding name_of
+name_of_lem adn field x n e f g = g ∙ rw (f, e)
+
+pub name_long : (field : List ℕ) (n : ℕ) → n ≡ name_length field → length field < n → is_name field ≡ false
+unfolding is_name
+name_long field n e l = rw (← e, lt-leb n (length field) l)
+
+pub name_short : (field rest : List ℕ) (n : ℕ) (b : Bool) → n ≡ name_length field → n ≤ length field → rest ≡ drop n field → b ≡ is_filled rest → b ≡ is_name field
+unfolding is_name
+name_short field rest n b e l f g = g ∙ rw (f, ← e, le-leb n (length field) l)
 
 -- ---- refusals
 
@@ -163,6 +282,10 @@ module _ (x s y t : List ℕ) (n : ℕ) (h : n ≤ length x) (k : n ≤ length y
 -- ---- the record
 
 module _ (x : ℕ) (adn : List ℕ) where
+  pub number_length_lem : (rest : List ℕ) (n : ℕ) → rest ≡ drop x adn → n ≡ first_or 0 rest → n ≡ number_length x adn
+  unfolding number_length
+  number_length_lem rest n e f = f ∙ rw e
+
   -- our record in its two parts
   pub record_parts : (s t : List ℕ) → s ≡ name_of (take x adn) → t ≡ drop x adn → s ++ t ≡ record_of x adn
   unfolding record_of

@@ -1,7 +1,7 @@
 -- Laws of the refusals that come before the file is made.
 -- Assumes nothing.
-use mathlib.Core.Path.{◌≡◌, sym, ap, ◌∙◌}
-use mathlib.Core.Bool.{true, false}
+use mathlib.Core.Path.{◌≡◌, sym, ap, ◌∙◌, refl}
+use mathlib.Core.Bool.{true, false, Bool, cond}
 use mathlib.Core.List.{List, map}
 use Prim.Native.Nat.{ℕ}
 use native.Mathlib.Omega.{arith}
@@ -10,7 +10,7 @@ use borrow.Author.Tests.{ne_eqb, eq-eqb}
 use Rattle.outcome.specs.declared.Fault.{Fault}
 use Rattle.outcome.specs.declared.Fault.TheVariants.{RecordOrder}
 use Rattle.outcome.specs.Fault.{number}
-use Rattle.outcome.specs.Outcome.{answer, refused, ◌>>=◌}
+use Rattle.outcome.specs.Outcome.{answer, refused, ◌>>=◌, Outcome}
 use Rattle.outcome.proofs.OutcomeLaws.{kept, broken, bind_answer, bind_refused, bind⁻¹, map_refused⁻¹}
 use Rattle.header.specs.Metadata.{is_metadata}
 use Rattle.payload.specs.Payload.{Text, records_at}
@@ -18,6 +18,7 @@ use Rattle.payload.specs.Answers.{counted}
 use Rattle.layout.specs.File.{counts_fit}
 use Rattle.writer.specs.Steps.{tested}
 use Rattle.writer.specs.Write.{input_refusal, refused_as, input_of, records_to_write}
+use lib.Dec.{eqb}
 
 -- ---- the records of the input
 
@@ -79,3 +80,33 @@ module _ (metadata input : List ℕ) (b i : ℕ) where
     unfolding counted
     input_refused n e =
         tested_refused (input_refusal n) (to_input ∙ input_none input n 0 (map_refused⁻¹ (records_at 0 input 0) length n 0 (sym e)))
+
+-- ---- whatever the input is
+
+-- the records, or a refusal at place 0 whose number isn't 0
+pub data Known (o : Outcome (List (List ℕ))) : Type 0 where
+  some : (rs : List (List ℕ)) → o ≡ answer rs → Known o
+  none : (n : ℕ) → (n ≡ 0 → ⊥) → o ≡ refused n 0 → Known o
+
+input_refusal_some : (n : ℕ) → input_refusal n ≡ 0 → ⊥
+unfolding input_refusal
+input_refusal_some n e = go (eqb n 16) e
+  where
+    go : (b : Bool) → ◌≡◌ {A = ℕ} (cond b 29 28) 0 → ⊥
+    go true h = omega arith
+    go false h = omega arith
+
+pub known : (metadata input : List ℕ) (b i : ℕ) → Known (records_to_write metadata input b i)
+known metadata input b i = counts (counts_fit b i) refl
+  where
+    read : counts_fit b i ≡ true → is_metadata metadata ≡ true → (o : Outcome (List Text)) → records_at 0 input 0 ≡ o → Known (records_to_write metadata input b i)
+    read h k (answer ts) e = some (map (λ r. r.bytes) ts) (to_input metadata input b i h k ∙ input_some input ts e)
+    read h k (refused n place) e = none (input_refusal n) (input_refusal_some n) (to_input metadata input b i h k ∙ input_none input n place e)
+
+    rule : counts_fit b i ≡ true → (c : Bool) → is_metadata metadata ≡ c → Known (records_to_write metadata input b i)
+    rule h true k = read h k (records_at 0 input 0) refl
+    rule h false k = none 9 (λ z. omega arith) (refused_at_9 metadata input b i h k)
+
+    counts : (c : Bool) → counts_fit b i ≡ c → Known (records_to_write metadata input b i)
+    counts true h = rule h (is_metadata metadata) refl
+    counts false h = none 30 (λ z. omega arith) (refused_at_30 metadata input b i h)
