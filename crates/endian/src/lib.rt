@@ -4,8 +4,36 @@
 // are: it is total, and a caller that wants the whole width tests the length itself.
 #![tactic(auto)]
 
-ghost use Rattle.std.specs.Prelude.{◌≡◌, take, drop};
+ghost use Rattle.std.specs.Prelude.{◌≡◌, ◌≤◌, length, take, drop};
 ghost use Rattle.endian.specs.FixedWidth.{little_endian, little_bytes, big_endian, big_bytes};
+
+// The number of at most 8 bytes, the lowest first.
+fn little(part: &[u8]) -> u64
+    requires { length part.now ≤ 8 }
+    ensures { result ≡ little_endian part.now }
+{
+    let mut value: u64 = 0;
+    let mut i = part.len();
+    while 0 < i {
+        i -= 1;
+        value = value * 256 + u64::from(part[i]);
+    }
+    value
+}
+
+// The number of at most 8 bytes, the highest first.
+fn big(part: &[u8]) -> u64
+    requires { length part.now ≤ 8 }
+    ensures { result ≡ big_endian part.now }
+{
+    let mut value: u64 = 0;
+    let mut i = 0;
+    while i < part.len() {
+        value = value * 256 + u64::from(part[i]);
+        i += 1;
+    }
+    value
+}
 
 // The first 8 bytes as a little-endian number.
 pub fn le64(bytes: &[u8]) -> u64
@@ -14,9 +42,7 @@ pub fn le64(bytes: &[u8]) -> u64
     if let Some(eight) = bytes.first_chunk() {
         return u64::from_le_bytes(*eight);
     }
-    let mut fewer = [0u8; 8];
-    fewer[..bytes.len()].copy_from_slice(bytes);
-    u64::from_le_bytes(fewer)
+    little(bytes)
 }
 
 // The 8 bytes from `at` on as a little-endian number.
@@ -33,9 +59,7 @@ fn be32(bytes: &[u8]) -> u32
     if let Some(four) = bytes.first_chunk() {
         return u32::from_be_bytes(*four);
     }
-    let mut fewer = [0u8; 4];
-    fewer[4 - bytes.len()..].copy_from_slice(bytes);
-    u32::from_be_bytes(fewer)
+    big(bytes) as u32
 }
 
 // The 4 bytes from `at` on as a big-endian number.

@@ -1,7 +1,9 @@
--- Four bytes are the first chunk; fewer have zeros in front of them.
-use Rattle.std.proofs.Common.{length, sym, ap, ◌∙◌, arith, length-take-le, take_all}
+-- Four bytes are the first chunk; fewer are lent to `big` whole, and are a number below 2 ^ 32.
+use Rattle.std.proofs.Common.{◌≤◌, ℕ, length, sym, ap, ◌∙◌, arith, length-take-le, take_all}
+use Rattle.part.proofs.BytesLaws.{bytes_of_below}
 use Rattle.endian.specs.FixedWidth.{big_endian}
-use Rattle.endian.proofs.StdLaws.{sum_through-big, big_back}
+use Rattle.endian.proofs.FixedWidthLaws.{big_endian_lt_within}
+use Rattle.endian.proofs.StdLaws.{sum_through-big}
 use Rattle.endian.proofs.be32.Goals as goal
 
 pub returns-in-Some : goal.returns-in-Some
@@ -10,9 +12,12 @@ returns-in-Some c =
     let long = ap length chunk.same ∙ length-take-le 4 c.args.bytes.now chunk.enough in
     c.from_be_bytes.ensures ∙ sum_through-big 3 c.in-Some.four.now long ∙ ap big_endian chunk.same
 
-pub returns : goal.returns
-returns c =
+pub overflow_cast-result : goal.overflow_cast-result
+overflow_cast-result c =
     let s = c.args.bytes.now in
-    let same = c.copy_from_slice.ensures.after in
-    c.from_be_bytes-2.ensures ∙ big_back 3 c.copy_from_slice.new.self (length s) (ap length same) (omega (arith, c.in_default.ensures.cases))
-    ∙ ap big_endian (same ∙ sym (take_all 4 s (omega (arith, c.in_default.ensures.cases))))
+    let bytes = bytes_of_below s (λ (k : ℕ) _. (c.type_inv.bytes k).fits) in
+    let few : length s ≤ 4 = omega (arith, c.in_default.ensures.cases) in
+    omega (arith, c.big.ensures, big_endian_lt_within 4 s bytes few)
+
+pub returns : goal.returns
+returns c = c.big.ensures ∙ ap big_endian (sym (take_all 4 c.args.bytes.now (omega (arith, c.in_default.ensures.cases))))

@@ -1,7 +1,7 @@
--- Eight bytes are the first chunk; fewer have zeros after them.
-use Rattle.std.proofs.Common.{List, ℕ, length, take, sym, ap, ◌∙◌, arith, length-take, take_all}
+-- Eight bytes are the first chunk; fewer are lent to `little` whole.
+use Rattle.std.proofs.Common.{List, ℕ, take, sym, ap, ◌∙◌, arith, length-take, take_all}
 use Rattle.endian.specs.FixedWidth.{little_endian}
-use Rattle.endian.proofs.StdLaws.{sum_through-little, little_front}
+use Rattle.endian.proofs.StdLaws.{sum_through-little}
 use Rattle.endian.proofs.le64.Goals as goal
 
 pub returns-in-Some : goal.returns-in-Some
@@ -12,8 +12,4 @@ returns-in-Some c =
     ∙ ap (λ (l : List ℕ). little_endian (take 8 l)) chunk.same ∙ ap little_endian (take_all 8 (take 8 s) (omega (arith, length-take 8 s)))
 
 pub returns : goal.returns
-returns c =
-    let s = c.args.bytes.now in
-    let same = c.copy_from_slice.ensures.after in
-    c.from_le_bytes-2.ensures ∙ little_front 7 c.copy_from_slice.new.self (length s) (ap length same) (omega (arith, c.in_default.ensures.cases))
-    ∙ ap little_endian (same ∙ sym (take_all 8 s (omega (arith, c.in_default.ensures.cases))))
+returns c = c.little.ensures ∙ ap little_endian (sym (take_all 8 c.args.bytes.now (omega (arith, c.in_default.ensures.cases))))
