@@ -86,13 +86,11 @@ fn agreement(x: &[u8], y: &[u8]) -> usize
     ensures { result ≡ agreeing x.now y.now }
 {
     let both = x.len().min(y.len());
-    if 0 < both {
-        if x[0] != y[0] {
-            return 0;
-        }
-        if both < 8 {
-            return agreement_by_bytes(x, y);
-        }
+    if 0 < both && x[0] != y[0] {
+        return 0;
+    }
+    if both < 8 {
+        return agreement_by_bytes(x, y);
     }
     agreement_by_eights(x, y)
 }
