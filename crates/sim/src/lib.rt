@@ -21,7 +21,12 @@ const MAX_NUMBER: u8 = 11;
 pub fn is_filled(s: &[u8]) -> bool
     ensures { result ≡ is_filled s.now }
 {
-    s.iter().all(|b| *b == 255)
+    for i in 0..s.len() {
+        if s[i] != 255 {
+            return false;
+        }
+    }
+    true
 }
 
 // How many bytes the pairs take that stand before the first pair FF FF.
