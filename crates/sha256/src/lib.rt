@@ -46,9 +46,14 @@ fn filled(kept: [u8; 64], fill: usize, piece: &[u8]) -> [u8; 64]
     requires { fill + length piece.now ≤ 64 }
     ensures { result ≡ take fill kept ++ (piece.now ++ replicate (64 - (fill + length piece.now)) 0) }
 {
-    let mut out = [0u8; 64];
-    out[..fill].copy_from_slice(&kept[..fill]);
-    out[fill..fill + piece.len()].copy_from_slice(piece);
+    let mut out = kept;
+    for i in 0..64 - fill {
+        if i < piece.len() {
+            out[fill + i] = piece[i];
+        } else {
+            out[fill + i] = 0;
+        }
+    }
     out
 }
 
