@@ -3,10 +3,8 @@
 // `compare` is the one comparison: it answers the sign and how many leading bytes agree, and every yes or no is taken of that answer.
 #![tactic(auto)]
 
-ghost use Rattle.std.specs.Prelude.{◌≡◌, ◌==◌, length, take_while, zip};
+ghost use Rattle.std.specs.Prelude.{◌+◌, ◌≤◌, ◌≡◌, length, drop};
 ghost use Rattle.byte_string.specs.Order.{agreeing, comparison, says_less, says_at_most, says_equal, says_begins};
-
-use std::cmp::Ordering;
 
 // A byte string x compared with another, y.
 #[derive(Clone, Copy)]
@@ -58,41 +56,54 @@ fn agreement_of_eight(x: &[u8], y: &[u8]) -> usize
     u64::trailing_zeros(endian::le64(x) ^ endian::le64(y)) as usize / 8
 }
 
-// How many leading bytes agree, looked at one by one.
-fn agreement_by_bytes(x: &[u8], y: &[u8]) -> usize
-    ensures { result ≡ length (take_while (λ p. p.0 == p.1) (zip x.now y.now)) }
+// How many leading bytes agree, where the first `from` do.
+fn agreement_by_bytes(x: &[u8], y: &[u8], from: usize) -> usize
+    requires { agreeing x.now y.now ≡ from + agreeing (drop from x.now) (drop from y.now) }
+    ensures { result ≡ agreeing x.now y.now }
 {
-    x.iter().zip(y).take_while(|(a, b)| **a == **b).count()
+    let mut n = from;
+    while n < x.len() {
+        if y.len() <= n {
+            return n;
+        }
+        if x[n] != y[n] {
+            return n;
+        }
+        n += 1;
+    }
+    n
 }
 
-// How many leading bytes agree, by eights while both have eight more.
-fn agreement_by_eights(x: &[u8], y: &[u8]) -> usize
+// How many leading bytes agree, by eights while both have eight more. Both have at least `both` bytes.
+fn agreement_by_eights(x: &[u8], y: &[u8], both: usize) -> usize
+    requires { (both ≤ length x.now) × (both ≤ length y.now) }
     ensures { result ≡ agreeing x.now y.now }
 {
     let mut n = 0;
-    for (a, b) in x.chunks_exact(8).zip(y.chunks_exact(8)) {
-        let more = agreement_of_eight(a, b);
+    while 8 <= both - n {
+        let more = agreement_of_eight(&x[n..n + 8], &y[n..n + 8]);
         if more < 8 {
             return n + more;
         }
         n += 8;
     }
-    n + agreement_by_bytes(&x[n..], &y[n..])
+    agreement_by_bytes(x, y, n)
 }
 
 // How many leading bytes agree. Often it is none, so that the first byte is looked at alone; fewer than eight bytes go one by one.
-#[tactic(auto, using(crate::proofs::AgreeingLaws::agreeing_counted))]
 fn agreement(x: &[u8], y: &[u8]) -> usize
     ensures { result ≡ agreeing x.now y.now }
 {
     let both = x.len().min(y.len());
-    if 0 < both && x[0] != y[0] {
-        return 0;
+    if 0 < both {
+        if x[0] != y[0] {
+            return 0;
+        }
+        if both < 8 {
+            return agreement_by_bytes(x, y, 1);
+        }
     }
-    if both < 8 {
-        return agreement_by_bytes(x, y);
-    }
-    agreement_by_eights(x, y)
+    agreement_by_eights(x, y, both)
 }
 
 // Compares x with y.
@@ -100,10 +111,17 @@ pub fn compare(x: &[u8], y: &[u8]) -> Comparison
     ensures { result ≡ comparison x.now y.now }
 {
     let agreeing = agreement(x, y);
-    let sign = match x.get(agreeing).cmp(&y.get(agreeing)) {
-        Ordering::Less => -1,
-        Ordering::Equal => 0,
-        Ordering::Greater => 1,
-    };
-    Comparison { sign, agreeing }
+    if x.len() <= agreeing {
+        if y.len() <= agreeing {
+            return Comparison { sign: 0, agreeing };
+        }
+        return Comparison { sign: -1, agreeing };
+    }
+    if y.len() <= agreeing {
+        return Comparison { sign: 1, agreeing };
+    }
+    if x[agreeing] < y[agreeing] {
+        return Comparison { sign: -1, agreeing };
+    }
+    Comparison { sign: 1, agreeing }
 }

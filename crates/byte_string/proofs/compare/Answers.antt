@@ -1,36 +1,36 @@
--- `compare` meets its contract: what stands in each at the place at which they part decides, and a string that has ended there comes first.
+-- `compare` meets its contract. Each answer is one law of the place at which x and y part: both end there, one ends, or the bytes there decide.
 -- Assumes nothing.
-use native.Mathlib.Omega.{arith}
-use mathlib.Core.Path.{sym, ◌∙◌}
-use Rattle.std.proofs.Common.{Less, Equal, Greater}
 use Rattle.byte_string.specs.Order.{signed}
-use Rattle.byte_string.proofs.AgreeingLaws.{order_there}
+use Rattle.byte_string.proofs.AgreeingLaws.{order_both_ended, order_left_ended, order_right_ended, order_parted_below, order_parted_above}
 use Rattle.byte_string.proofs.ComparisonLaws.{comparison_of_lem}
 use Rattle.byte_string.proofs.compare.Goals as goal
 
-pub returns-in-Less : goal.returns-in-Less
+pub returns-then-y-agreeing : goal.returns-then-y-agreeing
 unfolding signed
-returns-in-Less c =
-    let x = c.get.ensures.lookup in
-    let y = c.get-2.ensures.lookup in
-    let there =
-    order_there c.args.x.now c.args.y.now _ c.agreement-agreeing.ensures _ _ x.0 y.0 (x.4 (omega arith) 0) (y.4 (omega arith) 0) in
-    comparison_of_lem _ _ _ Less c.agreement-agreeing.ensures (sym there ∙ sym c.cmp.ensures ∙ c.in-Less.is)
+returns-then-y-agreeing c =
+    comparison_of_lem _ _ _ _ c.agreement-agreeing.ensures (order_both_ended _ _ _ c.agreement-agreeing.ensures c.if-x-agreeing.true
+    c.if-y-agreeing.true)
 
-pub returns-in-Equal : goal.returns-in-Equal
+pub returns-then-x-agreeing : goal.returns-then-x-agreeing
 unfolding signed
-returns-in-Equal c =
-    let x = c.get.ensures.lookup in
-    let y = c.get-2.ensures.lookup in
-    let there =
-    order_there c.args.x.now c.args.y.now _ c.agreement-agreeing.ensures _ _ x.0 y.0 (x.4 (omega arith) 0) (y.4 (omega arith) 0) in
-    comparison_of_lem _ _ _ Equal c.agreement-agreeing.ensures (sym there ∙ sym c.cmp.ensures ∙ c.in-Equal.is)
+returns-then-x-agreeing c =
+    comparison_of_lem _ _ _ _ c.agreement-agreeing.ensures (order_left_ended _ _ _ c.agreement-agreeing.ensures c.if-x-agreeing.true
+    c.if-y-agreeing.false)
 
-pub returns-in-Greater : goal.returns-in-Greater
+pub returns-then-y-agreeing-2 : goal.returns-then-y-agreeing-2
 unfolding signed
-returns-in-Greater c =
-    let x = c.get.ensures.lookup in
-    let y = c.get-2.ensures.lookup in
-    let there =
-    order_there c.args.x.now c.args.y.now _ c.agreement-agreeing.ensures _ _ x.0 y.0 (x.4 (omega arith) 0) (y.4 (omega arith) 0) in
-    comparison_of_lem _ _ _ Greater c.agreement-agreeing.ensures (sym there ∙ sym c.cmp.ensures ∙ c.in-Greater.is)
+returns-then-y-agreeing-2 c =
+    comparison_of_lem _ _ _ _ c.agreement-agreeing.ensures (order_right_ended _ _ _ c.agreement-agreeing.ensures c.if-x-agreeing.false
+    c.if-y-agreeing-2.true)
+
+pub returns-then-x-agreeing-2 : goal.returns-then-x-agreeing-2
+unfolding signed
+returns-then-x-agreeing-2 c =
+    comparison_of_lem _ _ _ _ c.agreement-agreeing.ensures (order_parted_below _ _ _ c.agreement-agreeing.ensures c.if-x-agreeing.false
+    c.if-y-agreeing-2.false c.if-x-agreeing-2.true)
+
+pub returns : goal.returns
+unfolding signed
+returns c =
+    comparison_of_lem _ _ _ _ c.agreement-agreeing.ensures (order_parted_above _ _ _ c.agreement-agreeing.ensures c.if-x-agreeing.false
+    c.if-y-agreeing-2.false c.if-x-agreeing-2.false)
