@@ -1,4 +1,3 @@
-use Prim.Native.Nat.{◌-◌}
 use native.Mathlib.Omega.{arith}
 use Rattle.byte_string.proofs.AgreeingLaws.{agreed_more, agreed_left_ended, agreed_right_ended, agreed_differ}
 use Rattle.byte_string.proofs.agreement_by_bytes.Goals as goal
