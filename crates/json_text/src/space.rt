@@ -7,7 +7,7 @@ ghost use Rattle.json_text.specs.Answers.{left};
 fn is_space(b: u8) -> bool
     ensures { result ≡ is_space b }
 {
-    matches!(b, b' ' | b'\t' | b'\n' | b'\r')
+    b == b' ' || b == b'\t' || b == b'\n' || b == b'\r'
 }
 
 // What is left after the bytes at the front that pass a test.
