@@ -36,10 +36,11 @@ loop-at-smaller g c = let i = c.in_ok-next.ensures in let forward = i.forward in
 pub loop-at-preserved : goal.loop-at-preserved
 unfolding ItemRead
 loop-at-preserved g c =
-    let i = c.in_ok-next.ensures in
-    (i.inside,
-    scanned_more g.T.Item.step_at g.T.Item.text_of c.args.s.now c.args.from _ _ _ _ c.loop-at.invariant.1 c.loop-at-test.true i.item _ _
-    i.read i.bytes i.forward i.within _ c.still_rising-rising.ensures)
+    let i = c.in_ok-next.ensures in (
+      i.inside,
+      scanned_more g.T.Item.step_at g.T.Item.text_of c.args.s.now c.args.from _ _ _ _ c.loop-at.invariant.1 c.loop-at-test.true i.item _ _
+          i.read i.bytes i.forward i.within _ c.still_rising-rising.ensures,
+    )
 
 pub returns-then-rising : goal.returns-then-rising
 unfolding said_at
