@@ -1,6 +1,6 @@
 -- The laws of `agreeing`: where two lists part, and what the answers are by what stands there.
 -- Assumes nothing.
-use Prim.Native.Nat.{ℕ, zero, suc, ◌+◌, ◌-◌, ◌≤◌, ◌<◌, zero-le, suc-le-suc}
+use Prim.Native.Nat.{ℕ, zero, suc, min, ◌+◌, ◌-◌, ◌≤◌, ◌<◌, zero-le, suc-le-suc}
 use native.Mathlib.Nat.{zero-add, not-suc-le-zero}
 use native.Mathlib.Numerals.{add-one}
 use native.Mathlib.Omega.{arith}
@@ -116,6 +116,13 @@ agreeing_step : (x y : List ℕ) (n : ℕ) → n < length x → n < length y →
     → agreeing (drop n x) (drop n y) ≡ suc (agreeing (drop (suc n) x) (drop (suc n) y))
 agreeing_step x y n h k s = rw (drop-cons x n 0 h, drop-cons y n 0 k) (agreeing-same _ _ _ _ s)
 
+-- whether a list has ended, by a test
+pub ended : (x : List ℕ) (n : ℕ) → false ≡ ltb n (length x) → length x ≤ n
+ended x n e = grind (arith, nat_tests)
+
+pub not_ended : (x : List ℕ) (n : ℕ) → true ≡ ltb n (length x) → n < length x
+not_ended x n e = grind (arith, nat_tests)
+
 -- The answers, with n the place at which x and y part.
 
 module _ (x y : List ℕ) (n : ℕ) (e : n ≡ agreeing x y) where
@@ -188,6 +195,10 @@ Agreed x y n = agreeing x y ≡ n + agreeing (drop n x) (drop n y)
 pub agreed_none : (x y : List ℕ) → Agreed x y 0
 agreed_none x y = sym (zero-add (agreeing x y))
 
+-- so many, by another formula
+pub agreed_at : (x y : List ℕ) (n m : ℕ) → n ≡ m → Agreed x y n → Agreed x y m
+agreed_at x y n m s i = rw s at i
+
 pub agreed_more : (x y : List ℕ) (n : ℕ) → n < length x → n < length y → get_or x n 0 ≡ get_or y n 0 → Agreed x y n → Agreed x y (n + 1)
 agreed_more x y n h k s i = rw (add-one n) (omega (arith, agreeing_step x y n h k s))
 
@@ -203,6 +214,10 @@ agreed_right_ended x y n h = agreed_end x y n (rw (drop_of_length-le y h) (agree
 
 pub agreed_differ : (x y : List ℕ) (n : ℕ) → n < length x → n < length y → (get_or x n 0 ≡ get_or y n 0 → ⊥) → Agreed x y n → n ≡ agreeing x y
 agreed_differ x y n h k d = agreed_end x y n (rw (drop-cons x n 0 h, drop-cons y n 0 k) (agreeing_differ _ _ _ _ d))
+
+-- or with the shorter
+pub agreed_both : (x y : List ℕ) (both n : ℕ) → both ≡ min (length x) (length y) → both ≤ n → Agreed x y n → both ≡ agreeing x y
+agreed_both x y both n e h i = omega (arith, agreeing-length_left x y, agreeing-length_right x y)
 
 -- A front of each: where the fronts part, the lists do; where the fronts agree throughout, so far the lists do.
 
@@ -241,6 +256,15 @@ agreed_parted x y n m k e h i = omega (arith, front_parted m (drop n x) (drop n 
 pub agreed_front : (x y : List ℕ) (n m k : ℕ) → k ≡ agreeing (take m (drop n x)) (take m (drop n y)) → m ≤ k → Agreed x y n
     → (next : ℕ) → next ≡ n + m → Agreed x y next
 agreed_front x y n m k e h i next s = rw (s, ← drop-drop m n x, ← drop-drop m n y) (omega (arith, front_agreed m (drop n x) (drop n y) (rw e at h)))
+
+-- The loop by eights: the next ones are slices, of which the first k agree.
+
+module _ (x y : List ℕ) (n k : ℕ) (e : k ≡ agreeing (take (n + 8 - n) (drop n x)) (take (n + 8 - n) (drop n y))) (i : Agreed x y n) where
+  pub eight_parted : k < 8 → n + k ≡ agreeing x y
+  eight_parted h = agreed_parted x y n (n + 8 - n) k e (omega arith) i
+
+  pub eight_agreed : 8 ≤ k → (next : ℕ) → next ≡ n + 8 → Agreed x y next
+  eight_agreed h next s = agreed_front x y n (n + 8 - n) k e (omega arith) i next (omega arith)
 
 -- The loop by chunks of eight: the next ones are a and b, of which the first k agree.
 
@@ -283,10 +307,14 @@ pub agreeing_counted : (x y : List ℕ) → length (take_while (λ p. p.0 == p.1
 agreeing_counted x y = length-prefix_len (λ p. p.0 == p.1) (zip x y) ∙ agreeing_pairs x y
 
 -- the rests of both behind n elements that agree, as slices
-pub agreeing_rest : (x y : List ℕ) (n k : ℕ)
-    → k ≡ length (take_while (λ p. p.0 == p.1) (zip (take (length x - n) (drop n x)) (take (length y - n) (drop n y)))) → Agreed x y n → n + k ≡ agreeing x y
-agreeing_rest x y n k e i =
+pub agreed_rest : (x y : List ℕ) (n k : ℕ) → k ≡ agreeing (take (length x - n) (drop n x)) (take (length y - n) (drop n y))
+    → Agreed x y n → n + k ≡ agreeing x y
+agreed_rest x y n k e i =
     let rest-x : take (length x - n) (drop n x) ≡ drop n x = take_all _ _ (simp length-drop (omega arith)) in
     let rest-y : take (length y - n) (drop n y) ≡ drop n y = take_all _ _ (simp length-drop (omega arith)) in
-    let whole : k ≡ agreeing (drop n x) (drop n y) = e ∙ rw (rest-x, rest-y) (agreeing_counted (drop n x) (drop n y)) in
+    let whole : k ≡ agreeing (drop n x) (drop n y) = e ∙ rw (rest-x, rest-y) refl in
     omega arith
+
+pub agreeing_rest : (x y : List ℕ) (n k : ℕ)
+    → k ≡ length (take_while (λ p. p.0 == p.1) (zip (take (length x - n) (drop n x)) (take (length y - n) (drop n y)))) → Agreed x y n → n + k ≡ agreeing x y
+agreeing_rest x y n k e i = agreed_rest x y n k (e ∙ agreeing_counted _ _) i

@@ -1,12 +1,12 @@
 -- The laws of `comparison`: how it is found, and what it says.
 -- Assumes nothing.
-use Prim.Native.Nat.{ℕ}
+use Prim.Native.Nat.{ℕ, ◌≤◌, ◌<◌}
 use mathlib.Core.Path.{◌≡◌, refl, sym, ap, ◌∙◌}
 use mathlib.Core.Bool.{true, not, ◌&&◌}
 use mathlib.Core.List.{List}
 use lib.Dec.{leb}
-use lib.IntN.{pos}
-use lib.ListN.{length}
+use lib.IntN.{pos, negsuc}
+use lib.ListN.{length, get_or}
 use lib.Signed.{lt_z, le_z}
 use Rattle.std.proofs.Common.{Ordering, Less, Equal, Greater}
 use Rattle.std.specs.Ordering.{is_lt, is_le}
@@ -14,12 +14,22 @@ use Rattle.byte_string.specs.declared.Comparison.{Comparison}
 use Rattle.byte_string.specs.Order.{order, signed, less, at_most, begins, agreeing}
 use Rattle.byte_string.specs.Order.{comparison, says_less, says_at_most, says_equal, says_begins}
 use Rattle.byte_string.proofs.OrderLaws.{order_refl, order_eq}
-use Rattle.byte_string.proofs.AgreeingLaws.{agreeing_comm, begins-agreeing}
+use Rattle.byte_string.proofs.AgreeingLaws.{agreeing_comm, begins-agreeing, order_parted_below, order_parted_above}
 
 -- with n the place at which x and y part, and o how they compare
 pub comparison_of_lem : (x y : List ℕ) (n : ℕ) (o : Ordering) → n ≡ agreeing x y → order x y ≡ o → record { sign = signed o; agreeing = n } ≡ comparison x y
 unfolding comparison
 comparison_of_lem x y n o e f = rw (e, f)
+
+-- where neither has ended, by the bytes there
+module _ (x y : List ℕ) (n : ℕ) (e : n ≡ agreeing x y) (h : n < length x) (k : n < length y) where
+  pub comparison_below : get_or x n 0 < get_or y n 0 → record { sign = negsuc 0; agreeing = n } ≡ comparison x y
+  unfolding signed
+  comparison_below s = comparison_of_lem x y n Less e (order_parted_below x y n e h k s)
+
+  pub comparison_above : get_or y n 0 ≤ get_or x n 0 → record { sign = pos 1; agreeing = n } ≡ comparison x y
+  unfolding signed
+  comparison_above s = comparison_of_lem x y n Greater e (order_parted_above x y n e h k s)
 
 -- What a comparison c of x with y says.
 

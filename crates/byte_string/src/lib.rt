@@ -3,7 +3,7 @@
 // `compare` is the one comparison: it answers the sign and how many leading bytes agree, and every yes or no is taken of that answer.
 #![tactic(auto)]
 
-ghost use Rattle.std.specs.Prelude.{◌+◌, ◌≤◌, ◌≡◌, length, drop};
+ghost use Rattle.std.specs.Prelude.{◌+◌, ◌≤◌, ◌≡◌, min, length, drop};
 ghost use Rattle.byte_string.specs.Order.{agreeing, comparison, says_less, says_at_most, says_equal, says_begins};
 
 // A byte string x compared with another, y.
@@ -56,38 +56,32 @@ fn agreement_of_eight(x: &[u8], y: &[u8]) -> usize
     u64::trailing_zeros(endian::le64(x) ^ endian::le64(y)) as usize / 8
 }
 
-// How many leading bytes agree, where the first `from` do.
-fn agreement_by_bytes(x: &[u8], y: &[u8], from: usize) -> usize
-    requires { agreeing x.now y.now ≡ from + agreeing (drop from x.now) (drop from y.now) }
+// How many leading bytes agree, where the first `from` do, looked at one by one. `both` is the lesser length.
+fn agreement_by_bytes(x: &[u8], y: &[u8], from: usize, both: usize) -> usize
+    requires { (from ≤ both) × (both ≡ min (length x.now) (length y.now)) × (agreeing x.now y.now ≡ from + agreeing (drop from x.now) (drop from y.now)) }
     ensures { result ≡ agreeing x.now y.now }
 {
-    let mut n = from;
-    while n < x.len() {
-        if y.len() <= n {
-            return n;
-        }
+    for n in from..both {
         if x[n] != y[n] {
             return n;
         }
-        n += 1;
     }
-    n
+    both
 }
 
-// How many leading bytes agree, by eights while both have eight more. Both have at least `both` bytes.
+// How many leading bytes agree, by eights while both have eight more. `both` is the lesser length.
 fn agreement_by_eights(x: &[u8], y: &[u8], both: usize) -> usize
-    requires { (both ≤ length x.now) × (both ≤ length y.now) }
+    requires { both ≡ min (length x.now) (length y.now) }
     ensures { result ≡ agreeing x.now y.now }
 {
-    let mut n = 0;
-    while 8 <= both - n {
+    for k in 0..both / 8 {
+        let n = 8 * k;
         let more = agreement_of_eight(&x[n..n + 8], &y[n..n + 8]);
         if more < 8 {
             return n + more;
         }
-        n += 8;
     }
-    agreement_by_bytes(x, y, n)
+    agreement_by_bytes(x, y, both / 8 * 8, both)
 }
 
 // How many leading bytes agree. Often it is none, so that the first byte is looked at alone; fewer than eight bytes go one by one.
@@ -100,28 +94,23 @@ fn agreement(x: &[u8], y: &[u8]) -> usize
             return 0;
         }
         if both < 8 {
-            return agreement_by_bytes(x, y, 1);
+            return agreement_by_bytes(x, y, 1, both);
         }
     }
     agreement_by_eights(x, y, both)
 }
 
 // Compares x with y.
+#[tactic(auto, using(crate::proofs::ComparisonLaws::comparison_below, crate::proofs::ComparisonLaws::comparison_above))]
 pub fn compare(x: &[u8], y: &[u8]) -> Comparison
     ensures { result ≡ comparison x.now y.now }
 {
     let agreeing = agreement(x, y);
-    if x.len() <= agreeing {
-        if y.len() <= agreeing {
-            return Comparison { sign: 0, agreeing };
-        }
-        return Comparison { sign: -1, agreeing };
-    }
-    if y.len() <= agreeing {
-        return Comparison { sign: 1, agreeing };
-    }
-    if x[agreeing] < y[agreeing] {
-        return Comparison { sign: -1, agreeing };
-    }
-    Comparison { sign: 1, agreeing }
+    let sign = match (x.get(agreeing), y.get(agreeing)) {
+        (None, None) => 0,
+        (None, Some(_)) => -1,
+        (Some(_), None) => 1,
+        (Some(a), Some(b)) => if *a < *b { -1 } else { 1 },
+    };
+    Comparison { sign, agreeing }
 }

@@ -8,4 +8,4 @@ returns-then-x-y c = agreed_differ _ _ 0 (omega arith) (omega arith) c.if-x-y.tr
 
 -- and where they are the same, one does
 pub agreement_by_bytes-requires : goal.agreement_by_bytes-requires
-agreement_by_bytes-requires c = agreed_more _ _ 0 (omega arith) (omega arith) c.if-x-y.false (agreed_none _ _)
+agreement_by_bytes-requires c = (omega arith, omega arith, agreed_more _ _ 0 (omega arith) (omega arith) c.if-x-y.false (agreed_none _ _))

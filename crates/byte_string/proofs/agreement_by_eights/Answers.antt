@@ -1,22 +1,22 @@
-use Prim.Native.Nat.{◌+◌, ◌-◌}
+use Prim.Native.Nat.{◌*◌}
 use native.Mathlib.Omega.{arith}
 use lib.ListN.{length-take, length-drop}
-use Rattle.byte_string.proofs.AgreeingLaws.{agreed_none, agreed_parted, agreed_front}
+use Rattle.byte_string.proofs.AgreeingLaws.{agreed_none, agreed_at, eight_parted, eight_agreed}
 use Rattle.byte_string.proofs.agreement_by_eights.Goals as goal
 
-pub loop-n-init : goal.loop-n-init
-loop-n-init c = (omega arith, agreed_none _ _)
+pub loop-k-init : goal.loop-k-init
+loop-k-init c = agreed_none _ _
 
 pub agreement_of_eight-more-requires : goal.agreement_of_eight-more-requires
 agreement_of_eight-more-requires c = (rw (length-take, length-drop) (omega arith), rw (length-take, length-drop) (omega arith))
 
 pub returns-then-more-lt8 : goal.returns-then-more-lt8
 returns-then-more-lt8 c =
-    agreed_parted _ _ c.loop-n.n (c.loop-n.n + 8 - c.loop-n.n) _ c.agreement_of_eight-more.ensures (omega arith) c.loop-n.invariant.1
+    eight_parted _ _ _ _ c.agreement_of_eight-more.ensures (agreed_at _ _ _ _ (omega arith) c.loop-k.invariant) (omega arith)
 
-pub loop-n-preserved : goal.loop-n-preserved
-loop-n-preserved c = (
-  omega arith,
-  agreed_front _ _ c.loop-n.n (c.loop-n.n + 8 - c.loop-n.n) _ c.agreement_of_eight-more.ensures
-      (omega arith) c.loop-n.invariant.1 _ (omega arith),
-)
+pub loop-k-preserved : goal.loop-k-preserved
+loop-k-preserved c =
+    eight_agreed _ _ (8 * c.loop-k.k) _ c.agreement_of_eight-more.ensures c.loop-k.invariant (omega arith) _ (omega arith)
+
+pub agreement_by_bytes-requires : goal.agreement_by_bytes-requires
+agreement_by_bytes-requires c = (omega arith, c.requires, agreed_at _ _ _ _ (omega arith) c.loop-k.invariant)
