@@ -1,6 +1,8 @@
-use Rattle.std.proofs.Common.{◌∙◌}
+-- std's bytes of the operand, whose value is the word's.
+use Rattle.std.proofs.Common.{ap, ◌∙◌, arith}
+use Rattle.endian.specs.FixedWidth.{big_bytes}
 use Rattle.endian.proofs.StdLaws.{bytes_high_first-big}
 use Rattle.endian.proofs.be32_bytes.Goals as goal
 
 pub returns : goal.returns
-returns c = c.to_be_bytes.ensures ∙ bytes_high_first-big 4 c.args.word
+returns c = c.to_be_bytes.ensures ∙ bytes_high_first-big 4 _ ∙ ap (big_bytes 4) (omega arith)

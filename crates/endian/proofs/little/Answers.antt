@@ -1,8 +1,7 @@
-use mathlib.Core.Path.{ap, ◌∙◌}
+use mathlib.Core.Path.{◌≡◌, ap, ◌∙◌}
 use Prim.Native.Nat.{ℕ, ◌<◌, ◌-◌, ◌^◌}
 use native.Mathlib.Omega.{arith}
 use native.Mathlib.Nat.{le_refl}
-use lib.Arith.{le-zero}
 use lib.ListN.{length, drop, drop_of_length-le}
 use Rattle.part.proofs.BytesLaws.{bytes_of_below}
 use Rattle.endian.specs.FixedWidth.{little_endian}
@@ -33,11 +32,12 @@ loop-i-preserved c = (
   omega arith,
   omega (
     arith,
-    little_endian-drop-less c.args.part.now c.loop-i.i c.loop-i-test.true
+    little_endian-drop-less c.args.part.now c.loop-i.i (omega arith)
         c.loop-i.invariant.0,
   ),
 )
 
 pub returns : goal.returns
 returns c =
-    c.loop-i.invariant.1 ∙ ap (λ (i : ℕ). little_endian (drop i c.args.part.now)) (le-zero c.loop-i-test.false)
+    let all_read : c.loop-i.i ≡ 0 = omega arith in
+    c.loop-i.invariant.1 ∙ ap (λ (i : ℕ). little_endian (drop i c.args.part.now)) all_read
