@@ -59,7 +59,10 @@ module _ (root rootsize : ℕ) (f : Frame) where
 
 pub ordinary_more : (bs : List Block) (b : Block) → length (ordinary (bs ++ (b ∷ []))) ≡ length (ordinary bs) + from_bool (is_ordinary b.frame.level)
 unfolding ordinary keep
-ordinary_more bs b = ap length (keep_append (λ c. is_ordinary c.frame.level) bs (b ∷ [])) ∙ length-append (ordinary bs) _ ∙ ap (λ (n : ℕ). length (ordinary bs) + n) (one (is_ordinary b.frame.level))
+ordinary_more bs b =
+    ap length (keep_append (λ c. is_ordinary c.frame.level) bs (b ∷ []))
+    ∙ length-append (ordinary bs) _
+    ∙ ap (λ (n : ℕ). length (ordinary bs) + n) (one (is_ordinary b.frame.level))
   where
     one : (c : Bool) → length (cond c (b ∷ []) []) ≡ from_bool c
     one true = refl
@@ -67,11 +70,17 @@ ordinary_more bs b = ap length (keep_append (λ c. is_ordinary c.frame.level) bs
 
 pub records_more : (bs : List Block) (b : Block) → length (records_of (bs ++ (b ∷ []))) ≡ length (records_of bs) + length b.records
 unfolding records_of flat_map
-records_more bs b = ap length (flat_map_append (λ c. c.records) bs (b ∷ [])) ∙ length-append (records_of bs) _ ∙ ap (λ (l : List Text). length (records_of bs) + length l) (append-nil b.records)
+records_more bs b =
+    ap length (flat_map_append (λ c. c.records) bs (b ∷ []))
+    ∙ length-append (records_of bs) _
+    ∙ ap (λ (l : List Text). length (records_of bs) + length l) (append-nil b.records)
 
-pub root_more : (root rootsize : ℕ) (bs : List Block) (b : Block) → any (λ c. is_root root rootsize c.frame) (bs ++ (b ∷ [])) ≡ (any (λ c. is_root root rootsize c.frame) bs || is_root root rootsize b.frame)
+pub root_more : (root rootsize : ℕ) (bs : List Block) (b : Block)
+    → any (λ c. is_root root rootsize c.frame) (bs ++ (b ∷ [])) ≡ (any (λ c. is_root root rootsize c.frame) bs || is_root root rootsize b.frame)
 unfolding any
-root_more root rootsize bs b = any_append (λ c. is_root root rootsize c.frame) bs (b ∷ []) ∙ ap (λ (c : Bool). any (λ c. is_root root rootsize c.frame) bs || c) (or-false (is_root root rootsize b.frame))
+root_more root rootsize bs b =
+    any_append (λ c. is_root root rootsize c.frame) bs (b ∷ [])
+    ∙ ap (λ (c : Bool). any (λ c. is_root root rootsize c.frame) bs || c) (or-false (is_root root rootsize b.frame))
 
 pub at_most_one : (n : ℕ) (b : Bool) → n ≡ from_bool b → n ≤ 1
 at_most_one n true e = omega arith
@@ -181,7 +190,8 @@ module _ (file : List ℕ) (from root rootsize : ℕ) where
   unfolding survey_of blocks_at tallied block_step
   surveyed_refused at blocks records found p h number place e =
       bind_refused (blocks_at file from) _ number place
-      (progress_refused (block_step file) (length file) from at number place p.seen p.progress h (bind_refused (block_at file at) _ number place (map_refused⁻¹ (block_at file at) _ number place e)))
+      (progress_refused (block_step file) (length file) from at number place p.seen p.progress h
+      (bind_refused (block_at file at) _ number place (map_refused⁻¹ (block_at file at) _ number place e)))
 
   pub surveyed_end : (at blocks records : ℕ) (found : Bool) → Surveyed at blocks records found → length file ≤ at
       → survey_of file from root rootsize ≡ answer (record { blocks = blocks; records = records; root = found })
@@ -191,5 +201,7 @@ module _ (file : List ℕ) (from root rootsize : ℕ) where
       ∙ ap answer (same p.blocks_are p.records_are p.root_is)
     where
       same : blocks ≡ length (ordinary p.seen) → records ≡ length (records_of p.seen) → found ≡ any (λ b. is_root root rootsize b.frame) p.seen
-          → ◌≡◌ {A = Survey} (record { blocks = length (ordinary p.seen); records = length (records_of p.seen); root = any (λ b. is_root root rootsize b.frame) p.seen }) (record { blocks = blocks; records = records; root = found })
+          → ◌≡◌ {A = Survey}
+          (record { blocks = length (ordinary p.seen); records = length (records_of p.seen); root = any (λ b. is_root root rootsize b.frame) p.seen })
+          (record { blocks = blocks; records = records; root = found })
       same x y z = cc

@@ -10,6 +10,8 @@ use lib.ListN.{length, take}
 use lib.Seq.{length-take-le}
 use borrow.Author.Tests.{eq-eqb, ne_eqb, ltb-true, ltb-false}
 use Rattle.byte_string.specs.Order.{at_most}
+use Rattle.byte_string.proofs.OrderLaws.{less_not_at_most}
+use Rattle.byte_string.proofs.ComparisonLaws.{says_less_of, says_at_most_of}
 use Rattle.outcome.specs.Outcome.{Outcome, answer, refused}
 use Rattle.items.specs.Items.{sound_from, where_answered}
 use Rattle.items.specs.declared.Step.{Step}
@@ -29,6 +31,11 @@ use Rattle.check_walk.specs.Keys.{no_span, span_joined, span_one, span_over, fir
 use Rattle.check_walk.specs.Keys.{keys_entering, keys_of}
 use Rattle.items.proofs.GoingLaws.{Going, going_start}
 use Rattle.check_walk.proofs.LookupLaws.{end_of, payload_within, items_found, items_read}
+
+-- ---- the order of two parts
+
+-- what a comparison says of them, either way round
+pub ruleset part_order = (says_less_of, says_at_most_of, less_not_at_most)
 
 -- ---- spans
 

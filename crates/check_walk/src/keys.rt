@@ -93,7 +93,7 @@ fn span_at(file: &[u8], at: usize) -> Span
 }
 
 // Whether a byte string of the file is at most another.
-#[tactic(auto, unfolding(crate::specs::Lookup::bytes_in))]
+#[tactic(auto, unfolding(crate::specs::Lookup::bytes_in), using(crate::proofs::KeyLaws::part_order))]
 fn part_at_most(file: &[u8], x: Part, y: Part) -> bool
     requires { (x.offset + x.length ≤ length file.now) × (y.offset + y.length ≤ length file.now) }
     ensures { result ≡ at_most (bytes_in file.now x) (bytes_in file.now y) }

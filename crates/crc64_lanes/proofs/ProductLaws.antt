@@ -191,10 +191,16 @@ module _ (count k left r : ℕ) (done : Powered count k left r) (below : k < 25)
         holds = e ∙ done.holds ∙ ap (λ (g : ℕ). shifted (64 * g)) same;
       }
 
-pub powered_all : (count k left r : ℕ) → Powered count k left r → 25 ≤ k → r ≡ shifted (64 * count)
+-- where none are to come, the whole power is made
+pub powered_all : (count k left r : ℕ) → Powered count k left r → left ≤ 0 → r ≡ shifted (64 * count)
 powered_all count k left r done h =
-    let gone : 25 - k ≡ 0 = omega (arith, done.within) in
-    let few : left < 1 = rw gone at done.small in
     let none : left ≡ 0 = omega arith in
     let all : done.gone ≡ count = omega (arith, rw none at done.sum, zero-mul (2 ^ k)) in
     done.holds ∙ ap (λ (g : ℕ). shifted (64 * g)) all
+
+-- none are to come behind the last power
+pub powered_end : (count k left r : ℕ) → Powered count k left r → 25 ≤ k → r ≡ shifted (64 * count)
+powered_end count k left r done h =
+    let gone : 25 - k ≡ 0 = omega (arith, done.within) in
+    let few : left < 1 = rw gone at done.small in
+    powered_all count k left r done (omega arith)

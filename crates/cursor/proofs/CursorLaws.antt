@@ -80,12 +80,15 @@ module _ (file : List ℕ) where
   unfolding following records_from sound_from
   follow_start from = refl
 
-  -- only the bytes before the file's end count
-  pub follow_cut : (c : Cursor) (limit : ℕ) → limit ≡ min c.end (length file)
-      → (limit ≤ length file) × (following file (record c { end = limit }) ≡ following file c)
+  -- only the bytes before the end count
+  pub follow_cut : (at end limit block : ℕ) → take limit file ≡ take end file → follow at limit block ≡ follow at end block
   unfolding following
-  follow_cut c limit e =
-      (omega arith, ap (λ (s : List ℕ). records_from 0 s c.at ++ records_of (laid_from file c.block)) (go (leb c.end (length file)) refl))
+  follow_cut at end limit block e = ap (λ (s : List ℕ). records_from 0 s at ++ records_of (laid_from file block)) e
+
+  -- so the end may be the file's, where that comes first
+  pub follow_within : (c : Cursor) (limit : ℕ) → limit ≡ min c.end (length file)
+      → (limit ≤ length file) × (following file (record c { end = limit }) ≡ following file c)
+  follow_within c limit e = (omega arith, follow_cut c.at c.end limit c.block (go (leb c.end (length file)) refl))
     where
       go : (b : Bool) → leb c.end (length file) ≡ b → take limit file ≡ take c.end file
       go true h = let few = leb-true c.end (length file) h in let is : limit ≡ c.end = omega arith in rw is

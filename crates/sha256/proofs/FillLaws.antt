@@ -1,7 +1,9 @@
 -- Laws of an array that is filled from an index on, byte after byte: `paste d at s n` of the library is d, with the n
 -- elements from at on replaced by the first n of s; and of the padding, an array of zeros that the bits are copied into.
 -- Assumes nothing.
-use Rattle.std.proofs.Common.{◌≡◌, ℕ, ◌+◌, ◌-◌, ◌*◌, ◌%◌, ◌^◌, ◌<◌, ◌≤◌, List, ◌∷◌, ◌++◌, length, get_or, take, set, replicate, sym, refl, ap, ◌∙◌, append-nil, add-sub_of_le, add-one, one-add, arith, length-append, drop_of_length-le, get_or-append-add}
+use Rattle.std.proofs.Common.{◌≡◌, ℕ, ◌+◌, ◌-◌, ◌*◌, ◌%◌, ◌^◌, ◌<◌, ◌≤◌, List, ◌∷◌, ◌++◌, length, get_or, take, set, replicate}
+use Rattle.std.proofs.Common.{sym, refl, ap, ◌∙◌, append-nil, add-sub_of_le, add-one, one-add, arith, length-append}
+use Rattle.std.proofs.Common.{drop_of_length-le, get_or-append-add}
 use Rattle.std.proofs.lemmas.List.{length-replicate, take-replicate}
 use Rattle.std.proofs.lemmas.Slice.{take-put_mid}
 use borrow.Rule.Slice.PartMut.{put_mid}

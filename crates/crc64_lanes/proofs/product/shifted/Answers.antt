@@ -1,5 +1,5 @@
 use Rattle.std.proofs.Common.{refl, ◌∙◌, arith}
-use Rattle.crc64_lanes.proofs.ProductLaws.{powered_none, powered_one, powered_zero, powered_all}
+use Rattle.crc64_lanes.proofs.ProductLaws.{powered_none, powered_one, powered_zero, powered_end}
 use Rattle.crc64_lanes.proofs.product.shifted.Goals.{then-left-eq1, else-left-eq1}
 use Rattle.crc64_lanes.proofs.product.shifted.Goals as goal
 
@@ -14,4 +14,4 @@ loop-power-preserved c =
     ]
 
 pub returns : goal.returns
-returns c = powered_all _ _ _ _ c.loop-power.invariant (omega arith)
+returns c = powered_end _ _ _ _ c.loop-power.invariant (omega arith)

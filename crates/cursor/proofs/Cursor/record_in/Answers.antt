@@ -5,12 +5,12 @@ use Rattle.framing.proofs.FrameLaws.{Framed, frame⇒Framed}
 use Rattle.payload.specs.Answers.{text_said}
 use Rattle.block.specs.Block.{is_data}
 use Rattle.cursor.specs.Cursor.{behind, record_said, PartWithin, RecordWithin}
-use Rattle.cursor.proofs.CursorLaws.{end_few, follow_cut, follow_text, follow_block, follow_none}
+use Rattle.cursor.proofs.CursorLaws.{end_few, follow_within, follow_text, follow_block, follow_none}
 use Rattle.cursor.proofs.Cursor.record_in.Goals as goal
 use Rattle.cursor.proofs.Cursor.record_in.Goals.{In-Ok-frame_at}
 
 pub loop-text-init : goal.loop-text-init
-loop-text-init c = follow_cut c.args.file.now c.args.self _ c.min.ensures
+loop-text-init c = follow_within c.args.file.now c.args.self _ c.min.ensures
 
 -- the frame that was read
 framed : (c : In-Ok-frame_at) → Framed c.args.file.now c.loop-text.here.block c.in-Ok-frame_at.f
