@@ -71,11 +71,11 @@ module _ (file : List ℕ) (from at : ℕ) (s : State) (p : Passed file from at 
   all_seen : laid_from file from ≡ p.seen → Holds (payloads file (laid_from file from)) s
   all_seen e = subst (λ (l : List Block). Holds (payloads file l) s) (sym e) p.holds
 
-  passed_end : length file ≤ at → Holds (payloads file (laid_from file from)) s
+  pub passed_end : length file ≤ at → Holds (payloads file (laid_from file from)) s
   unfolding laid_from
   passed_end h = all_seen (sound_progress_end (laid_at file) (length file) from at p.seen p.going h)
 
-  passed_refused : at < length file → (number place : ℕ) → frame_at file at ≡ refused number place → Holds (payloads file (laid_from file from)) s
+  pub passed_refused : at < length file → (number place : ℕ) → frame_at file at ≡ refused number place → Holds (payloads file (laid_from file from)) s
   unfolding laid_from
   passed_refused h number place e =
       all_seen (sound_progress_refused (laid_at file) (length file) from at p.seen p.going h number place (laid_refused file at number place e))

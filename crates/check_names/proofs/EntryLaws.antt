@@ -73,10 +73,12 @@ module _ (file : List ℕ) (from : ℕ) (seen : List Entry) (work : List ℕ) (k
     found_frame = ap (frame_at file) (sym found_start) ∙ (ordinary_laid file from found.block found.member).framed
 
     -- a frame can be read there
-    pub named_framed : (r : Result Frame Fault) → None ≡ result_ok r → said_at e.offset r ≡ frame_at file e.offset → ⊥
-    named_framed r none told =
-        let no = no_frame_told file e.offset r none told in
-        answer_not_refused found.block.frame no.0 e.offset (sym found_frame ∙ no.1)
+    pub named_framed : (number p : ℕ) → frame_at file e.offset ≡ refused number p → ⊥
+    named_framed number p r = answer_not_refused found.block.frame number p (sym found_frame ∙ r)
+
+    -- and the code reads it
+    pub named_read : (r : Result Frame Fault) → None ≡ result_ok r → said_at e.offset r ≡ frame_at file e.offset → ⊥
+    named_read r none told = let no = no_frame_told file e.offset r none told in named_framed no.0 e.offset no.1
 
     same_frame : (r : Result Frame Fault) (f : Frame) → Some f ≡ result_ok r → said_at e.offset r ≡ frame_at file e.offset → found.block.frame ≡ f
     same_frame r f some told = answer_injective found.block.frame f (sym found_frame ∙ frame_told file e.offset r f some told)

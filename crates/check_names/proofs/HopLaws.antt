@@ -75,16 +75,27 @@ module _ (file : List ℕ) (from : ℕ) (work₀ : List ℕ) where
       λ room. subst (λ (bs : List Block). Begins work (starts_of bs)) (sym all) (p.begun room),
     )
 
+    pub hopped_end : length file ≤ at
+        → (count ≡ length (ordinary (laid_from file from))) × (count ≤ length work₀ → Begins work (starts_of (laid_from file from)))
+    unfolding laid_from
+    hopped_end past = hopped_all (sound_progress_end (laid_at file) (length file) from at p.passed p.progress past)
+
+    pub hopped_refused : at < length file → (number place : ℕ) → frame_at file at ≡ refused number place
+        → (count ≡ length (ordinary (laid_from file from))) × (count ≤ length work₀ → Begins work (starts_of (laid_from file from)))
+    unfolding laid_from
+    hopped_refused inside number place e =
+        let refuses = laid_refused file at number place e in
+        hopped_all (sound_progress_refused (laid_at file) (length file) from at p.passed p.progress inside number place refuses)
+
     -- where no frame can be read, all blocks are passed
     pub hopped_over : (number place : ℕ) → frame_at file at ≡ refused number place
         → (count ≡ length (ordinary (laid_from file from))) × (count ≤ length work₀ → Begins work (starts_of (laid_from file from)))
-    unfolding laid_from
-    hopped_over number place e = hopped_all (go (leb (length file) at) refl)
+    hopped_over number place e = go (leb (length file) at) refl
       where
-        go : (b : Bool) → leb (length file) at ≡ b → laid_from file from ≡ p.passed
-        go true q = sound_progress_end (laid_at file) (length file) from at p.passed p.progress (leb-true _ _ q)
-        go false q =
-            sound_progress_refused (laid_at file) (length file) from at p.passed p.progress (leb-false _ _ q) number place (laid_refused file at number place e)
+        go : (b : Bool) → leb (length file) at ≡ b
+            → (count ≡ length (ordinary (laid_from file from))) × (count ≤ length work₀ → Begins work (starts_of (laid_from file from)))
+        go true q = hopped_end (leb-true _ _ q)
+        go false q = hopped_refused (leb-false _ _ q) number place e
 
     -- the block whose frame was read is passed too
     module _ (f : Frame) (e : frame_at file at ≡ answer f) where

@@ -34,7 +34,7 @@ container_deep Object (suc d) s h = rw (one_less d)
 container_deep Array (suc d) s h = rw (one_less d)
 
 -- a test that does not hold
-not_only : (b : Bool) (s : List ℕ) → cond b (some s) none ≡ none → b ≡ false
+pub not_only : (b : Bool) (s : List ℕ) → cond b (some s) none ≡ none → b ≡ false
 not_only true s e = absurd (none_not_some s (sym e))
 not_only false s e = refl
 

@@ -12,12 +12,13 @@ use Rattle.byte_string.specs.Order.{at_most}
 use Rattle.byte_string.proofs.OrderLaws.{nil_at_most, at_most_trans}
 use Rattle.outcome.specs.Outcome.{Outcome, answer, refused}
 use Rattle.items.specs.declared.Step.{Step}
+use Rattle.part.specs.Part.{part}
 use Rattle.outcome.proofs.OutcomeLaws.{kept, broken, bind_answer, bind_refused}
 use Rattle.items.proofs.ItemsLaws.{Progress, progress_start, progress_more, progress_end, progress_refused}
 use Rattle.lists.proofs.ListsLaws.{both⁻¹}
 use Rattle.lists.specs.Groups.{last_or}
 use Rattle.payload.specs.Payload.{Text, rising, rising_from, payload_at}
-use Rattle.payload.specs.Answers.{counted}
+use Rattle.payload.specs.Answers.{text_in, counted}
 
 -- ---- one byte string more
 
@@ -58,8 +59,8 @@ rising_from-each x xs h y m = go y xs m x h
 -- ---- the pass
 
 module _ {A : Type 0} (step_at : ℕ → List ℕ → ℕ → Outcome (Step A)) (text_of : A → Text) (s : List ℕ) (from : ℕ) where
-  -- what is known at `at`: the items seen, their count, whether they rise, and the last byte string
-  pub record Scanned (at count : ℕ) (rises : Bool) (last : List ℕ) : Type 0 where
+  -- what is known at `at`: the items seen, their count, whether they rise, and the bytes of the last
+  pub record Passed (at count : ℕ) (rises : Bool) (last : List ℕ) : Type 0 where
     pub seen : List A
     pub progress : (place : ℕ) → Progress (step_at place s) (length s) from at seen
     pub numbered : count ≡ length seen
@@ -68,9 +69,9 @@ module _ {A : Type 0} (step_at : ℕ → List ℕ → ℕ → Outcome (Step A)) 
     pub few : count ≤ at
     pub within : at ≤ length s
 
-  pub scanned_start : from ≤ length s → Scanned from 0 true []
+  pub passed_start : from ≤ length s → Passed from 0 true []
   unfolding rising last_or
-  scanned_start h =
+  passed_start h =
       record {
         seen = [];
         progress = λ place. progress_start (step_at place s) (length s) from;
@@ -81,10 +82,10 @@ module _ {A : Type 0} (step_at : ℕ → List ℕ → ℕ → Outcome (Step A)) 
         within = h;
       }
 
-  pub scanned_more : (at count : ℕ) (rises : Bool) (last : List ℕ) → Scanned at count rises last → at < length s
+  pub passed_more : (at count : ℕ) (rises : Bool) (last : List ℕ) → Passed at count rises last → at < length s
       → (x : A) (next : ℕ) (bytes : List ℕ) → ((place : ℕ) → step_at place s at ≡ answer (record { item = x; next = next })) → (text_of x).bytes ≡ bytes
-      → at < next → next ≤ length s → (still : Bool) → still ≡ (rises && at_most last bytes) → Scanned next (count + 1) still bytes
-  scanned_more at count rises last p h x next bytes e text forward within still flag =
+      → at < next → next ≤ length s → (still : Bool) → still ≡ (rises && at_most last bytes) → Passed next (count + 1) still bytes
+  passed_more at count rises last p h x next bytes e text forward within still flag =
       record {
         seen = p.seen ++ (x ∷ []);
         progress = λ place. progress_more (step_at place s) (length s) from at p.seen (record { item = x; next = next }) (p.progress place) h (e place) forward;
@@ -99,36 +100,84 @@ module _ {A : Type 0} (step_at : ℕ → List ℕ → ℕ → Outcome (Step A)) 
         within = within;
       }
 
+  -- and where its byte string lies
+  pub record Scanned (at count : ℕ) (rises : Bool) (last size : ℕ) : Type 0 where
+    pub passed : Passed at count rises (part s last size)
+    pub last_is : text_in s last size ≡ last_or (text_in s from 0) (map text_of passed.seen)
+    pub last_within : last + size ≤ length s
+
+  pub scanned_start : from ≤ length s → Scanned from 0 true from 0
+  unfolding last_or part passed_start
+  scanned_start h =
+      record {
+        passed = passed_start h;
+        last_is = refl;
+        last_within = omega arith;
+      }
+
+  start_bytes : (start n : ℕ) (t : Text) → t ≡ text_in s start n → part s start n ≡ t.bytes
+  unfolding text_in
+  start_bytes start n t e = sym (ap (λ (u : Text). u.bytes) e)
+
+  pub scanned_more : (at count : ℕ) (rises : Bool) (last size : ℕ) → Scanned at count rises last size → at < length s
+      → (x : A) (next start n : ℕ) → ((place : ℕ) → step_at place s at ≡ answer (record { item = x; next = next })) → text_of x ≡ text_in s start n
+      → at < next → next ≤ length s → start + n ≤ length s
+      → (still : Bool) → still ≡ (rises && at_most (part s last size) (part s start n)) → Scanned next (count + 1) still start n
+  unfolding passed_more
+  scanned_more at count rises last size p h x next start n e text forward within inside still flag =
+      record {
+        passed =
+            passed_more at count rises (part s last size) p.passed h x next (part s start n) e (sym (start_bytes start n (text_of x) text))
+            forward within still flag;
+        last_is =
+            sym (ap (last_or (text_in s from 0)) (map-append text_of p.passed.seen (x ∷ []))
+            ∙ last_or_snoc (text_in s from 0) (map text_of p.passed.seen) (text_of x) ∙ text);
+        last_within = inside;
+      }
+
   -- the answers at the ways out
   module _ (unsorted : ℕ) where
     pub scanned_empty : length s ≤ from → (place : ℕ) → counted (payload_at (step_at place s) text_of unsorted place (length s) from) ≡ refused 15 place
     unfolding counted payload_at
     scanned_empty h place = bind_refused _ _ 15 place (broken (ltb from (length s)) 15 place _ (le-ltb from (length s) h))
 
-    pub scanned_refused : (at count : ℕ) (rises : Bool) (last : List ℕ) → from < length s → Scanned at count rises last → at < length s
+    pub passed_refused : (at count : ℕ) (rises : Bool) (last : List ℕ) → from < length s → Passed at count rises last → at < length s
         → (number place : ℕ) → step_at place s at ≡ refused number place
         → counted (payload_at (step_at place s) text_of unsorted place (length s) from) ≡ refused number place
     unfolding counted payload_at
-    scanned_refused at count rises last some p h number place e =
+    passed_refused at count rises last some p h number place e =
         bind_refused _ _ number place
         (kept (ltb from (length s)) 15 place _ (lt-ltb from (length s) some)
         ∙ bind_refused _ _ number place (progress_refused (step_at place s) (length s) from at number place p.seen (p.progress place) h e))
 
-    pub scanned_unsorted : (at count : ℕ) (rises : Bool) (last : List ℕ) → from < length s → Scanned at count rises last → length s ≤ at → rises ≡ false
+    pub passed_unsorted : (at count : ℕ) (rises : Bool) (last : List ℕ) → from < length s → Passed at count rises last → length s ≤ at → rises ≡ false
         → (place : ℕ) → counted (payload_at (step_at place s) text_of unsorted place (length s) from) ≡ refused unsorted place
     unfolding counted payload_at
-    scanned_unsorted at count rises last some p h wrong place =
+    passed_unsorted at count rises last some p h wrong place =
         bind_refused _ _ unsorted place
         (kept (ltb from (length s)) 15 place _ (lt-ltb from (length s) some)
         ∙ bind_answer _ _ p.seen (progress_end (step_at place s) (length s) from at p.seen (p.progress place) h)
         ∙ broken (rising (map (λ x. (text_of x).bytes) p.seen)) unsorted place _ (sym p.sorted ∙ wrong))
 
-    pub scanned_sound : (at count : ℕ) (rises : Bool) (last : List ℕ) → from < length s → Scanned at count rises last → length s ≤ at → rises ≡ true
+    pub passed_sound : (at count : ℕ) (rises : Bool) (last : List ℕ) → from < length s → Passed at count rises last → length s ≤ at → rises ≡ true
         → (place : ℕ) → counted (payload_at (step_at place s) text_of unsorted place (length s) from) ≡ answer count
     unfolding counted payload_at
-    scanned_sound at count rises last some p h right place =
+    passed_sound at count rises last some p h right place =
         bind_answer _ _ p.seen
         (kept (ltb from (length s)) 15 place _ (lt-ltb from (length s) some)
         ∙ bind_answer _ _ p.seen (progress_end (step_at place s) (length s) from at p.seen (p.progress place) h)
         ∙ kept (rising (map (λ x. (text_of x).bytes) p.seen)) unsorted place _ (sym p.sorted ∙ right))
         ∙ ap answer (sym p.numbered)
+
+    pub scanned_refused : (at count : ℕ) (rises : Bool) (last size : ℕ) → from < length s → Scanned at count rises last size → at < length s
+        → (number place : ℕ) → step_at place s at ≡ refused number place
+        → counted (payload_at (step_at place s) text_of unsorted place (length s) from) ≡ refused number place
+    scanned_refused at count rises last size some p = passed_refused at count rises (part s last size) some p.passed
+
+    pub scanned_unsorted : (at count : ℕ) (rises : Bool) (last size : ℕ) → from < length s → Scanned at count rises last size → length s ≤ at → rises ≡ false
+        → (place : ℕ) → counted (payload_at (step_at place s) text_of unsorted place (length s) from) ≡ refused unsorted place
+    scanned_unsorted at count rises last size some p = passed_unsorted at count rises (part s last size) some p.passed
+
+    pub scanned_sound : (at count : ℕ) (rises : Bool) (last size : ℕ) → from < length s → Scanned at count rises last size → length s ≤ at → rises ≡ true
+        → (place : ℕ) → counted (payload_at (step_at place s) text_of unsorted place (length s) from) ≡ answer count
+    scanned_sound at count rises last size some p = passed_sound at count rises (part s last size) some p.passed

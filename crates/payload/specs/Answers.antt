@@ -38,7 +38,7 @@ counted o = o >>= λ xs. answer (length xs)
 pub record Standing {A : Type 0} (step_at : ℕ → List ℕ → ℕ → Outcome (Step A)) (text_of : A → Text) (s : List ℕ) (at : ℕ) (p : Step Part) : Type 0 where
   pub item : A
   pub read : (place : ℕ) → step_at place s at ≡ answer (record { item = item; next = p.next })
-  pub bytes : (text_of item).bytes ≡ part s p.item.offset p.item.length
+  pub text : text_of item ≡ text_in s p.item.offset p.item.length
   pub inside : p.item.offset + p.item.length ≤ length s
   pub forward : at < p.next
   pub within : p.next ≤ length s

@@ -1,6 +1,6 @@
 -- `named` meets its contract: the search finds the block, and its frame tells size and level.
 use Rattle.payload.specs.Answers.{entry_in}
-use Rattle.check_names.proofs.EntryLaws.{named_none, named_framed, named_unfit, named_fit}
+use Rattle.check_names.proofs.EntryLaws.{named_none, named_read, named_unfit, named_fit}
 use Rattle.check_names.proofs.names.named.Goals.{else-frame-entry-via-then-frame-entry+else-frame-level, else-frame-entry-via-else-frame-entry}
 use Rattle.check_names.proofs.names.named.Goals as goal
 
@@ -13,7 +13,7 @@ returns-in_err-i-clause-value c from seen s k =
 pub returns-in_err-frame-clause-value : goal.returns-in_err-frame-clause-value
 unfolding entry_in
 returns-in_err-frame-clause-value c from seen s k =
-    absurd (named_framed c.args.file.now from seen c.args.work.now k (entry_in s c.args.entry) c.args.level c.in_ok-i.i c.in_ok-i.ensures.inside
+    absurd (named_read c.args.file.now from seen c.args.work.now k (entry_in s c.args.entry) c.args.level c.in_ok-i.i c.in_ok-i.ensures.inside
     c.in_ok-i.ensures.located c.frame_at.result c.in_err-frame.ensures.value c.frame_at.ensures)
 
 pub returns-then-frame-level-clause-value : goal.returns-then-frame-level-clause-value

@@ -15,7 +15,7 @@ returns c =
     record {
       item = _;
       read = λ place. sym (c.in_ok-entry.ensures.by_index place);
-      bytes = refl;
+      text = refl;
       inside = c.in_ok-entry.ensures.key_within;
       forward = e.forward;
       within = e.within;

@@ -23,7 +23,7 @@ returns c =
     (record {
       item = _;
       read = λ place. sym (c.in_ok-item.ensures place);
-      bytes = refl;
+      text = refl;
       inside = t.within;
       forward = let forward = t.forward in omega arith;
       within = t.within;
