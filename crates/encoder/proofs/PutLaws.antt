@@ -45,6 +45,40 @@ next_byte s i b more e = (
   (sym (drop-drop 1 i s) ∙ ap (drop 1) e),
 )
 
+-- one byte more, with the top bit
+pub putting_more : (old : List ℕ) (at value : ℕ) (output : List ℕ) (rest i : ℕ) → 128 ≤ rest → Putting old at value output rest i
+    → Putting old at value (set output (at + i) (rest % 128 + 128)) (rest / 128) (i + 1)
+putting_more old at value output rest i h p = go (9 - i) refl
+  where
+    go : (more : ℕ) → 9 - i ≡ more → Putting old at value (set output (at + i) (rest % 128 + 128)) (rest / 128) (i + 1)
+    go zero e = absurd (let small : rest < 128 ^ suc zero = subst (λ m. rest < 128 ^ suc m) e p.small in
+        let one = pow-succ' 128 0 in let none = pow-zero 128 in omega arith)
+    go (suc more) e =
+        let left : 9 - (i + 1) ≡ more = omega arith in
+        let small : rest < 128 ^ suc (suc more) = subst (λ m. rest < 128 ^ suc m) e p.small in
+        let byte = next_byte (encoding value) i (128 + rest % 128) (encoding_with more (rest / 128))
+        (p.left ∙ ap (λ m. encoding_with m rest) e ∙ encoding_with_high more rest h) in
+        record {
+          storing = rw (add_comm (rest % 128) 128, ← byte.1) (storing_more old at (encoding value) output i p.storing byte.0);
+          few = omega arith;
+          small = rw left (digits (suc more) rest small);
+          left = rw left byte.2;
+        }
+
+-- the last byte
+pub putting_last : (old : List ℕ) (at value : ℕ) (output : List ℕ) (rest i : ℕ) → rest < 128 → Putting old at value output rest i
+    → (length (encoding value) ≡ stored_length old at (encoding value)) × (set output (at + i) rest ≡ stored old at (encoding value))
+unfolding stored_length
+putting_last old at value output rest i h p =
+    let byte = next_byte (encoding value) i rest [] (p.left ∙ encoding_with_low (9 - i) rest h) in (
+      rw (fits_some old at (encoding value) p.storing.enough),
+      storing_all old at (encoding value) (set output (at + i) rest) (i + 1)
+          (rw (← byte.1) (storing_more old at (encoding value) output i p.storing byte.0)) (all byte.0 byte.2),
+    )
+  where
+    all : i < length (encoding value) → drop (i + 1) (encoding value) ≡ [] → length (encoding value) ≤ i + 1
+    all l e = let none : length (encoding value) - (i + 1) ≡ 0 = sym (length-drop (i + 1) (encoding value)) ∙ ap length e in omega arith
+
 -- more than one byte is left: the next has the top bit
 more_left : (old : List ℕ) (at value : ℕ) (output : List ℕ) (rest i : ℕ) → i + 1 < length (encoding value) → Putting old at value output rest i → 128 ≤ rest
 more_left old at value output rest i h p = elim (cases_lt rest 128) [ inl l ↦ absurd (one l) | inr g ↦ g ]
@@ -67,37 +101,17 @@ one_left old at value output rest i h p = elim (cases_lt rest 128) [ inl l ↦ l
         sym (length-drop i (encoding value)) ∙ ap length (p.left ∙ ap (λ m. encoding_with m rest) e ∙ encoding_with_high more rest g) in
         let some = encoding_with_some more (rest / 128) in omega arith
 
-pub putting_more : (old : List ℕ) (at value : ℕ) (output : List ℕ) (rest i : ℕ) → i + 1 < length (encoding value) → Putting old at value output rest i
+-- the two steps by how many bytes are left
+pub putting_next : (old : List ℕ) (at value : ℕ) (output : List ℕ) (rest i : ℕ) → i + 1 < length (encoding value) → Putting old at value output rest i
     → Putting old at value (set output (at + i) (rest % 128 + 128)) (rest / 128) (i + 1)
-putting_more old at value output rest i long p = go (9 - i) refl (more_left old at value output rest i long p)
-  where
-    go : (more : ℕ) → 9 - i ≡ more → 128 ≤ rest → Putting old at value (set output (at + i) (rest % 128 + 128)) (rest / 128) (i + 1)
-    go zero e h = absurd (let small : rest < 128 ^ suc zero = subst (λ m. rest < 128 ^ suc m) e p.small in
-        let one = pow-succ' 128 0 in let none = pow-zero 128 in omega arith)
-    go (suc more) e h =
-        let left : 9 - (i + 1) ≡ more = omega arith in
-        let small : rest < 128 ^ suc (suc more) = subst (λ m. rest < 128 ^ suc m) e p.small in
-        let byte = next_byte (encoding value) i (128 + rest % 128) (encoding_with more (rest / 128))
-        (p.left ∙ ap (λ m. encoding_with m rest) e ∙ encoding_with_high more rest h) in
-        record {
-          storing = rw (add_comm (rest % 128) 128, ← byte.1) (storing_more old at (encoding value) output i p.storing byte.0);
-          few = omega arith;
-          small = rw left (digits (suc more) rest small);
-          left = rw left byte.2;
-        }
+putting_next old at value output rest i h p = putting_more old at value output rest i (more_left old at value output rest i h p) p
 
--- the last byte
-pub putting_last : (old : List ℕ) (at value : ℕ) (output : List ℕ) (rest i : ℕ) → i + 1 ≡ length (encoding value) → Putting old at value output rest i
+pub putting_end : (old : List ℕ) (at value : ℕ) (output : List ℕ) (rest i : ℕ) → i + 1 ≡ length (encoding value) → Putting old at value output rest i
     → (rest < 256) × (length (encoding value) ≡ stored_length old at (encoding value)) × (set output (at + i) rest ≡ stored old at (encoding value))
-unfolding stored_length
-putting_last old at value output rest i e p =
+putting_end old at value output rest i e p =
     let h = one_left old at value output rest i e p in
-    let byte = next_byte (encoding value) i rest [] (p.left ∙ encoding_with_low (9 - i) rest h) in (
-      omega arith,
-      rw (fits_some old at (encoding value) p.storing.enough),
-      storing_all old at (encoding value) (set output (at + i) rest) (i + 1)
-          (rw (← byte.1) (storing_more old at (encoding value) output i p.storing byte.0)) (omega arith),
-    )
+    let last = putting_last old at value output rest i h p in
+    (omega arith, last.0, last.1)
 
 -- the next byte lies within
 pub putting_within : (old : List ℕ) (at value : ℕ) (output : List ℕ) (rest i : ℕ) → Putting old at value output rest i → at + i < length output

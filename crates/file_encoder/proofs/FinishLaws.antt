@@ -9,7 +9,7 @@ use Rattle.outcome.specs.Fault.{number, said_at}
 use Prim.Native.Nat.{ℕ, ◌+◌, ◌-◌, ◌≤◌}
 use native.Mathlib.Omega.{arith}
 use lib.ListN.{length, length-append}
-use Rattle.outcome.specs.Outcome.{answer}
+use Rattle.outcome.specs.Outcome.{answer, refused}
 use Rattle.output_list.specs.OutputList.{padded, zeros}
 use Rattle.output_list.proofs.OutputListLaws.{padded-append}
 use Rattle.sha256.specs.Sha256.{sha256}
@@ -60,14 +60,19 @@ module _ (metadata : List ℕ) (blocks : List (List (List ℕ))) (per_index : �
   finish_low = let begins = b.begins in omega arith
 
   -- the index doesn't fit
-  pub finish_none : (r : Result Raised Fault) (then : List ℕ) → None ≡ result_ok r → said_at 0 r ≡ raised_of per_index output from to
+  pub finish_none : (n : ℕ) (then : List ℕ) → refused n 0 ≡ raised_of per_index output from to → then ≡ with_index output to (raise_of per_index output from to)
+      → FilePut (length output) (file_of metadata blocks per_index) None then × (◌≡◌ {A = Option ℕ} None None → then ≡ output)
+  finish_none n then e f =
+      let none = raise_none metadata blocks per_index two output from to b n then e f in
+      (put-nothing room file then (to + length I) (omega (arith, long)) none.0, λ zero. none.1)
+
+  -- as the code says it
+  pub finish_refused : (r : Result Raised Fault) (then : List ℕ) → None ≡ result_ok r → said_at 0 r ≡ raised_of per_index output from to
       → then ≡ with_index output to (raise_of per_index output from to)
       → FilePut (length output) (file_of metadata blocks per_index) None then × (◌≡◌ {A = Option ℕ} None None → then ≡ output)
   unfolding said_at
-  finish_none (Ok x) then o e f = cc
-  finish_none (Err fault) then o e f =
-      let none = raise_none metadata blocks per_index two output from to b (number fault) then e f in
-      (put-nothing room file then (to + length I) (omega (arith, long)) none.0, λ zero. none.1)
+  finish_refused (Ok x) then o e f = cc
+  finish_refused (Err fault) then o e f = finish_none (number fault) then e f
 
   -- index and header are put; m is the length of the metadata
   module _ (r : Raised) (o : Result Raised Fault) (second third hash : List ℕ) (m : ℕ) (put : Some r ≡ result_ok o)

@@ -40,7 +40,7 @@ module _ (s : List ℕ) (before first : Part) (held : Within s before) (inside :
   unfolding key_for key_length
   all e = rw (eq-eqb _ _ (sym agree ∙ e ∙ sym before_long)) (ap (λ (n : ℕ). take n (bytes_of s first)) (sym agree))
 
-  key_all : c ≡ before.length → Key (record { offset = first.offset; length = c })
+  pub key_all : c ≡ before.length → Key (record { offset = first.offset; length = c })
   unfolding bytes_of
   key_all e = (front c few ∙ sym (all e), (refl, few))
 
@@ -50,10 +50,10 @@ module _ (s : List ℕ) (before first : Part) (held : Within s before) (inside :
     more = rw (ne_eqb _ _ (λ e. less (agree ∙ e ∙ before_long))) (ap (λ (n : ℕ). take (n + 1) (bytes_of s first)) (sym agree))
 
     -- all of the first record agrees
-    key_whole : c ≡ first.length → Key (record { offset = first.offset; length = c })
+    pub key_whole : c ≡ first.length → Key first
     unfolding bytes_of Within
     key_whole e = (
-      ap (part s first.offset) e ∙ sym (more ∙ take_all (c + 1) (bytes_of s first) (let long = length_part s first.offset first.length inside in omega arith)),
+      sym (more ∙ take_all (c + 1) (bytes_of s first) (let long = length_part s first.offset first.length inside in omega arith)),
       (refl, omega arith),
     )
 
@@ -68,4 +68,4 @@ module _ (s : List ℕ) (before first : Part) (held : Within s before) (inside :
   -- all of one of them agrees
   pub key_agreeing : (c ≡ before.length) ⊎ ((c ≡ before.length → ⊥) × (c ≡ first.length)) → Key (record { offset = first.offset; length = c })
   key_agreeing (inl e) = key_all e
-  key_agreeing (inr e) = key_whole e.0 e.1
+  key_agreeing (inr e) = rw e.1 (key_whole e.0 e.1)

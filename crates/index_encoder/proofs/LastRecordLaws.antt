@@ -19,19 +19,16 @@ module _ (s : List ℕ) (first : Part) where
   abbrev whole : List ℕ
   whole = last_from s (first.offset + first.length) (bytes_of s first)
 
-  -- the texts up to the end of `last` are passed, and it is their last
-  pub record Passing (last : Part) : Type 0 where
-    pub going : Going last_text (text_at 0 s) (length s) whole (last.offset + last.length) (bytes_of s last)
+  -- the texts up to `at` are passed, and `last` is their last
+  pub record Passing (last : Part) (at : ℕ) : Type 0 where
+    pub going : Going last_text (text_at 0 s) (length s) whole at (bytes_of s last)
     pub within : Within s last
 
-  pub passing_start : Within s first → Passing first
+  pub passing_start : Within s first → Passing first (first.offset + first.length)
   unfolding last_from
   passing_start h = record { going = going_start last_text (text_at 0 s) (length s) whole _ (bytes_of s first) refl; within = h }
 
-  module _ (last : Part) (p : Passing last) where
-    abbrev at : ℕ
-    at = last.offset + last.length
-
+  module _ (last : Part) (at : ℕ) (p : Passing last at) where
     -- none follows: the texts end there, or the next can't be read
     pub passing_refused : (number place : ℕ) → text_at 0 s at ≡ refused number place
         → (bytes_of s last ≡ last_from s (first.offset + first.length) (bytes_of s first)) × Within s last
@@ -52,7 +49,7 @@ module _ (s : List ℕ) (first : Part) where
           let within : next.offset + next.length ≤ length s = placed.within in
           (omega arith, within, omega arith)
 
-      pub passing_more : Passing next
+      pub passing_more : Passing next (next.offset + next.length)
       unfolding last_text last_or text_in bytes_of Within
       passing_more =
           record {

@@ -105,35 +105,34 @@ module _ (o : List ℕ) (per_index from to : ℕ) where
   -- ---- what `put_index` leaves
 
   -- the index is put
-  index_put : (new : List ℕ) (r : Raised) → Said (Ok r) new → new ≡ with_index o to (raise_of per_index o from to)
+  pub index_put : (new : List ℕ) (r : Result Raised Fault) (x : Raised) → r ≡ Ok x → Said r new
+      → (said_at 0 (Ok x) ≡ raised_of per_index o from to) × (new ≡ with_index o to (raise_of per_index o from to))
   unfolding said_at raised_of IndexPut with_index
-  index_put new r p = go (raise_of per_index o from to) p.0 p.1
+  index_put new r x told p = let said = sym (ap (said_at 0) told) ∙ p.0 in (said, go (raise_of per_index o from to) said p.1)
     where
-      go : (y : Outcome (List IndexBlock)) → answer r ≡ (y >>= λ bs. answer (raised_from to bs)) → IndexPut o new to y → new ≡ with_index o to y
+      go : (y : Outcome (List IndexBlock)) → answer x ≡ (y >>= λ bs. answer (raised_from to bs)) → IndexPut o new to y → new ≡ with_index o to y
       go (answer bs) e put = put
       go (refused number place) e put =
-          absurd (answer_not_refused r number place (e ∙ bind_refused {A = List IndexBlock} (refused number place) _ number place refl))
+          absurd (answer_not_refused x number place (e ∙ bind_refused {A = List IndexBlock} (refused number place) _ number place refl))
 
-  -- zeros stand from `to` on
-  cleared : (new : List ℕ) (fault : Fault) → Said (Err fault) new → length new ≡ length o → (last : List ℕ)
-      → last ≡ take to new ++ zeros (length new - to) → last ≡ with_index o to (raise_of per_index o from to)
-  unfolding said_at raised_of IndexPut with_index
-  cleared new fault p long last e = e ∙ go (raise_of per_index o from to) p.0 p.1
-    where
-      go : (y : Outcome (List IndexBlock)) → refused (number fault) 0 ≡ (y >>= λ bs. answer (raised_from to bs)) → IndexPut o new to y
-          → take to new ++ zeros (length new - to) ≡ with_index o to y
-      go (answer bs) e put =
-          absurd (refused_not_answer (raised_from to bs) (number fault) 0 (e ∙ bind_answer {A = List IndexBlock} (answer bs) _ bs refl))
-      go (refused number place) e put = ap (λ l. l ++ zeros (length new - to)) put ∙ ap (λ k. take to o ++ zeros (k - to)) long
+  module _ (new : List ℕ) (r : Result Raised Fault) (fault : Fault) (told : r ≡ Err fault) (p : Said r new) (long : length new ≡ length o) where
+    -- zeros stand from `to` on
+    cleared : (last : List ℕ) → last ≡ take to new ++ zeros (length new - to)
+        → (said_at 0 (Err fault) ≡ raised_of per_index o from to) × (last ≡ with_index o to (raise_of per_index o from to))
+    unfolding said_at raised_of IndexPut with_index
+    cleared last e = let said = sym (ap (said_at 0) told) ∙ p.0 in (said, e ∙ go (raise_of per_index o from to) said p.1)
+      where
+        go : (y : Outcome (List IndexBlock)) → refused (number fault) 0 ≡ (y >>= λ bs. answer (raised_from to bs)) → IndexPut o new to y
+            → take to new ++ zeros (length new - to) ≡ with_index o to y
+        go (answer bs) e put =
+            absurd (refused_not_answer (raised_from to bs) (number fault) 0 (e ∙ bind_answer {A = List IndexBlock} (answer bs) _ bs refl))
+        go (refused number place) e put = ap (λ l. l ++ zeros (length new - to)) put ∙ ap (λ k. take to o ++ zeros (k - to)) long
 
-  module _ (new : List ℕ) (long : length new ≡ length o) where
-    -- a refusal, and the output is cleared from `to` on
-    pub index_cleared : (r : Result Raised Fault) → Said r new → true ≡ is_err r → {zs : List ℕ}
-        → zs ≡ zeros (length (take (length new - to) (drop to new)))
-        → take to new ++ (zs ++ drop (length new - to) (drop to new)) ≡ with_index o to (raise_of per_index o from to)
-    index_cleared (Ok r) p failed e = absurd (false≢true (sym failed))
-    index_cleared (Err fault) p failed {zs} e =
-        cleared new fault p long (take to new ++ (zs ++ drop (length new - to) (drop to new))) (ap (λ l. take to new ++ l) all)
+    -- the output is cleared from `to` on
+    pub index_cleared : {zs : List ℕ} → zs ≡ zeros (length (take (length new - to) (drop to new)))
+        → (said_at 0 (Err fault) ≡ raised_of per_index o from to)
+        × (take to new ++ (zs ++ drop (length new - to) (drop to new)) ≡ with_index o to (raise_of per_index o from to))
+    index_cleared {zs} e = cleared (take to new ++ (zs ++ drop (length new - to) (drop to new))) (ap (λ l. take to new ++ l) all)
       where
         rest : length (drop to new) ≡ length new - to
         rest = length-drop to new
@@ -146,14 +145,26 @@ module _ (o : List ℕ) (per_index from to : ℕ) where
             ∙ ap (λ l. zeros (length l)) (take_all (length new - to) (drop to new) (omega (arith, rest)))
             ∙ ap zeros rest
 
+    -- or it ends before `to`
+    pub index_short : length new ≤ to → (said_at 0 (Err fault) ≡ raised_of per_index o from to) × (new ≡ with_index o to (raise_of per_index o from to))
+    unfolding zeros padded
+    index_short h = cleared new (sym (append-nil new) ∙ ap (λ l. l ++ []) (sym (take_all to new h)) ∙ ap (λ k. take to new ++ zeros k) none)
+      where
+        none : 0 ≡ length new - to
+        none = omega arith
+
+  -- the output after that, as the code tells the two apart
+  module _ (new : List ℕ) (long : length new ≡ length o) where
+    -- a refusal, and the output is cleared from `to` on
+    pub index_failed : (r : Result Raised Fault) → Said r new → true ≡ is_err r → {zs : List ℕ}
+        → zs ≡ zeros (length (take (length new - to) (drop to new)))
+        → take to new ++ (zs ++ drop (length new - to) (drop to new)) ≡ with_index o to (raise_of per_index o from to)
+    index_failed (Ok r) p failed e = absurd (false≢true (sym failed))
+    index_failed (Err fault) p failed e = (index_cleared new (Err fault) fault refl p long e).1
+
     -- no refusal, or the output ends before `to`
     pub index_left : (r : Result Raised Fault) → Said r new → {failed : Bool} → failed ≡ is_err r
         → ((failed ≡ true) × (length new ≤ to)) ⊎ (failed ≡ false) → new ≡ with_index o to (raise_of per_index o from to)
-    unfolding zeros padded
-    index_left (Ok r) p e either = index_put new r p
+    index_left (Ok r) p e either = (index_put new (Ok r) r refl p).1
     index_left (Err fault) p e (inr none) = absurd (false≢true (sym none ∙ e))
-    index_left (Err fault) p e (inl short) =
-        cleared new fault p long new (sym (append-nil new) ∙ ap (λ l. l ++ []) (sym (take_all to new short.1)) ∙ ap (λ k. take to new ++ k) (none short.1))
-      where
-        none : length new ≤ to → [] ≡ zeros (length new - to)
-        none h = let nothing : 0 ≡ length new - to = omega arith in ap zeros nothing
+    index_left (Err fault) p e (inl short) = (index_short new (Err fault) fault refl p long short.1).1

@@ -80,7 +80,7 @@ module _ (dump : List ℕ) (x room : ℕ) where
         where
           go : (o : Outcome (List (List ℕ))) → Known x (occupied x dump) o → all ≡ o → (all ≡ answer given) × (found ≡ surveyed given)
           go o some q = (q, answer_injective found (surveyed given) (e ∙ ap survey_of q))
-          go o (none m) q = absurd (answer_not_refused found m 0 (e ∙ ap survey_of q))
+          go o (none m k) q = absurd (answer_not_refused found m 0 (e ∙ ap survey_of q))
 
       count_is : found.count ≡ length (occupied x dump)
       unfolding surveyed

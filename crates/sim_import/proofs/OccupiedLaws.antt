@@ -17,7 +17,7 @@ use Rattle.lists.proofs.ListsLaws.{keep_append, keep_member}
 use Rattle.lists.proofs.GroupsLaws.{groups_nil, groups_cons, by_groups}
 use Rattle.byte_string.proofs.OrderLaws.{Ways, ways}
 use Rattle.part.specs.Part.{part}
-use Rattle.outcome.specs.Outcome.{Outcome, answer, refused, ◌>>=◌, ◌>>◌, must}
+use Rattle.outcome.specs.Outcome.{Outcome, answer, refused, ◌>>=◌, ◌>>◌, must, number_of}
 use Rattle.sim.specs.Adn.{is_filled, is_name, number_length, record_of, imported}
 use Rattle.sim_import.specs.Import.{not_free, occupied, imported_all}
 use Rattle.sim.proofs.AdnLaws.{record_long}
@@ -90,20 +90,28 @@ module _ (x : ℕ) where
       go (answer r) whole (refused n q) p e = rw e
       go (refused n q) whole o p e = refl
 
-  -- our records of all, or a refusal at place 0
+  -- our records of all, or a refusal at place 0 whose number isn't 0
   pub data Known (adns : List (List ℕ)) : Outcome (List (List ℕ)) → Type 0 where
     some : Known adns (answer (map (record_of x) adns))
-    none : (n : ℕ) → Known adns (refused n 0)
+    none : (n : ℕ) → (n ≡ 0 → ⊥) → Known adns (refused n 0)
 
-  one_known : (adn : List ℕ) → (imported x adn ≡ answer (record_of x adn)) ⊎ ((n : ℕ) × (imported x adn ≡ refused n 0))
+  pub one_known : (adn : List ℕ) → (imported x adn ≡ answer (record_of x adn)) ⊎ ((n : ℕ) × (n ≡ 0 → ⊥) × (imported x adn ≡ refused n 0))
   unfolding imported must ◌>>◌
   one_known adn = go (is_name (take x adn)) (leb (number_length x adn) 11)
     where
       go : (a b : Bool) → ((must a 33 0 >> (must b 34 0 >> answer (record_of x adn))) ≡ answer (record_of x adn))
-          ⊎ ((n : ℕ) × ((must a 33 0 >> (must b 34 0 >> answer (record_of x adn))) ≡ refused n 0))
+          ⊎ ((n : ℕ) × (n ≡ 0 → ⊥) × ((must a 33 0 >> (must b 34 0 >> answer (record_of x adn))) ≡ refused n 0))
       go true true = inl refl
-      go true false = inr (34, refl)
-      go false b = inr (33, refl)
+      go true false = inr (34, (λ e. omega arith), refl)
+      go false b = inr (33, (λ e. omega arith), refl)
+
+  pub imported_some : (adn : List ℕ) → 0 ≡ number_of (imported x adn) → imported x adn ≡ answer (record_of x adn)
+  unfolding number_of
+  imported_some adn z = go (one_known adn)
+    where
+      go : (imported x adn ≡ answer (record_of x adn)) ⊎ ((n : ℕ) × (n ≡ 0 → ⊥) × (imported x adn ≡ refused n 0)) → imported x adn ≡ answer (record_of x adn)
+      go (inl e) = e
+      go (inr r) = absurd (r.1 (sym (z ∙ ap number_of r.2)))
 
   pub known : (adns : List (List ℕ)) → Known adns (imported_all x adns)
   unfolding imported_all ◌>>=◌
@@ -113,12 +121,12 @@ module _ (x : ℕ) where
       rest : (o : Outcome (List (List ℕ))) → imported x adn ≡ answer (record_of x adn) → Known adns o
           → Known (adn ∷ adns) (imported x adn >>= λ r. o >>= λ rs. answer (r ∷ rs))
       rest o e some = rw e some
-      rest o e (none n) = rw e (none n)
+      rest o e (none n h) = rw e (none n h)
 
-      go : (imported x adn ≡ answer (record_of x adn)) ⊎ ((n : ℕ) × (imported x adn ≡ refused n 0)) → Known adns (imported_all x adns)
+      go : (imported x adn ≡ answer (record_of x adn)) ⊎ ((n : ℕ) × (n ≡ 0 → ⊥) × (imported x adn ≡ refused n 0)) → Known adns (imported_all x adns)
           → Known (adn ∷ adns) (imported x adn >>= λ r. imported_all x adns >>= λ rs. answer (r ∷ rs))
       go (inl e) k = rest (imported_all x adns) e k
-      go (inr r) k = rw r.1 (none r.0)
+      go (inr r) k = rw r.2 (none r.0 r.1)
 
 -- none, or the one
 pub free_one : (adn : List ℕ) → is_filled adn ≡ true → not_free (adn ∷ []) ≡ []

@@ -1,7 +1,7 @@
 -- Laws of the offsets that are stored, and of the records that are put over them.
 -- Assumes nothing.
 use mathlib.Core.Path.{◌≡◌, refl, sym, ap, ap₂, ◌∙◌}
-use mathlib.Core.Bool.{true, false}
+use mathlib.Core.Bool.{Bool, true, false}
 use mathlib.Core.List.{List, [], ◌∷◌, ◌++◌, append_assoc, append-nil, flat_map, map}
 use Prim.Native.Nat.{ℕ, zero, suc, ◌+◌, ◌*◌, ◌-◌, ◌≤◌, ◌<◌}
 use native.Mathlib.Numerals.{add-one}
@@ -23,7 +23,7 @@ use Rattle.slots.specs.Slots.{slots}
 use Rattle.slots.proofs.SlotLaws.{length_slots, get_or_slots}
 use Rattle.sim.specs.Adn.{is_filled, name_of, record_of, record_at}
 use Rattle.sim.proofs.AdnLaws.{record_at_lem, parts_record}
-use Rattle.sim_import.specs.Import.{occupied}
+use Rattle.sim_import.specs.Import.{not_free, occupied}
 use Rattle.sim_import.specs.Steps.{offsets, Ready, Exact}
 use Rattle.sim_import.proofs.BytesLaws.{bytes_long, bytes_more, bytes_front, permutation_long, permutation_bytes}
 use Rattle.sim_import.proofs.OccupiedLaws.{occupied_end, occupied_step, occupied_long, free_one, not_free_one}
@@ -33,6 +33,12 @@ use Rattle.sim_import.proofs.OccupiedLaws.{occupied_end, occupied_step, occupied
 map-append : {A B : Type 0} (f : A → B) (xs ys : List A) → map f (xs ++ ys) ≡ map f xs ++ map f ys
 map-append f [] ys = refl
 map-append f (x ∷ xs) ys = ap (λ l. f x ∷ l) (map-append f xs ys)
+
+take-set : (xs : List ℕ) (k v : ℕ) → take k (set xs k v) ≡ take k xs
+take-set [] zero v = refl
+take-set [] (suc k) v = refl
+take-set (x ∷ xs) zero v = refl
+take-set (x ∷ xs) (suc k) v = ap (λ l. x ∷ l) (take-set xs k v)
 
 take-set_more : (xs : List ℕ) (k v : ℕ) → k < length xs → take (suc k) (set xs k v) ≡ take k xs ++ (v ∷ [])
 take-set_more [] k v h = absurd (omega arith)
@@ -79,8 +85,8 @@ module _ (x : ℕ) (dump old new : List ℕ) (k at : ℕ) (p : Placed x dump old
         }
 
     -- one more
-    pub placed_more : is_filled (part dump at (x + 14)) ≡ false → Placed x dump old (set new k at) (k + 1) (at + (x + 14))
-    placed_more q =
+    pub placed_one : is_filled (part dump at (x + 14)) ≡ false → Placed x dump old (set new k at) (k + 1) (at + (x + 14))
+    placed_one q =
         let more : occupied x (drop at dump) ≡ adn ∷ later = occupied_step x dump at h ∙ ap (λ l. l ++ later) (not_free_one adn q) in
         let count : length (occupied x (drop at dump)) ≡ suc (length later) = ap length more in
         let many : k + length (occupied x (drop at dump)) ≡ length (occupied x dump) = p.many in
@@ -95,6 +101,26 @@ module _ (x : ℕ) (dump old new : List ℕ) (k at : ℕ) (p : Placed x dump old
               ∙ ap (λ r. map (record_at x dump) (take k new) ++ (r ∷ map (record_of x) later)) (sym (record_at_lem x dump adn at refl))
               ∙ ap (λ l. map (record_at x dump) (take k new) ++ map (record_of x) l) (sym more) ∙ p.all);
         }
+
+  module _ (adn : List ℕ) (f : adn ≡ part dump at (x + 14)) (h : at < length dump) where
+    -- one more, or none: then the slot behind the last may be set
+    pub placed_more : (n : ℕ) → n ≡ length (not_free (adn ∷ [])) → Placed x dump old (set new k at) (k + n) (at + (x + 14))
+    placed_more n g = go (is_filled adn) refl
+      where
+        go : (b : Bool) → is_filled adn ≡ b → Placed x dump old (set new k at) (k + n) (at + (x + 14))
+        go true q =
+            let free = placed_free h (sym (ap is_filled f) ∙ q) in
+            let n-0 : n ≡ 0 = g ∙ ap length (free_one adn q) in
+            let k-0 : k + n ≡ k = omega arith in
+            record {
+              long = simp length-set free.long;
+              few = omega (arith, free.few);
+              many = rw k-0 free.many;
+              all = rw (k-0, take-set new k at) free.all;
+            }
+        go false q =
+            let n-1 : n ≡ 1 = g ∙ ap length (not_free_one adn q) in
+            rw n-1 (placed_one h (sym (ap is_filled f) ∙ q))
 
 -- ---- one record
 

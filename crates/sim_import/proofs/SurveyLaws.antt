@@ -2,18 +2,19 @@
 -- Assumes nothing.
 use mathlib.Core.Path.{◌≡◌, refl, sym, ap, ◌∙◌}
 use mathlib.Core.Bool.{Bool, true, false}
+use mathlib.Core.Logic.{◌⊎◌, inl, inr}
 use mathlib.Core.List.{List, [], ◌∷◌, ◌++◌, append_assoc, append-nil, flat_map, map}
 use Prim.Native.Nat.{ℕ, ◌+◌, ◌*◌, ◌^◌, ◌≤◌, ◌<◌}
 use native.Mathlib.Omega.{arith}
 use lib.ListN.{length, take, drop, length-append, length-take, length-map}
 use Rattle.part.specs.Part.{part}
-use Rattle.outcome.specs.Outcome.{Outcome, answer, refused, ◌>>=◌, ◌>>◌}
+use Rattle.outcome.specs.Outcome.{Outcome, answer, refused, ◌>>=◌, ◌>>◌, number_of}
 use Rattle.outcome.proofs.OutcomeLaws.{answer_injective, answer_not_refused, bind_answer, bind_refused, map_refused⁻¹}
 use Rattle.uleb128.specs.Encoding.{encoding}
 use Rattle.uleb128.proofs.EncodingLaws.{encoding-length}
 use Rattle.layout.specs.Blocks.{text_bytes, records_bytes}
 use Rattle.layout.proofs.ReadBackLaws.{length_text}
-use Rattle.sim.specs.Adn.{is_filled, name_of, judged, record_of}
+use Rattle.sim.specs.Adn.{is_filled, name_of, judged, record_of, imported}
 use Rattle.sim.proofs.AdnLaws.{imported_judged, record_short, record_parts}
 use Rattle.sim_import.specs.declared.survey.Survey.{Survey}
 use Rattle.sim_import.specs.Import.{not_free, occupied, imported_all}
@@ -29,6 +30,8 @@ use Rattle.sim_import.proofs.OccupiedLaws.{
   Known,
   some,
   none,
+  one_known,
+  imported_some,
   known,
   free_one,
   not_free_one,
@@ -46,16 +49,32 @@ module _ (x : ℕ) (adn : List ℕ) where
   survey_free e = rw (free_one adn e)
 
   -- what stops the import of a record that isn't free stops the pass
-  pub survey_refused : (n : ℕ) → is_filled adn ≡ false → refused n 0 ≡ judged (take x adn) (drop x adn)
+  pub survey_refused : (n : ℕ) → is_filled adn ≡ false → n ≡ number_of (imported x adn) → (n ≡ 0 → ⊥)
+      → refused n 0 ≡ survey_of (imported_all x (not_free (adn ∷ [])))
+  unfolding survey_of imported_all number_of ◌>>=◌
+  survey_refused n e f h = rw (not_free_one adn e) (go (one_known x adn))
+    where
+      go : (imported x adn ≡ answer (record_of x adn)) ⊎ ((n : ℕ) × (n ≡ 0 → ⊥) × (imported x adn ≡ refused n 0))
+          → refused n 0 ≡ survey_of (imported x adn >>= λ r. answer [] >>= λ rs. answer (r ∷ rs))
+      go (inl i) = absurd (h (f ∙ ap number_of i))
+      go (inr r) = rw (f ∙ ap number_of r.2, r.2) refl
+
+  pub survey_some : (size number : ℕ) → is_filled adn ≡ false → 0 ≡ number_of (imported x adn) → length (text_bytes (record_of x adn)) ≡ number + size
+      → answer (record { count = 1; length = number + size }) ≡ survey_of (imported_all x (not_free (adn ∷ [])))
+  unfolding survey_of surveyed imported_all ◌>>=◌
+  survey_some size number e f g = rw (not_free_one adn e, imported_some x adn f, bytes_one (record_of x adn), g)
+
+  -- the same by how its two parts are judged
+  pub judged_refused : (n : ℕ) → is_filled adn ≡ false → refused n 0 ≡ judged (take x adn) (drop x adn)
       → refused n 0 ≡ survey_of (imported_all x (not_free (adn ∷ [])))
   unfolding survey_of imported_all ◌>>=◌ ◌>>◌
-  survey_refused n e f = rw (not_free_one adn e, imported_judged x adn, ← f)
+  judged_refused n e f = rw (not_free_one adn e, imported_judged x adn, ← f)
 
-  pub survey_some : (size number : ℕ) → is_filled adn ≡ false → answer tt ≡ judged (take x adn) (drop x adn)
+  pub judged_some : (size number : ℕ) → is_filled adn ≡ false → answer tt ≡ judged (take x adn) (drop x adn)
       → length (text_bytes (record_of x adn)) ≡ number + size
       → answer (record { count = 1; length = number + size }) ≡ survey_of (imported_all x (not_free (adn ∷ [])))
   unfolding survey_of surveyed imported_all ◌>>=◌ ◌>>◌
-  survey_some size number e f g = rw (not_free_one adn e, imported_judged x adn, ← f, bytes_one (record_of x adn), g)
+  judged_some size number e f g = rw (not_free_one adn e, imported_judged x adn, ← f, bytes_one (record_of x adn), g)
 
   -- its size, in its two parts
   module _ (name rest : List ℕ) (number : ℕ) (e : name ≡ name_of (take x adn)) (f : rest ≡ drop x adn)
@@ -154,7 +173,7 @@ module _ (x : ℕ) (dump : List ℕ) (count size at : ℕ) (s : Surveyed x dump 
       where
         go : (o : Outcome (List (List ℕ))) → Known x one o → imported_all x one ≡ o
             → Surveyed x dump (count + more.count) (size + more.length) (at + (x + 14))
-        go o (none m) q = absurd (answer_not_refused more m 0 (e ∙ ap survey_of q))
+        go o (none m k) q = absurd (answer_not_refused more m 0 (e ∙ ap survey_of q))
         go o some q =
             let qs : List (List ℕ) = map (record_of x) one in
             let same : more ≡ surveyed qs = answer_injective more (surveyed qs) (e ∙ ap survey_of q) in

@@ -13,7 +13,7 @@ use native.Mathlib.Omega.{arith}
 use lib.ListN.{length}
 use Rattle.lists.specs.Groups.{groups}
 use Rattle.output_list.specs.OutputList.{zeros}
-use Rattle.outcome.specs.Outcome.{Outcome, answer, refused, number_of, place_of, count_of, list_of}
+use Rattle.outcome.specs.Outcome.{Outcome, answer, refused, ◌>>=◌, number_of, place_of, count_of, list_of}
 use Rattle.outcome.specs.declared.Fault.{Fault}
 use Rattle.outcome.specs.declared.Fault.TheVariants.{OutputRoom}
 use Rattle.outcome.specs.Fault.{number, said_at}
@@ -25,6 +25,7 @@ use Rattle.writer.specs.Steps.{tested, length_of}
 use Rattle.writer.specs.Write.{records_to_write, write_of}
 use Rattle.file_encoder.specs.Begun.{FilePut}
 use Rattle.file_encoder.proofs.FitLaws.{end_some, end_none}
+use Rattle.writer.proofs.InputRuleLaws.{Known, some, none, known}
 
 -- ---- what is answered
 
@@ -64,10 +65,23 @@ module _ (metadata input : List ℕ) (b i room : ℕ) where
   refusal fault e = (sym (bind_refused W _ (number fault) 0 e), sym (ap (written_output room) e))
 
   -- a refusal before the file is made
-  pub write_refused : (fault : Fault) → refused (number fault) 0 ≡ tested (records_to_write metadata input b i) → (r : Result ℕ Fault)
+  pub write_refused : (n : ℕ) → n ≡ number_of (records_to_write metadata input b i) → (n ≡ 0 → ⊥)
+      → (written_answer (refused n 0) ≡ written_answer (write_of metadata input b i room))
+      × (zeros room ≡ written_output room (write_of metadata input b i room))
+  unfolding number_of place_of count_of list_of write_of written_answer written_output ◌>>=◌
+  write_refused n e s = go (known metadata input b i)
+    where
+      go : Known R → (written_answer (refused n 0) ≡ written_answer W) × (zeros room ≡ written_output room W)
+      go (some rs h) = absurd (s (e ∙ ap number_of h))
+      go (none m t h) =
+          let W-is : W ≡ refused m 0 = bind_refused R _ m 0 h in
+          (ap (λ (k : ℕ). written_answer (refused k 0)) (e ∙ ap number_of h) ∙ sym (ap written_answer W-is), sym (ap (written_output room) W-is))
+
+  -- as the code hands it on
+  pub write_stops : (fault : Fault) → refused (number fault) 0 ≡ tested (records_to_write metadata input b i) → (r : Result ℕ Fault)
       → IsErrAnd r (λ f. f ≡ fault) → {output : List ℕ} → output ≡ zeros room → Left r output
   unfolding tested write_of
-  write_refused fault e r told h =
+  write_stops fault e r told h =
       let handed = err_from_is_err_and r told in
       rw (handed.1, handed.2, h) (refusal fault (bind_refused R _ (number fault) 0 (map_refused⁻¹ R (λ rs. tt) (number fault) 0 (sym e))))
 
@@ -85,21 +99,21 @@ module _ (metadata input : List ℕ) (b i room : ℕ) where
     whole h = bind_answer R _ rs read ∙ kept (file_fits room (length file)) 31 0 _ h
 
     -- the file doesn't fit
-    write_full : None ≡ end → Left (Err OutputRoom) (zeros room)
+    pub write_full : None ≡ end → Left (Err OutputRoom) (zeros room)
     unfolding number
-    write_full none = refusal OutputRoom (full (ap (file_fits room) (sym (front (length file))) ∙ end_none room 0 file (none ∙ put.ends)))
+    write_full e = refusal OutputRoom (full (ap (file_fits room) (sym (front (length file))) ∙ end_none room 0 file (e ∙ put.ends)))
       where
         front : (n : ℕ) → 0 + n ≡ n
         front n = omega arith
 
     -- the file is written
-    write_done : (n : ℕ) → Some n ≡ end → Left (Ok n) output
+    pub write_done : (n : ℕ) → Some n ≡ end → Left (Ok n) output
     unfolding said_at length_of written_output list_of
-    write_done n some =
-        let reach = end_some room 0 file (some ∙ put.ends) in
+    write_done n e =
+        let reach = end_some room 0 file (e ∙ put.ends) in
         let long : n ≡ length file = let end = reach.0 in omega arith in
         let all = whole (ap (file_fits room) (sym long) ∙ reach.1) in
-        (ap answer long ∙ sym (bind_answer W _ file all), put.stands n (sym some) ∙ sym (ap (written_output room) all))
+        (ap answer long ∙ sym (bind_answer W _ file all), put.stands n (sym e) ∙ sym (ap (written_output room) all))
 
   -- one of the two, where the output was cleared if there is no length
   pub write_ended : (rs : List (List ℕ)) → records_to_write metadata input b i ≡ answer rs → (end : Option ℕ) (output : List ℕ)

@@ -1,5 +1,5 @@
 -- `finish_file` meets its contract. Assumes nothing.
-use Rattle.file_encoder.proofs.FinishLaws.{finish_low, finish_none, finish_done}
+use Rattle.file_encoder.proofs.FinishLaws.{finish_low, finish_refused, finish_done}
 use Rattle.file_encoder.proofs.finish_file.Goals as goal
 
 pub returns-in_err-metadata : goal.returns-in_err-metadata
@@ -8,7 +8,7 @@ returns-in_err-metadata c =
 
 pub returns-in_err-index : goal.returns-in_err-index
 returns-in_err-index c =
-    λ metadata blocks two b sum. rw c.from_residual-in_err-index.ensures (finish_none metadata blocks _ two c.args.output.now _ _ b _ _
+    λ metadata blocks two b sum. rw c.from_residual-in_err-index.ensures (finish_refused metadata blocks _ two c.args.output.now _ _ b _ _
     c.in_err-index.ensures.value c.put_index.ensures.result_value c.put_index.ensures.output_after)
 
 pub returns : goal.returns

@@ -3,14 +3,14 @@ use mathlib.Core.Path.{ap, ◌∙◌}
 use mathlib.Core.Logic.{inl, inr}
 use Rattle.outcome.specs.Fault.{said_at}
 use Rattle.output_list.specs.OutputList.{zeros}
-use Rattle.writer.proofs.WriteLaws.{input_passed, write_refused, write_ended}
+use Rattle.writer.proofs.WriteLaws.{input_passed, write_stops, write_ended}
 use Rattle.writer.proofs.write_cleared.Goals.{then-is_none, else-is_none}
 use Rattle.writer.proofs.write_cleared.Goals as goal
 
 pub returns-in_err-check_input : goal.returns-in_err-check_input
 unfolding said_at
 returns-in_err-check_input c =
-    let both = write_refused c.args.metadata.now c.args.records.now _ _ _ _ c.in_err-check_input.ensures _ c.from_residual.ensures.1 c.requires in
+    let both = write_stops c.args.metadata.now c.args.records.now _ _ _ _ c.in_err-check_input.ensures _ c.from_residual.ensures.1 c.requires in
     record { value = both.0; output_after = both.1 }
 
 pub put_file-length-requires : goal.put_file-length-requires

@@ -16,16 +16,16 @@ end-requires c = let within = c.loop-next.invariant.within in omega (arith, c.we
 pub loop-next-smaller : goal.loop-next-smaller
 unfolding text_said
 loop-next-smaller c =
-    let forward = passing_forward _ _ _ c.loop-next.invariant _
+    let forward = passing_forward _ _ _ _ c.loop-next.invariant _
     (ap (text_at 0 c.args.s.now) (sym c.end.ensures) ∙ sym (c.in-Ok.ensures 0)) in omega arith
 
 pub loop-next-preserved : goal.loop-next-preserved
 unfolding text_said
 loop-next-preserved c =
-    passing_more _ _ _ c.loop-next.invariant _ (ap (text_at 0 c.args.s.now) (sym c.end.ensures) ∙ sym (c.in-Ok.ensures 0))
+    passing_more _ _ _ _ c.loop-next.invariant _ (ap (text_at 0 c.args.s.now) (sym c.end.ensures) ∙ sym (c.in-Ok.ensures 0))
 
 pub returns : goal.returns
 unfolding text_said
 returns c =
-    let both = passing_refused _ _ _ c.loop-next.invariant _ _
+    let both = passing_refused _ _ _ _ c.loop-next.invariant _ _
     (ap (text_at 0 c.args.s.now) (sym c.end.ensures) ∙ sym (c.in_default.ensures 0)) in record { result_value = both.0; within = both.1 }

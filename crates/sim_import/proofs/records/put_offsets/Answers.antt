@@ -4,7 +4,7 @@ use Prim.Native.Nat.{◌+◌}
 use native.Mathlib.Omega.{arith}
 use Rattle.slots.specs.Slots.{slots}
 use Rattle.sim.proofs.AdnLaws.{filled_parts}
-use Rattle.sim_import.proofs.RecordLaws.{Placed, placed_none, placed_all, placed_free, placed_more}
+use Rattle.sim_import.proofs.RecordLaws.{Placed, placed_none, placed_all, placed_free, placed_one}
 use Rattle.sim_import.proofs.records.put_offsets.Goals as goal
 use Rattle.sim_import.proofs.records.put_offsets.Goals.{Joined-not-is_free, then-not-is_free, else-not-is_free}
 
@@ -19,7 +19,7 @@ next c =
       | then-not-is_free w ↦
           rw (w.s-is, w.k-is) (
             w.store.auto.s ∙ c.loop-at.invariant.0,
-            rw w.store.ensures (placed_more _ _ _ _ _ _ c.loop-at.invariant.1 c.requires c.loop-at-test.true (sym filled ∙ w.if-not-is_free.true)),
+            rw w.store.ensures (placed_one _ _ _ _ _ _ c.loop-at.invariant.1 c.requires c.loop-at-test.true (sym filled ∙ w.if-not-is_free.true)),
           )
       | else-not-is_free w ↦
           rw (w.s-is, w.k-is) (
@@ -33,7 +33,7 @@ loop-at-init c = (refl, placed_none _ _ _)
 
 pub overflow_add-k : goal.overflow_add-k
 overflow_add-k c =
-    let more = placed_more _ _ _ _ _ _ c.loop-at.invariant.1 c.requires c.loop-at-test.true
+    let more = placed_one _ _ _ _ _ _ c.loop-at.invariant.1 c.requires c.loop-at-test.true
     (sym (c.is_free.ensures ∙ filled_parts _ _ _ _ c.record.ensures.field c.record.ensures.rest) ∙ c.if-not-is_free.true) in
     let few = more.few in omega arith
 

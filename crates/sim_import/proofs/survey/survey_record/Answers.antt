@@ -7,7 +7,7 @@ use Rattle.part.specs.Part.{part}
 use Rattle.outcome.specs.Fault.{said_at}
 use Rattle.sim.specs.Adn.{judged, name_of}
 use Rattle.sim.proofs.AdnLaws.{filled_parts}
-use Rattle.sim_import.proofs.SurveyLaws.{survey_free, survey_refused, survey_some, size_bytes, size_small, part_short}
+use Rattle.sim_import.proofs.SurveyLaws.{survey_free, judged_refused, judged_some, size_bytes, size_small, part_short}
 use Rattle.sim_import.proofs.survey.survey_record.Goals as goal
 
 pub returns-then-is_free : goal.returns-then-is_free
@@ -20,7 +20,7 @@ unfolding said_at
 returns-in_err-check c =
     let p = err_from_is_err_and c.from_residual.result c.from_residual.ensures.1 in
     rw (p.1, p.2)
-    (survey_refused _ _ _ (sym (c.is_free.ensures ∙ filled_parts _ _ _ _ c.record-adn.ensures.field c.record-adn.ensures.rest) ∙ c.if-is_free.false)
+    (judged_refused _ _ _ (sym (c.is_free.ensures ∙ filled_parts _ _ _ _ c.record-adn.ensures.field c.record-adn.ensures.rest) ∙ c.if-is_free.false)
     (c.in_err-check.ensures ∙ ap₂ judged c.record-adn.ensures.field c.record-adn.ensures.rest))
 
 pub overflow_add-result : goal.overflow_add-result
@@ -34,6 +34,6 @@ overflow_add-result c =
 pub returns : goal.returns
 unfolding said_at
 returns c =
-    survey_some _ _ _ _ (sym (c.is_free.ensures ∙ filled_parts _ _ _ _ c.record-adn.ensures.field c.record-adn.ensures.rest) ∙ c.if-is_free.false)
+    judged_some _ _ _ _ (sym (c.is_free.ensures ∙ filled_parts _ _ _ _ c.record-adn.ensures.field c.record-adn.ensures.rest) ∙ c.if-is_free.false)
     (c.in_ok-check.ensures ∙ ap₂ judged c.record-adn.ensures.field c.record-adn.ensures.rest)
     (size_bytes _ _ _ _ _ (c.name.ensures ∙ ap name_of c.record-adn.ensures.field) c.record-adn.ensures.rest c.number_length.ensures)
