@@ -8,6 +8,7 @@ ghost use Rattle.output_bytes.specs.OutputBytes.{bytes_fit, stored, copies, copi
 use part::Part;
 
 // Every byte of the output becomes 0.
+#[tactic(auto, using(output_list::proofs::OutputListLaws::clearing))]
 pub fn clear(output: &mut [u8])
     ensures { output.new ≡ zeros (length output.old) }
 {

@@ -9,8 +9,8 @@ use native.Mathlib.Omega.{arith}
 use borrow.Author.Fill.{fill_more}
 use borrow.Author.Tests.{lt-ltb, le-ltb}
 use lib.Dec.{ltb}
-use lib.ListN.{length, get_or, set, take, drop, replicate, length-append, length-replicate, length-set, get_or-append}
-use lib.Seq.{drop-length, take-append_seam, drop-append_seam, set-append_seam, get_or-append-add, append_snoc}
+use lib.ListN.{length, get_or, set, take, drop, replicate, drop_of_length-le, length-append, length-replicate, length-set, get_or-append}
+use lib.Seq.{take_all, drop-length, take-append_seam, drop-append_seam, set-append_seam, get_or-append-add, append_snoc}
 use Rattle.lists.proofs.ListsLaws.{zeros_at}
 use Rattle.output_list.specs.OutputList.{padded, zeros, has_place, with_number, with_numbers}
 
@@ -111,6 +111,20 @@ pub cleared_all : (old list : List ℕ) (i : ℕ) → Cleared old list i → len
 cleared_all old list i done h =
     let all : i ≡ length old = omega arith in
     rw (done.holds, all, drop-length) (append-nil (zeros (length old)))
+
+-- ---- clearing at once
+
+-- so many times 0 are zeros
+pub replicate_zeros : (room : ℕ) → replicate room 0 ≡ zeros room
+replicate_zeros room = sym (zeros-replicate room)
+
+-- a list whose places from i on were cleared is zeros where i is 0
+pub cleared_from : (i k : ℕ) (list rest : List ℕ) → i ≡ 0 → length list ≤ k → rest ≡ replicate (length (take k (drop i list))) 0
+    → take i list ++ (rest ++ drop k (drop i list)) ≡ zeros (length list)
+cleared_from i k list rest none all cleared =
+    rw (cleared, none, take_all k list all, drop_of_length-le list all) (append-nil _ ∙ replicate_zeros (length list))
+
+pub ruleset clearing = (replicate_zeros, cleared_from)
 
 -- ---- one number
 

@@ -5,6 +5,7 @@ ghost use Rattle.std.specs.Prelude.{◌≡◌, length};
 ghost use Rattle.output_list.specs.OutputList.{zeros, has_place, with_number};
 
 // Every place of the list becomes 0.
+#[tactic(auto, using(crate::proofs::OutputListLaws::clearing))]
 pub fn clear(list: &mut [u64])
     ensures { list.new ≡ zeros (length list.old) }
 {

@@ -3,11 +3,12 @@
 use mathlib.Core.Path.{◌≡◌, sym, ap, ◌∙◌, subst}
 use mathlib.Core.Bool.{true, false}
 use mathlib.Core.List.{List, []}
-use Prim.Native.Nat.{ℕ}
+use Prim.Native.Nat.{ℕ, ◌<◌}
+use native.Mathlib.Omega.{arith}
 use lib.ListN.{length}
 use Rattle.std.specs.Prelude.{Some, None}
 use Rattle.byte_string.specs.Order.{AreBytes}
-use Rattle.outcome.specs.Outcome.{Outcome}
+use Rattle.outcome.specs.Outcome.{Outcome, refused}
 use Rattle.outcome.proofs.OutcomeLaws.{kept, broken}
 use Rattle.header.specs.Metadata.{is_metadata}
 use Rattle.layout.specs.File.{blocks_start, counts_fit, file_fits}
@@ -80,3 +81,8 @@ module _ (stage : Stage) (session : Session) (output : List ℕ) (held : Held st
         where
           same_long : length then ≡ length output
           same_long = ap length o ∙ header_long output metadata
+
+-- begun, or once finished
+pub begin_again : (stage : Stage) (metadata : List ℕ) (b i room : ℕ) → 0 < (session_of stage).stage → begin_of stage metadata b i room ≡ refused 28 0
+unfolding begin_of
+begin_again stage metadata b i room h = broken (is_afresh stage) 28 0 _ (not_afresh stage (λ e. omega arith))

@@ -39,6 +39,7 @@ pub fn begin(
 }
 
 // The session then, or why the step is refused.
+#[tactic(auto, unfolding(lists::specs::Lists::any, session_value::specs::Held::OneOf, session_value::specs::Held::stepped, session_value::specs::Held::stepped_answer, session_value::specs::Steps::after, outcome::specs::Outcome::number_of, outcome::specs::Outcome::place_of, outcome::specs::Fault::number), using(crate::proofs::BeginLaws::begin_again))]
 fn try_begin(
     session: Session,
     metadata: &[u8],

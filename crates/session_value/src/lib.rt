@@ -88,6 +88,7 @@ impl Session {
     }
 
     // Whether it is between begin and finish, and its numbers are such as an output of `room` bytes can hold.
+    #[tactic(auto, unfolding(crate::specs::Values::is_begun))]
     pub fn is_begun(self, room: usize) -> bool
         ensures { result ≡ values.is_begun self room }
     {

@@ -116,6 +116,7 @@ pub extern "C" fn zs_search(
 }
 
 // Where the part of `length` bytes from `offset` on lies; offset and length 0 where it isn't within the file.
+#[tactic(auto, unfolding(record::specs::Record::part_of, record::specs::Record::part_start, record::specs::Record::part_length))]
 #[unsafe(no_mangle)]
 pub extern "C" fn zs_record(file: &[u8], offset: u64, length: u64) -> Part
     ensures { result ≡ record { offset = part_start file.now offset length; length = part_length file.now offset length } }
